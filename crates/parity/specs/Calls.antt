@@ -1,0 +1,140 @@
+-- What every call answers and leaves, for all inputs: document 01's definitions behind its causes, in the order of the checks.
+-- A call that changes nothing has a reply; one that is lent a list to change has an outcome. Assumes nothing.
+use Prim.Native.Nat.{ℕ, zero, suc, _+_, _*_, _-_}
+use mathlib.Core.Bool.{Bool, true, false, not, cond, _&&_, _||_}
+use mathlib.Core.List.{List, [], _∷_, _++_}
+use lib.Dec.{eqb, ltb, leb}
+use lib.ListN.{getD, length, drop}
+use Rattle.parity.specs.Finite.{one, any, least, listFrom}
+use Rattle.parity.specs.Matrix.{Matrix, lent, pack, cause}
+use Rattle.parity.specs.Cycles.{share, cycles, splitOf, Orthogonalised, orthogonal}
+use Rattle.parity.specs.Words.{isOne, codeword, extended, stopping, peels, peeled, recoveredBits, leftBits}
+use Rattle.parity.specs.Record.{Loaded, faulty, loaded, loading, written}
+use Rattle.parity.specs.Encoding.{rankOf, encoded}
+use Rattle.parity.specs.Causes.{Reply, answer, refusal, refuse, accepting, Outcome, leaving}
+
+-- the byte of each bit of a word that is a list
+abbrev pub byteOf : List ℕ → ℕ → ℕ
+byteOf w b = getD w b 0
+
+-- cause 7: u = v, or either at N or above
+unfoldable pub notPair : ℕ → ℕ → ℕ → Bool
+notPair N u v = eqb u v || not (ltb u N && ltb v N)
+
+-- cause 10: another length
+abbrev pub wrongLength : ℕ → List ℕ → Bool
+wrongLength N w = not (eqb (length w) N)
+
+-- cause 11: a byte above the values named, and its lowest place
+unfoldable pub wrongByte : ℕ → List ℕ → Bool
+wrongByte top w = any (length w) (λ b. ltb top (byteOf w b))
+
+unfoldable pub wrongPlace : ℕ → List ℕ → ℕ
+wrongPlace top w = least (length w) (λ b. ltb top (byteOf w b))
+
+-- causes 10 and 11 of a word of N bytes up to `top`
+abbrev pub checkingBytes : ℕ → ℕ → List ℕ → Reply → Reply
+checkingBytes N top w after = refuse (wrongLength N w) (refusal 10 []) (refuse (wrongByte top w) (refusal 11 (wrongPlace top w ∷ [])) after)
+
+-- accepting alone: causes 1 to 4
+unfoldable pub acceptReply : List ℕ → ℕ → ℕ → ℕ → Reply
+acceptReply ws n m k = accepting ws n m k (answer [])
+
+-- load: answers n and m, and writes all 4,096 words
+unfoldable pub loadedReply : Loaded → Reply
+loadedReply (faulty place) = refusal 5 (place ∷ [])
+loadedReply (loaded n m h) = answer (n ∷ m ∷ [])
+
+unfoldable pub loadedWords : Loaded → List ℕ
+loadedWords (faulty place) = []
+loadedWords (loaded n m h) = pack 8 h
+
+unfoldable pub loadOutcome : List ℕ → List ℕ → Outcome
+loadOutcome source ws =
+    leaving ws (refuse (wrongLength 4096 ws) (refusal 1 []) (loadedReply (loading source))) (loadedWords (loading source))
+
+-- write: answers the number of words used; the others are left
+unfoldable pub writeOutcome : List ℕ → ℕ → ℕ → ℕ → List ℕ → Outcome
+writeOutcome ws n m k target =
+    let out = written (lent 8 ws) n m in
+    leaving target
+    (accepting ws n m k
+    (refuse (ltb 0 k) (refusal 13 [])
+    (refuse (ltb (length target) (length out)) (refusal 6 (length out ∷ []))
+    (answer (length out ∷ [])))))
+    (out ++ drop (length out) target)
+
+-- share: answers the share of two different bits
+unfoldable pub shareReply : List ℕ → ℕ → ℕ → ℕ → ℕ → ℕ → Reply
+shareReply ws n m k u v =
+    accepting ws n m k (refuse (notPair (n + k) u v) (refusal 7 []) (answer (share (lent 8 ws) (m + k) u v ∷ [])))
+
+-- count: answers the cycle count
+unfoldable pub countReply : List ℕ → ℕ → ℕ → ℕ → Reply
+countReply ws n m k = accepting ws n m k (answer (cycles (lent 8 ws) (n + k) (m + k) ∷ []))
+
+-- split: answers the share and the new k
+unfoldable pub splitReply : List ℕ → ℕ → ℕ → ℕ → ℕ → ℕ → Reply
+splitReply ws n m k u v =
+    accepting ws n m k
+    (refuse (notPair (n + k) u v) (refusal 7 [])
+    (refuse (ltb (share (lent 8 ws) (m + k) u v) 2) (refusal 8 (share (lent 8 ws) (m + k) u v ∷ []))
+    (refuse (eqb k 392) (refusal 9 [])
+    (answer (share (lent 8 ws) (m + k) u v ∷ suc k ∷ [])))))
+
+unfoldable pub splitOutcome : List ℕ → ℕ → ℕ → ℕ → ℕ → ℕ → Outcome
+splitOutcome ws n m k u v = leaving ws (splitReply ws n m k u v) (pack 8 (splitOf (lent 8 ws) (n + k) (m + k) u v))
+
+-- orthogonalise: answers the number of splits, their sum and k, or is refused 9 with them; either way the matrix stands after the splits made
+unfoldable pub orthogonalisedReply : Orthogonalised → Reply
+orthogonalisedReply o = cond (o .finished) (answer (o .splits ∷ o .sum ∷ o .k ∷ [])) (refusal 9 (o .splits ∷ o .sum ∷ o .k ∷ []))
+
+unfoldable pub orthogonaliseOutcome : List ℕ → ℕ → ℕ → ℕ → Outcome
+orthogonaliseOutcome ws n m k =
+    let o = orthogonal (393 - k) (lent 8 ws) n m k 0 0 in
+    record { reply = accepting ws n m k (orthogonalisedReply o); after = cond (eqb (cause ws n m k) 0) (pack 8 (o .matrix)) ws }
+
+-- verify: answers yes exactly for codewords
+unfoldable pub verifyReply : List ℕ → ℕ → ℕ → ℕ → List ℕ → Reply
+verifyReply ws n m k w =
+    accepting ws n m k (checkingBytes (n + k) 2 w (answer (one (codeword (lent 8 ws) (n + k) (m + k) (byteOf w)) ∷ [])))
+
+-- extend: writes the n sent bytes and then the k added bits
+unfoldable pub extendReply : List ℕ → ℕ → ℕ → ℕ → List ℕ → List ℕ → Reply
+extendReply ws n m k sent w = accepting ws n m k (refuse (wrongLength (n + k) w) (refusal 10 []) (checkingBytes n 1 sent (answer [])))
+
+unfoldable pub extendOutcome : List ℕ → ℕ → ℕ → ℕ → List ℕ → List ℕ → Outcome
+extendOutcome ws n m k sent w =
+    leaving w (extendReply ws n m k sent w) (listFrom 0 (n + k) (λ b. one (extended (lent 8 ws) n m k (isOne (byteOf sent)) b)))
+
+-- is_stopping: answers yes exactly for stopping sets
+unfoldable pub isStoppingReply : List ℕ → ℕ → ℕ → ℕ → List ℕ → Reply
+isStoppingReply ws n m k set =
+    accepting ws n m k (checkingBytes (n + k) 1 set (answer (one (stopping (lent 8 ws) (n + k) (m + k) (isOne (byteOf set))) ∷ [])))
+
+-- peel: answers how many bits were recovered and how many of all n+k are left
+unfoldable pub peelReply : List ℕ → ℕ → ℕ → ℕ → List ℕ → Reply
+peelReply ws n m k w =
+    accepting ws n m k
+    (checkingBytes (n + k) 2 w
+    (refuse (not (peels (lent 8 ws) (n + k) (m + k) (byteOf w))) (refusal 12 [])
+    (answer (recoveredBits (lent 8 ws) (n + k) (m + k) (byteOf w) ∷ leftBits (lent 8 ws) (n + k) (m + k) (byteOf w) ∷ []))))
+
+unfoldable pub peelOutcome : List ℕ → ℕ → ℕ → ℕ → List ℕ → Outcome
+peelOutcome ws n m k w = leaving w (peelReply ws n m k w) (listFrom 0 (n + k) (peeled (lent 8 ws) (n + k) (m + k) (byteOf w)))
+
+-- rank: answers the rank
+unfoldable pub rankReply : List ℕ → ℕ → ℕ → ℕ → Reply
+rankReply ws n m k = accepting ws n m k (refuse (ltb 0 k) (refusal 13 []) (answer (rankOf (lent 8 ws) n m ∷ [])))
+
+-- encode: writes the codeword of the message
+unfoldable pub encodeReply : List ℕ → ℕ → ℕ → ℕ → List ℕ → List ℕ → Reply
+encodeReply ws n m k message w =
+    accepting ws n m k
+    (refuse (ltb 0 k) (refusal 13 [])
+    (refuse (wrongLength n w) (refusal 10 [])
+    (checkingBytes (n - rankOf (lent 8 ws) n m) 1 message (answer []))))
+
+unfoldable pub encodeOutcome : List ℕ → ℕ → ℕ → ℕ → List ℕ → List ℕ → Outcome
+encodeOutcome ws n m k message w =
+    leaving w (encodeReply ws n m k message w) (listFrom 0 n (λ b. one (encoded (lent 8 ws) n m (isOne (byteOf message)) b)))

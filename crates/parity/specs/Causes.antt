@@ -1,0 +1,54 @@
+-- Document 01, 'Causes and numbers': replies, and the number and values of each refusal. Assumes nothing.
+use Prim.Native.Nat.{ℕ}
+use mathlib.Core.Bool.{Bool, true, false, cond}
+use mathlib.Core.List.{List, [], _∷_}
+use lib.Dec.{eqb}
+use Rattle.parity.specs.Matrix.{cause}
+use Rattle.parity.specs.declared.Refusal.{Refusal}
+use Rattle.parity.specs.declared.Refusal.the-variants.{MatrixLength, OutOfRange, OneOutside, RuleABroken, FaultyWord, RecordTooShort, NotAPair, ShareBelowTwo, NoRoomToSplit, NoRoomLeft, WrongLength, WrongByte, Contradiction, AddedBits, ProgramInput}
+
+-- What a call returns: 0 for an answer, or the cause's number; and the values that it carries, in document 01's order. Yes is 1, no is 0.
+pub record Reply : Type 0 where
+  pub number : ℕ
+  pub values : List ℕ
+
+abbrev pub answer : List ℕ → Reply
+answer vs = record { number = 0; values = vs }
+
+abbrev pub refusal : ℕ → List ℕ → Reply
+refusal c vs = record { number = c; values = vs }
+
+-- the table: the number and the values of each cause
+abbrev pub refusalOf : Refusal → Reply
+refusalOf MatrixLength = refusal 1 []
+refusalOf OutOfRange = refusal 2 []
+refusalOf OneOutside = refusal 3 []
+refusalOf RuleABroken = refusal 4 []
+refusalOf (FaultyWord place) = refusal 5 (place ∷ [])
+refusalOf (RecordTooShort needed) = refusal 6 (needed ∷ [])
+refusalOf NotAPair = refusal 7 []
+refusalOf (ShareBelowTwo s) = refusal 8 (s ∷ [])
+refusalOf NoRoomToSplit = refusal 9 []
+refusalOf (NoRoomLeft splits total k) = refusal 9 (splits ∷ total ∷ k ∷ [])
+refusalOf WrongLength = refusal 10 []
+refusalOf (WrongByte place) = refusal 11 (place ∷ [])
+refusalOf Contradiction = refusal 12 []
+refusalOf AddedBits = refusal 13 []
+refusalOf ProgramInput = refusal 14 []
+
+-- The refusal where its cause holds, and else what comes after it in the order of the checks.
+abbrev pub refuse : Bool → Reply → Reply → Reply
+refuse holds r after = cond holds r after
+
+-- Causes 1 to 4 come first.
+unfoldable pub accepting : List ℕ → ℕ → ℕ → ℕ → Reply → Reply
+accepting ws n m k after = cond (eqb (cause ws n m k) 0) after (refusal (cause ws n m k) [])
+
+-- What a call does: its reply, and the list that it was lent to change, afterwards.
+pub record Outcome : Type 0 where
+  pub reply : Reply
+  pub after : List ℕ
+
+-- A refusal leaves the list as it was.
+abbrev pub leaving : List ℕ → Reply → List ℕ → Outcome
+leaving old r new = record { reply = r; after = cond (eqb (r .number) 0) new old }

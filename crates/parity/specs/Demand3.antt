@@ -1,0 +1,121 @@
+-- Document 01, 'The words of demand 3': lists of calls, and demand 3 as one statement over what the calls answer and leave. Assumes nothing.
+use Prim.Native.Nat.{ℕ, zero, suc, _+_, _≤_, _<_}
+use mathlib.Core.Path.{_≡_}
+use mathlib.Core.Logic.{_↔_}
+use mathlib.Core.Bool.{Bool, true, false, cond, _||_}
+use mathlib.Core.List.{List, [], _∷_, _++_}
+use lib.Dec.{eqb}
+use lib.ListN.{getD, length, take, replicate}
+use Rattle.parity.specs.Finite.{listFrom}
+use Rattle.parity.specs.Matrix.{cause}
+use Rattle.parity.specs.Cycles.{pairs}
+use Rattle.parity.specs.Causes.{Reply, answer, Outcome}
+use Rattle.parity.specs.Calls.{byteOf, countReply, splitOutcome, orthogonaliseOutcome, verifyReply, extendOutcome, peelOutcome}
+
+-- The list's calls are splits, of any two numbers, and orthogonalisings.
+pub data Call : Type 0 where
+  splits : ℕ → ℕ → Call
+  orthogonalises : Call
+
+-- the last call of a list, with its reply
+pub data Last : Type 0 where
+  none : Last
+  split-said : Reply → Last
+  orthogonalise-said : Reply → Last
+
+-- What stands after a list: the words as the last call left them, the k last answered, the carried sum, and the last call.
+pub record Stand : Type 0 where
+  pub words : List ℕ
+  pub k : ℕ
+  pub carried : ℕ
+  pub last : Last
+
+-- A split that is made adds s (s - 1) / 2 for the s in its answer, and answers k.
+unfoldable pub splitAdds : Reply → ℕ
+splitAdds r = cond (eqb (r .number) 0) (pairs (getD (r .values) 0 0)) 0
+
+unfoldable pub splitK : ℕ → Reply → ℕ
+splitK k r = cond (eqb (r .number) 0) (getD (r .values) 1 0) k
+
+-- An orthogonalise adds the sum in its answer, also when refused 9, and answers k in both. Every other refusal adds nothing.
+unfoldable pub orthogonaliseAdds : Reply → ℕ
+orthogonaliseAdds r = cond (eqb (r .number) 0 || eqb (r .number) 9) (getD (r .values) 1 0) 0
+
+unfoldable pub orthogonaliseK : ℕ → Reply → ℕ
+orthogonaliseK k r = cond (eqb (r .number) 0 || eqb (r .number) 9) (getD (r .values) 2 0) k
+
+-- One call, handed the words as the last one left them, the starting n and m, and the k last answered.
+unfoldable pub next : ℕ → ℕ → Stand → Call → Stand
+next n m s (splits u v) =
+    let o = splitOutcome (s .words) n m (s .k) u v in
+    record { words = o .after; k = splitK (s .k) (o .reply); carried = s .carried + splitAdds (o .reply); last = split-said (o .reply) }
+next n m s orthogonalises =
+    let o = orthogonaliseOutcome (s .words) n m (s .k) in
+    record { words = o .after; k = orthogonaliseK (s .k) (o .reply); carried = s .carried + orthogonaliseAdds (o .reply); last = orthogonalise-said (o .reply) }
+
+-- the calls of a list, one after the other
+unfoldable pub runs : ℕ → ℕ → Stand → List Call → Stand
+runs n m s [] = s
+runs n m s (c ∷ cs) = runs n m (next n m s c) cs
+
+-- The first call is handed a copy of the given matrix and k = 0; the carried sum starts at 0.
+abbrev pub start : List ℕ → Stand
+start given = record { words = given; k = 0; carried = 0; last = none }
+
+-- verifying says yes
+abbrev pub Verifies : List ℕ → ℕ → ℕ → ℕ → List ℕ → Type 0
+Verifies ws n m k w = verifyReply ws n m k w ≡ answer (1 ∷ [])
+
+-- a word in which the bytes of a set are made 2
+unfoldable pub erasing : (ℕ → Bool) → List ℕ → List ℕ
+erasing e w = listFrom 0 (length w) (λ b. cond (e b) 2 (byteOf w b))
+
+-- A bit is left if its byte is 2 afterwards, and recovered if it was 2 before and isn't afterwards.
+abbrev pub Left : List ℕ → ℕ → Type 0
+Left after b = byteOf after b ≡ 2
+
+abbrev pub Recovered : List ℕ → List ℕ → ℕ → Type 0
+Recovered before after b = (byteOf before b ≡ 2) × (byteOf after b ≡ 2 → ⊥)
+
+-- Both peelings of a codeword x in which the bytes of e are made 2: one has the given matrix and these n bytes, the other the extended
+-- matrix and the same n bytes and then k bytes of 2; y is the extended codeword.
+pub record Peelings (given : List ℕ) (n m : ℕ) (ws : List ℕ) (k : ℕ) (y before : List ℕ) : Type 0 where
+  pub given-answers : peelOutcome given n m 0 before .reply .number ≡ 0
+  pub extended-answers : peelOutcome ws n m k (before ++ replicate k 2) .reply .number ≡ 0
+  -- it never recovers less: a sent bit that the extended matrix leaves, the given one leaves
+  pub no-less : (b : ℕ) → b < n → Left (peelOutcome ws n m k (before ++ replicate k 2) .after) b → Left (peelOutcome given n m 0 before .after) b
+  -- a recovered bit has the extended codeword's value
+  pub given-right : (b : ℕ) → b < n → Recovered before (peelOutcome given n m 0 before .after) b → byteOf (peelOutcome given n m 0 before .after) b ≡ byteOf y b
+  pub extended-right : (b : ℕ) → b < n + k → Recovered (before ++ replicate k 2) (peelOutcome ws n m k (before ++ replicate k 2) .after) b
+      → byteOf (peelOutcome ws n m k (before ++ replicate k 2) .after) b ≡ byteOf y b
+
+-- What a codeword x of the given matrix has, whatever the extending call's output held before.
+pub record Begins (given : List ℕ) (n m : ℕ) (ws : List ℕ) (k : ℕ) (x held : List ℕ) : Type 0 where
+  -- extending answers, and writes an extended codeword that x begins
+  pub answers : extendOutcome ws n m k x held .reply ≡ answer []
+  pub begins : take n (extendOutcome ws n m k x held .after) ≡ x
+  pub verified : Verifies ws n m k (extendOutcome ws n m k x held .after)
+  -- and x begins no other
+  pub only : (y : List ℕ) → Verifies ws n m k y → take n y ≡ x → y ≡ extendOutcome ws n m k x held .after
+  pub peelings : (e : ℕ → Bool) → Peelings given n m ws k (extendOutcome ws n m k x held .after) (erasing e x)
+
+-- What holds of the given matrix and of what stands after a list.
+pub record Keeps (given : List ℕ) (n m : ℕ) (s : Stand) : Type 0 where
+  -- the extended matrix is accepted with the k last answered, and any other k is refused
+  pub accepted : cause (s .words) n m (s .k) ≡ 0
+  pub other-k : (k : ℕ) → (k ≡ s .k → ⊥) → cause (s .words) n m k ≡ 0 → ⊥
+  -- the carried sum plus the four-cycles left is at most the four-cycles at the start, as counting answers them
+  pub at-start : ℕ
+  pub left : ℕ
+  pub counts-start : countReply given n m 0 ≡ answer (at-start ∷ [])
+  pub counts-left : countReply (s .words) n m (s .k) ≡ answer (left ∷ [])
+  pub falls : s .carried + left ≤ at-start
+  -- it keeps the code: each codeword begins exactly one extended codeword, and each extended codeword begins with a codeword
+  pub begins : (x held : List ℕ) → Verifies given n m 0 x → length held ≡ n + s .k → Begins given n m (s .words) (s .k) x held
+  pub each : (y : List ℕ) → Verifies (s .words) n m (s .k) y → Verifies given n m 0 (take n y)
+  -- an orthogonalise that is the last call finishes exactly if no four-cycle is left
+  pub finishes : (r : Reply) → s .last ≡ orthogonalise-said r → (r .number ≡ 0) ↔ (left ≡ 0)
+
+-- Demand 3: for every given matrix and every list of calls.
+abbrev pub Demand3 : Type 0
+Demand3 = (given : List ℕ) (n m : ℕ) → cause given n m 0 ≡ 0 → (cs : List Call) → Keeps given n m (runs n m (start given) cs)

@@ -1,0 +1,10 @@
+pub mod Finite
+pub mod Matrix
+pub mod Cycles
+pub mod Words
+pub mod Demand3
+pub mod Record
+pub mod Encoding
+pub mod Causes
+pub mod Calls
+pub mod Mend

@@ -1,0 +1,72 @@
+-- Document 01, 'Words, peeling': words, codewords, verifying, extending, stopping sets, the residue, peeling. Assumes nothing.
+-- A word gives each bit its byte; a set of bits says of each bit whether it is in it. N bits and M checks are looked at.
+use Prim.Native.Nat.{ℕ, zero, suc, _+_, _*_, _-_, _%_}
+use mathlib.Core.Bool.{Bool, true, false, not, cond, _&&_, _||_, Bool·beq}
+use lib.Dec.{eqb, leb}
+use Rattle.parity.specs.Finite.{one, count, all, anySet}
+use Rattle.parity.specs.Matrix.{Matrix}
+
+-- A byte of a word is 0, 1, or 2 for erased: its erased bits, and its ones.
+abbrev pub erased : (ℕ → ℕ) → ℕ → Bool
+erased w b = eqb (w b) 2
+
+abbrev pub isOne : (ℕ → ℕ) → ℕ → Bool
+isOne w b = eqb (w b) 1
+
+-- how many bits of a set a check contains
+unfoldable pub inside : Matrix → ℕ → ℕ → (ℕ → Bool) → ℕ
+inside h N c s = count N (λ b. h c b && s b)
+
+-- each check contains an even number of the set's bits
+unfoldable pub evenChecks : Matrix → ℕ → ℕ → (ℕ → Bool) → Bool
+evenChecks h N M s = all M (λ c. eqb (inside h N c s % 2) 0)
+
+-- A codeword has no 2 and gives each check an even number of ones. Verifying is yes exactly for codewords.
+unfoldable pub codeword : Matrix → ℕ → ℕ → (ℕ → ℕ) → Bool
+codeword h N M w = all N (λ b. leb (w b) 1) && evenChecks h N M (isOne w)
+
+-- an odd number
+unfoldable pub odd : ℕ → Bool
+odd s = eqb (s % 2) 1
+
+-- Extending: the sent bits stay, and each added bit n + j is the sum modulo 2 of the two lower bits of its added check m + j.
+unfoldable pub extended : Matrix → ℕ → ℕ → ℕ → (ℕ → Bool) → ℕ → Bool
+extended h n m zero x b = x b
+extended h n m (suc j) x b = cond (eqb b (n + j)) (odd (inside h (n + j) (m + j) (extended h n m j x))) (extended h n m j x b)
+
+-- A stopping set: no check contains exactly one of its bits.
+unfoldable pub stopping : Matrix → ℕ → ℕ → (ℕ → Bool) → Bool
+stopping h N M s = all M (λ c. not (eqb (inside h N c s) 1))
+
+-- one set lies inside the other
+unfoldable pub within : ℕ → (ℕ → Bool) → (ℕ → Bool) → Bool
+within N s e = all N (λ b. not (s b) || e b)
+
+-- The residue of a word with the erased bits e: the union of all stopping sets inside them.
+unfoldable pub residue : Matrix → ℕ → ℕ → (ℕ → Bool) → ℕ → Bool
+residue h N M e b = anySet N (λ s. stopping h N M s && within N s e && s b)
+
+-- The values y for the erased bits e outside the residue r, with x's values at the bits that are not erased, make each check even
+-- that contains no residue bit.
+unfoldable pub solves : Matrix → ℕ → ℕ → (ℕ → Bool) → (ℕ → Bool) → (ℕ → Bool) → (ℕ → Bool) → Bool
+solves h N M e r x y =
+    all N (λ b. e b || Bool·beq (y b) (x b))
+    && all M (λ c. not (eqb (inside h N c r) 0) || eqb (inside h N c y % 2) 0)
+
+-- Such values exist; if none do, peeling is refused (12).
+unfoldable pub peels : Matrix → ℕ → ℕ → (ℕ → ℕ) → Bool
+peels h N M w = anySet N (solves h N M (erased w) (residue h N M (erased w)) (isOne w))
+
+-- Peeling: the residue keeps 2, and every other bit has the value that solves. It is unique: `unique` of proofs/Residue.
+unfoldable pub peeled : Matrix → ℕ → ℕ → (ℕ → ℕ) → ℕ → ℕ
+peeled h N M w b =
+    cond (residue h N M (erased w) b) 2
+    (one (anySet N (λ y. solves h N M (erased w) (residue h N M (erased w)) (isOne w) y && y b)))
+
+-- how many bits peeling recovers: the erased ones outside the residue
+unfoldable pub recoveredBits : Matrix → ℕ → ℕ → (ℕ → ℕ) → ℕ
+recoveredBits h N M w = count N (λ b. erased w b && not (residue h N M (erased w) b))
+
+-- how many it leaves
+unfoldable pub leftBits : Matrix → ℕ → ℕ → (ℕ → ℕ) → ℕ
+leftBits h N M w = count N (residue h N M (erased w))

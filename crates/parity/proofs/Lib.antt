@@ -1,1 +1,12 @@
+pub mod Bools
 pub mod Sums
+pub mod Pairs
+pub mod Split
+pub mod Cycles
+pub mod Rule
+pub mod Pick
+pub mod Extend
+pub mod Residue
+pub mod Peel
+pub mod Steps
+pub mod Encode

@@ -3,7 +3,7 @@
 use Prim.Native.Nat.{ℕ, zero, suc, _+_, _*_, _-_, _%_}
 use mathlib.Core.Bool.{Bool, true, false, not, cond, _&&_, _||_, Bool·beq}
 use lib.Dec.{eqb, leb}
-use Rattle.parity.specs.Finite.{one, count, all, anySet}
+use Rattle.parity.specs.Finite.{one, count, all, any, least, anySet}
 use Rattle.parity.specs.Matrix.{Matrix}
 
 -- A byte of a word is 0, 1, or 2 for erased: its erased bits, and its ones.
@@ -70,3 +70,28 @@ recoveredBits h N M w = count N (λ b. erased w b && not (residue h N M (erased 
 -- how many it leaves
 unfoldable pub leftBits : Matrix → ℕ → ℕ → (ℕ → ℕ) → ℕ
 leftBits h N M w = count N (residue h N M (erased w))
+
+-- Peeling by steps solves, as long as one exists, a check with exactly one erased bit. That it ends as defined above, in whatever order,
+-- is a law: `any-order` and `peel-steps` of proofs/Steps.
+-- Bit b of check c is solved: it becomes the sum modulo 2 of the check's ones.
+unfoldable pub solved : Matrix → ℕ → ℕ → ℕ → (ℕ → ℕ) → ℕ → ℕ
+solved h N c b w i = cond (eqb i b) (one (odd (inside h N c (isOne w)))) (w i)
+
+-- the first check with exactly one erased bit, and that bit
+unfoldable pub loneCheck : Matrix → ℕ → ℕ → (ℕ → ℕ) → ℕ
+loneCheck h N M w = least M (λ c. eqb (inside h N c (erased w)) 1)
+
+unfoldable pub loneBit : Matrix → ℕ → ℕ → (ℕ → ℕ) → ℕ
+loneBit h N c w = least N (λ b. h c b && erased w b)
+
+-- steps as long as there is such a check; the first argument only ends the recursion
+unfoldable pub steps : ℕ → Matrix → ℕ → ℕ → (ℕ → ℕ) → ℕ → ℕ
+steps zero h N M w = w
+steps (suc turns) h N M w =
+    cond (any M (λ c. eqb (inside h N c (erased w)) 1))
+    (steps turns h N M (solved h N (loneCheck h N M w) (loneBit h N (loneCheck h N M w) w) w))
+    w
+
+-- each check that has no erased bit is even
+unfoldable pub agrees : Matrix → ℕ → ℕ → (ℕ → ℕ) → Bool
+agrees h N M w = all M (λ c. not (eqb (inside h N c (erased w)) 0) || eqb (inside h N c (isOne w) % 2) 0)

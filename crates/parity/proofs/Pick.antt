@@ -1,0 +1,55 @@
+-- The pair that orthogonalising splits, and when there is none. Assumes nothing.
+use mathlib.Core.Path.{_≡_, refl, sym, ap, _∙_}
+use mathlib.Core.Bool.{Bool, true, false, not, cond, _&&_, _||_, and-eq-true-iff}
+use Prim.Native.Nat.{ℕ, zero, suc, _+_, _*_, _-_, _≤_, _<_}
+use native.Mathlib.Omega.{arith}
+use lib.Dec.{eqb, ltb}
+use borrow.Author.Tests.{eq-eqb, eqb-true, lt-ltb, ltb-true}
+use Rattle.parity.specs.Finite.{one, sum, count, all, any, most, least}
+use Rattle.parity.specs.Matrix.{Matrix}
+use Rattle.parity.specs.Cycles.{share, pairs, cycles, largestShare, lowerBit, higherBit}
+use Rattle.parity.proofs.Sums.{sum-zero, sum-ge, most-le, most-at, any-of, any-at, least-at}
+use Rattle.parity.proofs.Pairs.{pairs-suc}
+
+module _ (h : Matrix) (N M : ℕ) where
+  pub top-le : (i j : ℕ) → i < j → j < N → share h M i j ≤ largestShare h N M
+  unfolding largestShare
+  top-le i j l k = omega (arith, most-le N (λ j. most j (λ i. share h M i j)) j k, most-le j (λ i. share h M i j) i l)
+
+  top-at : 0 < largestShare h N M → (i j : ℕ) × (i < j) × (j < N) × (share h M i j ≡ largestShare h N M)
+  unfolding largestShare
+  top-at k =
+      let (j, jn, e) = most-at N (λ j. most j (λ i. share h M i j)) k in
+      let (i, ij, f) = most-at j (λ i. share h M i j) (omega arith) in
+      (i, j, ij, jn, f ∙ e)
+
+  pub picked : 0 < largestShare h N M → (lowerBit h N M < higherBit h N M) × (higherBit h N M < N) × (share h M (lowerBit h N M) (higherBit h N M) ≡ largestShare h N M)
+  unfolding lowerBit higherBit
+  picked k =
+      let (i, j, ij, jn, e) = top-at k in
+      let t = least-at N (λ i. any N (λ j. ltb i j && eqb (share h M i j) (largestShare h N M)))
+      (any-of N _ i (omega arith) (any-of N _ j jn (rw (lt-ltb i j ij, eq-eqb _ _ e)))) in
+      let (l, r) = least-at N (λ j. ltb (lowerBit h N M) j && eqb (share h M (lowerBit h N M) j) (largestShare h N M)) (t .1) in
+      let (a, b) = and-eq-true-iff (ltb (lowerBit h N M) (higherBit h N M)) _ .0 r in
+      (ltb-true _ _ a, l, eqb-true _ _ b)
+
+  -- Theorem 1's count is zero exactly if no pair has share two.
+  pub no-cycles : largestShare h N M < 2 → cycles h N M ≡ 0
+  unfolding cycles
+  no-cycles k = sum-zero N (λ j jn. sum-zero j (λ i ij. small (share h M i j) (omega (arith, top-le i j ij jn))))
+    where
+      small : (s : ℕ) → s < 2 → pairs s ≡ 0
+      small zero l = unfold pairs in refl
+      small (suc zero) l = unfold pairs in refl
+      small (suc (suc s)) l = absurd (omega arith)
+
+  pub some-cycles : 2 ≤ largestShare h N M → 1 ≤ cycles h N M
+  unfolding cycles
+  some-cycles k =
+      let (i, j, ij, jn, e) = top-at (omega arith) in
+      omega (arith, sum-ge N (λ j. sum j (λ i. pairs (share h M i j))) j jn, sum-ge j (λ i. pairs (share h M i j)) i ij, big (share h M i j) (omega arith))
+    where
+      big : (s : ℕ) → 2 ≤ s → 1 ≤ pairs s
+      big zero l = absurd (omega arith)
+      big (suc zero) l = absurd (omega arith)
+      big (suc (suc s)) l = omega (arith, pairs-suc (suc s))

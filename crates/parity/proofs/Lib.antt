@@ -1,10 +1,15 @@
 pub mod Bools
 pub mod Sums
+pub mod Packing
 pub mod Pairs
 pub mod Split
 pub mod Cycles
 pub mod Rule
+pub mod Clean
+pub mod Sound
+pub mod Accept
 pub mod Pick
+pub mod Orthogonal
 pub mod Extend
 pub mod Residue
 pub mod Peel

@@ -2,14 +2,24 @@
 use mathlib.Core.Path.{_≡_, refl, sym, ap, _∙_}
 use mathlib.Core.Bool.{Bool, true, false, not, cond, _&&_, _||_, and-eq-true-iff}
 use Prim.Native.Nat.{ℕ, zero, suc, _+_, _*_, _-_, _≤_, _<_}
+use mathlib.Core.Logic.{_↔_}
 use native.Mathlib.Omega.{arith}
+use native.Mathlib.Decide.{decLt}
 use lib.Dec.{eqb, ltb}
 use borrow.Author.Tests.{eq-eqb, eqb-true, lt-ltb, ltb-true}
 use Rattle.parity.specs.Finite.{one, sum, count, all, any, most, least}
 use Rattle.parity.specs.Matrix.{Matrix}
 use Rattle.parity.specs.Cycles.{share, pairs, cycles, largestShare, lowerBit, higherBit}
-use Rattle.parity.proofs.Sums.{sum-zero, sum-ge, most-le, most-at, any-of, any-at, least-at}
+use Rattle.parity.proofs.Sums.{sum-zero, sum-ge, most-le, most-at, any-of, any-at, least-at, least-min}
 use Rattle.parity.proofs.Pairs.{pairs-suc}
+
+-- The pair of the largest share, then of the smallest lower bit, then of the smallest higher bit.
+pub record Chosen (h : Matrix) (N M u v : ℕ) : Type 0 where
+  pub low : u < v
+  pub high : v < N
+  pub largest : (i j : ℕ) → i < j → j < N → share h M i j ≤ share h M u v
+  pub lower : (i j : ℕ) → i < j → j < N → share h M i j ≡ share h M u v → u ≤ i
+  pub higher : (j : ℕ) → u < j → j < N → share h M u j ≡ share h M u v → v ≤ j
 
 module _ (h : Matrix) (N M : ℕ) where
   pub top-le : (i j : ℕ) → i < j → j < N → share h M i j ≤ largestShare h N M
@@ -33,6 +43,31 @@ module _ (h : Matrix) (N M : ℕ) where
       let (a, b) = and-eq-true-iff (ltb (lowerBit h N M) (higherBit h N M)) _ .0 r in
       (ltb-true _ _ a, l, eqb-true _ _ b)
 
+  -- The chosen pair is the one that document 01 names.
+  pub chosen : 0 < largestShare h N M → Chosen h N M (lowerBit h N M) (higherBit h N M)
+  unfolding lowerBit higherBit
+  chosen k =
+      let (l, r, e) = picked k in
+      record {
+        low = l;
+        high = r;
+        largest = λ i j ij jn. omega (arith, top-le i j ij jn);
+        lower = λ i j ij jn q. least-min N _ i (omega arith) (any-of N _ j jn (rw (lt-ltb i j ij, eq-eqb _ _ (q ∙ e))));
+        higher = λ j uj jn q. least-min N _ j jn (rw (lt-ltb _ j uj, eq-eqb _ _ (q ∙ e)));
+      }
+
+  -- and only that one is
+  pub chosen-only : (u v : ℕ) → Chosen h N M u v → 0 < share h M u v
+      → (largestShare h N M ≡ share h M u v) × (lowerBit h N M ≡ u) × (higherBit h N M ≡ v)
+  chosen-only u v C p =
+      let t = top-le u v (C .low) (C .high) in
+      let (l, r, e) = picked (omega arith) in
+      let D = chosen (omega arith) in
+      let s : largestShare h N M ≡ share h M u v = omega (arith, C .largest _ _ l r) in
+      let a : lowerBit h N M ≡ u = omega (arith, C .lower _ _ l r (e ∙ s), D .lower u v (C .low) (C .high) (sym s ∙ sym e)) in
+      let b : higherBit h N M ≡ v = omega (arith, C .higher (higherBit h N M) (rw a at l) r ((rw a at e) ∙ s), D .higher v (rw a (C .low)) (C .high) (rw a (sym s ∙ sym (rw a at e)))) in
+      (s, a, b)
+
   -- Theorem 1's count is zero exactly if no pair has share two.
   pub no-cycles : largestShare h N M < 2 → cycles h N M ≡ 0
   unfolding cycles
@@ -53,3 +88,7 @@ module _ (h : Matrix) (N M : ℕ) where
       big zero l = absurd (omega arith)
       big (suc zero) l = absurd (omega arith)
       big (suc (suc s)) l = omega (arith, pairs-suc (suc s))
+
+  -- no pair has share two or more exactly if the cycle count is 0
+  pub none-left : (largestShare h N M < 2) ↔ (cycles h N M ≡ 0)
+  none-left = (no-cycles, λ e. elim (decLt (largestShare h N M) 2) [ yes l ↦ l | no l ↦ absurd (omega (arith, some-cycles (omega arith))) ])

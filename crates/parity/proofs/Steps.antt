@@ -9,7 +9,7 @@ use lib.Dec.{eqb, ltb}
 use borrow.Author.Tests.{eq-eqb, ne-eqb, eqb-true, eqb-false, not-false}
 use Rattle.parity.specs.Finite.{one, sum, count, all, any, least}
 use Rattle.parity.specs.Matrix.{Matrix}
-use Rattle.parity.specs.Words.{solved, loneCheck, loneBit, steps, agrees, inside, odd, residue, solves, erased, isOne, peels, peeled}
+use Rattle.parity.specs.Words.{solved, loneCheck, loneBit, steps, agrees, inside, odd, residue, solves, erased, isOne, peels, peeled, recoveredBits, leftBits}
 use Rattle.parity.proofs.Bools.{or-false-both, or-else, same-test}
 use Rattle.parity.proofs.Sums.{Is, is-true, is-false, is, one≤1, all-at, all-of, all-not, count-two, count-cong, count-le, count-bound, any-of, any-at, least-at, count-at, sum-point}
 use Rattle.parity.proofs.Split.{Stops}
@@ -169,14 +169,31 @@ lone-at h N M w e =
     let (r₁, r₂) = and-eq-true-iff (h (loneCheck h N M w) (loneBit h N (loneCheck h N M w) w)) (erased w (loneBit h N (loneCheck h N M w) w)) .0 r in
     (cm, a, bn, r₁, r₂)
 
+-- What a word w is where steps from w₀ end: peeling is refused exactly if w disagrees with a check, the residue is what is still erased,
+-- w is the peeled word, and its erased bits are the bits left.
+pub record Ended (h : Matrix) (N M : ℕ) (w₀ w : ℕ → ℕ) : Type 0 where
+  pub answers : peels h N M w₀ ≡ agrees h N M w
+  pub still : (b : ℕ) → b < N → residue h N M (erased w₀) b ≡ erased w b
+  pub word : peels h N M w₀ ≡ true → (b : ℕ) → b < N → peeled h N M w₀ b ≡ w b
+  pub recovered : recoveredBits h N M w₀ ≡ count N (λ b. erased w₀ b && not (erased w b))
+  pub left : leftBits h N M w₀ ≡ count N (erased w)
+
 -- a stage at which no check has exactly one erased bit is the end
-ended : (h : Matrix) (N M : ℕ) (w₀ w : ℕ → ℕ) → Stage h N M w₀ w → Stops h N M (erased w)
-    → (peels h N M w₀ ≡ agrees h N M w) × (peels h N M w₀ ≡ true → (b : ℕ) → b < N → peeled h N M w₀ b ≡ w b)
+pub ended : (h : Matrix) (N M : ℕ) (w₀ w : ℕ → ℕ) → Stage h N M w₀ w → Stops h N M (erased w) → Ended h N M w₀ w
+unfolding recoveredBits leftBits
 ended h N M w₀ w S T =
-    elim (is (agrees h N M w)) [
-      | is-true e ↦ let (p, q) = done h N M w₀ w S T e in (p ∙ sym e, λ r. q)
-      | is-false e ↦ let p = contradiction h N M w₀ w S T e in (p ∙ sym e, λ r. absurd (true≢false (sym r ∙ p)))
-    ]
+    let e : (b : ℕ) → b < N → residue h N M (erased w₀) b ≡ erased w b = λ b k. sym (ends h N M w₀ w S T b k) in
+    let p : (peels h N M w₀ ≡ agrees h N M w) × (peels h N M w₀ ≡ true → (b : ℕ) → b < N → peeled h N M w₀ b ≡ w b) = elim (is (agrees h N M w)) [
+      | is-true q ↦ let (r, t) = done h N M w₀ w S T q in (r ∙ sym q, λ u. t)
+      | is-false q ↦ let r = contradiction h N M w₀ w S T q in (r ∙ sym q, λ u. absurd (true≢false (sym u ∙ r)))
+    ] in
+    record {
+      answers = p .0;
+      still = e;
+      word = p .1;
+      recovered = count-cong N (λ b k. rw (e b k));
+      left = count-cong N e;
+    }
 
 module _ (h : Matrix) (N M : ℕ) (w₀ : ℕ → ℕ) where
   -- enough steps lead to the end
@@ -193,9 +210,7 @@ module _ (h : Matrix) (N M : ℕ) (w₀ : ℕ → ℕ) where
       ]
 
   -- Peeling by steps is peeling.
-  pub peel-steps : ((b : ℕ) → b < N → w₀ b ≤ 2)
-      → (peels h N M w₀ ≡ agrees h N M (steps N h N M w₀))
-      × (peels h N M w₀ ≡ true → (b : ℕ) → b < N → peeled h N M w₀ b ≡ steps N h N M w₀ b)
+  pub peel-steps : ((b : ℕ) → b < N → w₀ b ≤ 2) → Ended h N M w₀ (steps N h N M w₀)
   peel-steps u =
       let (S, T) = steps-end N w₀ (stage-start h N M w₀ u) (count-bound N (erased w₀)) in
       ended h N M w₀ (steps N h N M w₀) S T
@@ -212,5 +227,5 @@ reached-stage h N M w₀ w u (next {w = v} r c b cm bn hb eb a) = step h N M w�
 
 -- Whatever the order of the steps, once no check has exactly one erased bit the word is the peeled one, or peeling is refused.
 pub any-order : (h : Matrix) (N M : ℕ) (w₀ w : ℕ → ℕ) → ((b : ℕ) → b < N → w₀ b ≤ 2) → Reached h N M w₀ w → Stops h N M (erased w)
-    → (peels h N M w₀ ≡ agrees h N M w) × (peels h N M w₀ ≡ true → (b : ℕ) → b < N → peeled h N M w₀ b ≡ w b)
+    → Ended h N M w₀ w
 any-order h N M w₀ w u r t = ended h N M w₀ w (reached-stage h N M w₀ w u r) t

@@ -1,26 +1,26 @@
 -- A case whose test is true holds: the test, turned into the calls' definitions. Assumes nothing.
 use mathlib.Core.Path.{_≡_, refl, sym, ap, _∙_}
-use mathlib.Core.Bool.{Bool, true, false, not, cond, _&&_, _||_, and-eq-true-iff, false≢true}
+use mathlib.Core.Bool.{Bool, true, false, not, _&&_, and-eq-true-iff, false≢true}
 use mathlib.Core.List.{List, [], _∷_}
-use Prim.Native.Nat.{ℕ, zero, suc, _+_, _-_, _≤_, _<_}
+use Prim.Native.Nat.{ℕ, _+_, _-_, _≤_, _<_}
 use native.Mathlib.Omega.{arith}
-use lib.Dec.{eqb, ltb, leb}
-use lib.ListN.{getD, length}
-use borrow.Author.Tests.{eqb-true, eq-eqb, ltb-true, ltb-false, le-ltb, not-true}
+use lib.Dec.{eqb, ltb}
+use lib.ListN.{length}
+use borrow.Author.Tests.{eqb-true, eq-eqb, ltb-false, not-true}
 use Rattle.parity.specs.Finite.{one, count, any, listFrom}
 use Rattle.parity.specs.Matrix.{Matrix, lent, pack, cause}
 use Rattle.parity.specs.Cycles.{share, cycles, Orthogonalised, orthogonal}
-use Rattle.parity.specs.Words.{erased, isOne, peels, peeled, recoveredBits, leftBits, steps, agrees}
+use Rattle.parity.specs.Words.{erased, isOne, peels, peeled, steps, agrees}
 use Rattle.parity.specs.Record.{Loaded, faulty, loaded, loading}
 use Rattle.parity.specs.Encoding.{rankOf, encoded}
-use Rattle.parity.specs.Causes.{Reply, answer, refusal, Outcome, accepting}
+use Rattle.parity.specs.Causes.{Reply, answer, refusal, accepting}
 use Rattle.parity.specs.Calls.{byteOf, notPair, wrongByte, loadedReply, loadOutcome, countReply, splitReply, splitOutcome, orthogonalisedReply, orthogonaliseOutcome, peelReply, peelOutcome, rankReply, encodeReply, encodeOutcome}
 use Rattle.parity.proofs.Sums.{any-of}
 use Rattle.parity.proofs.Packing.{listFrom-cong}
 use Rattle.parity.proofs.Sound.{Sound}
 use Rattle.parity.proofs.Orthogonal.{orthogonal-sound}
 use Rattle.parity.proofs.Accept.{accepting-answers}
-use Rattle.parity.proofs.Steps.{Ended, peel-steps}
+use Rattle.parity.proofs.Steps.{peel-steps}
 use Rattle.bench.specs.Case.{listed, Lent, Case, wordsOf, counting, orthogonalising, splitting-no-pair, splitting-below-two, peeling, peeling-contradiction, ranking, encoding, loading-faulty, Holds, AllHold}
 use Rattle.bench.specs.Test.{sameList, fits, agree, orthogonalises, isWord, peelsTo, faultyAt, test, tests}
 use Rattle.bench.proofs.Listed.{listed-sound, accepted, held, agreed, same-list}

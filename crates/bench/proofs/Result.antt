@@ -1,7 +1,7 @@
 -- Cases A to K are established together, from the definitions, by one result. Assumes nothing.
 use mathlib.Core.Path.{_≡_, refl}
-use mathlib.Core.Bool.{Bool, true}
-use Rattle.parity.specs.Finite.{one, sum, count, all, any, most, least, anySet, listFrom}
+use mathlib.Core.Bool.{true}
+use Rattle.parity.specs.Finite.{sum, count, all, any, most, least, anySet, listFrom}
 use Rattle.parity.specs.Matrix.{inRange, ruleA, ruleAt, noOther}
 use Rattle.parity.specs.Cycles.{share, pairs, cycles, splitOf, largestShare, lowerBit, higherBit, orthogonal}
 use Rattle.parity.specs.Words.{inside, evenChecks, odd, solved, loneCheck, loneBit, steps, agrees}

@@ -1,12 +1,12 @@
 -- What a worked case of document 01 says of a call. Assumes nothing.
-use Prim.Native.Nat.{ℕ, zero, suc, _+_}
+use Prim.Native.Nat.{ℕ, zero, suc}
 use mathlib.Core.Path.{_≡_}
-use mathlib.Core.Bool.{Bool, true, false, _||_}
+use mathlib.Core.Bool.{Bool, false, _||_}
 use mathlib.Core.List.{List, [], _∷_}
 use lib.Dec.{eqb}
 use lib.ListN.{length}
 use Rattle.parity.specs.Matrix.{Matrix, pack}
-use Rattle.parity.specs.Causes.{Reply, answer, refusal, Outcome}
+use Rattle.parity.specs.Causes.{answer, refusal}
 use Rattle.parity.specs.Calls.{loadOutcome, countReply, splitOutcome, orthogonaliseOutcome, peelOutcome, rankReply, encodeOutcome}
 
 -- a bit is in a list

@@ -1,6 +1,6 @@
 -- The computed test of a case: the definitions on the matrix itself, and peeling by steps. Assumes nothing.
-use Prim.Native.Nat.{ℕ, zero, suc, _+_, _-_}
-use mathlib.Core.Bool.{Bool, true, false, not, cond, _&&_, _||_, Bool·beq}
+use Prim.Native.Nat.{ℕ, _+_, _-_}
+use mathlib.Core.Bool.{Bool, true, false, not, _&&_, Bool·beq}
 use mathlib.Core.List.{List, [], _∷_}
 use lib.Dec.{eqb, ltb, leb}
 use lib.ListN.{length}
@@ -11,7 +11,7 @@ use Rattle.parity.specs.Words.{erased, isOne, steps, agrees}
 use Rattle.parity.specs.Record.{Loaded, faulty, loaded, loading}
 use Rattle.parity.specs.Encoding.{rankOf, encoded}
 use Rattle.parity.specs.Calls.{byteOf, notPair, wrongByte}
-use Rattle.bench.specs.Case.{listed, Lent, Case, counting, orthogonalising, splitting-no-pair, splitting-below-two, peeling, peeling-contradiction, ranking, encoding, loading-faulty}
+use Rattle.bench.specs.Case.{listed, Case, counting, orthogonalising, splitting-no-pair, splitting-below-two, peeling, peeling-contradiction, ranking, encoding, loading-faulty}
 
 unfoldable pub sameList : List ℕ → List ℕ → Bool
 sameList [] [] = true

@@ -1,19 +1,19 @@
 -- An accepted matrix: what acceptance says of it, and which test refuses. Assumes nothing.
 use mathlib.Core.Path.{_≡_, refl, sym, _∙_}
 use mathlib.Core.Logic.{_↔_}
-use mathlib.Core.Bool.{Bool, true, false, not, cond, _&&_, _||_, and-eq-true-iff, true≢false}
+use mathlib.Core.Bool.{Bool, true, false, not, cond, _&&_, and-eq-true-iff, true≢false}
 use mathlib.Core.List.{List, []}
-use Prim.Native.Nat.{ℕ, _+_, _^_, _≤_, _<_}
+use Prim.Native.Nat.{ℕ, suc, _+_, _^_, _≤_, _<_}
 use native.Mathlib.Omega.{arith}
 use native.Mathlib.Decide.{decLt}
 use lib.Dec.{eqb, leb, lit<}
 use lib.ListN.{getD, length}
 use borrow.Author.Tests.{eq-eqb, ne-eqb, eqb-true, leb-true, le-leb}
 use Rattle.parity.specs.Matrix.{Matrix, lent, pack, inRange, clean, ruleA, cause}
-use Rattle.parity.specs.Causes.{Reply, refusal, accepting}
+use Rattle.parity.specs.Causes.{Reply, answer, refusal, accepting}
+use Rattle.parity.specs.Calls.{acceptReply}
 use Rattle.parity.proofs.Packing.{pack-length, pack-lt, pack-lent, lent-packed}
-use Rattle.parity.proofs.Clean.{Clean, cleans}
-use Rattle.parity.proofs.Rule.{Rule}
+use Rattle.parity.proofs.Clean.{cleans}
 use Rattle.parity.proofs.Sound.{Sound, sound-rule}
 
 -- What acceptance says of the lent words: 4,096 words of 64 bits that hold a matrix which causes 2 to 4 do not refuse.
@@ -116,3 +116,12 @@ accepting-answers ws n m k after e = rw e
 pub accepting-refuses : (ws : List ℕ) (n m k : ℕ) (after : Reply) → (cause ws n m k ≡ 0 → ⊥) → accepting ws n m k after ≡ refusal (cause ws n m k) []
 unfolding accepting
 accepting-refuses ws n m k after d = rw (ne-eqb (cause ws n m k) 0 d)
+
+-- the reply of acceptance alone
+pub accept-refuses : (ws : List ℕ) (n m k c : ℕ) → cause ws n m k ≡ suc c → acceptReply ws n m k ≡ refusal (suc c) []
+unfolding acceptReply
+accept-refuses ws n m k c e = accepting-refuses ws n m k (answer []) (λ q. omega arith) ∙ rw e
+
+pub accept-answers : (ws : List ℕ) (n m k : ℕ) → cause ws n m k ≡ 0 → acceptReply ws n m k ≡ answer []
+unfolding acceptReply
+accept-answers ws n m k e = accepting-answers ws n m k (answer []) e

@@ -1,6 +1,6 @@
 -- Laws of Booleans that the others lean on. Assumes nothing.
 use mathlib.Core.Path.{_≡_, refl, sym}
-use mathlib.Core.Bool.{Bool, true, false, not, cond, _&&_, _||_, xor, Bool·beq, true≢false, false≢true}
+use mathlib.Core.Bool.{Bool, true, false, not, _||_, xor, Bool·beq, true≢false, false≢true}
 
 -- an implication as a test
 pub then : (a b : Bool) → not a || b ≡ true → a ≡ true → b ≡ true

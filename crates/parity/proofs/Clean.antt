@@ -13,7 +13,8 @@ use lib.Arith.{digits-div, digits-mod, le-zero}
 use lib.Pow.{pow-pos, pow-mono}
 use borrow.Author.Tests.{lt-ltb, le-ltb, ltb-true, eqb-false}
 use Rattle.parity.specs.Matrix.{Matrix, bitOf, lent, room, clean}
-use Rattle.parity.proofs.Packing.{behind-bits, lent-word}
+use Rattle.parity.proofs.Packing.{lent-flat}
+use Rattle.parity.proofs.Lent.{lent-out}
 
 -- A matrix has no one at bit N or above, nor at check M or above.
 pub record Clean (h : Matrix) (N M : ℕ) : Type 0 where
@@ -99,13 +100,13 @@ module _ (W N M : ℕ) (ws : List ℕ) where
             ]
 
         at : (c b : ℕ) → (b / 64 < W → lent W ws c b ≡ false) → lent W ws c b ≡ false
-        at c b f = elim (decLt b (W * 64)) [ yes k ↦ f (omega arith) | no k ↦ behind-bits W ws c b (omega arith) ]
+        at c b f = elim (decLt b (W * 64)) [ yes k ↦ f (omega arith) | no k ↦ lent-out W ws c b (omega arith) ]
 
   -- and back
   pub bits-clean : 0 < W → ((i : ℕ) → getD ws i 0 < 2 ^ 64) → Clean (lent W ws) N M → clean W N M 0 ws ≡ true
   bits-clean w a K =
       fits-clean (λ i k. no-bits 64 (room W N M i) (getD ws i 0) (room-le W N M i) (a i) (λ b l m.
-      sym (lent-word W w ws i b m) ∙ (elim (decLt (i / W) M) [
+      sym (lent-flat W w ws i b m) ∙ (elim (decLt (i / W) M) [
         | yes t ↦ K .bits (i / W) (i % W * 64 + b) (omega (arith, room-in W N M i t))
         | no t ↦ K .checks (i / W) (i % W * 64 + b) (omega arith)
       ])))

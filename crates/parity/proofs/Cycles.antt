@@ -1,7 +1,7 @@
 -- Lemma 3 of document 000, sharp: a split of a pair with share s takes away at least s (s - 1) / 2 cycles. Assumes nothing.
-use mathlib.Core.Path.{_≡_, refl, sym, ap, _∙_}
-use mathlib.Core.Bool.{Bool, true, false, not, cond, _&&_, _||_, and-false, or-true, or-comm, and-comm}
-use Prim.Native.Nat.{ℕ, zero, suc, _+_, _*_, _-_, _≤_, _<_}
+use mathlib.Core.Path.{_≡_, refl, sym}
+use mathlib.Core.Bool.{Bool, true, false, not, cond, _&&_, and-false, or-true, or-comm, and-comm}
+use Prim.Native.Nat.{ℕ, suc, _+_, _≤_, _<_}
 use native.Mathlib.Omega.{arith}
 use native.Mathlib.Decide.{ℕ-discrete}
 use lib.Dec.{eqb}
@@ -9,7 +9,7 @@ use borrow.Author.Tests.{eq-eqb, ne-eqb}
 use Rattle.parity.specs.Finite.{one, sum, count}
 use Rattle.parity.specs.Matrix.{Matrix}
 use Rattle.parity.specs.Cycles.{share, pairs, cycles, splitOf}
-use Rattle.parity.proofs.Sums.{sum-cong, sum-le, sum-add, sum-zero, sum-point, sum-at}
+use Rattle.parity.proofs.Sums.{sum-cong, sum-le, sum-add, sum-zero, sum-at}
 use Rattle.parity.proofs.Split.{at-new-bit, at-other, at-u, at-v}
 use Rattle.parity.proofs.Pairs.{pairs-add, tri, tri-cong, row, cut, cut-cong, star}
 

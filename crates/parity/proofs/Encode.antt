@@ -1,18 +1,18 @@
 -- Every message has exactly one evenChecks. Assumes nothing.
 use mathlib.Core.Path.{_≡_, refl, sym, ap, _∙_}
 use mathlib.Core.Logic.{_↔_}
-use mathlib.Core.Bool.{Bool, true, false, not, cond, _&&_, _||_, xor, Bool·beq, and-true, and-false, and-eq-true-iff, true≢false, false≢true}
+use mathlib.Core.Bool.{Bool, true, false, not, cond, _&&_, xor, and-true, and-false, and-eq-true-iff, false≢true}
 use Prim.Native.Nat.{ℕ, zero, suc, _+_, _*_, _-_, _%_, _≤_, _<_}
 use native.Mathlib.Nat.{not-suc-le-zero}
 use native.Mathlib.Omega.{arith}
 use native.Mathlib.Decide.{ℕ-discrete}
 use lib.Dec.{eqb}
-use borrow.Author.Tests.{eq-eqb, ne-eqb, eqb-true, eqb-false, not-true, not-false}
-use Rattle.parity.specs.Finite.{one, sum, count, all, anySet}
+use borrow.Author.Tests.{eq-eqb, ne-eqb, eqb-true}
+use Rattle.parity.specs.Finite.{one, count}
 use Rattle.parity.specs.Matrix.{Matrix}
 use Rattle.parity.specs.Words.{inside, evenChecks}
-use Rattle.parity.specs.Encoding.{dependent, parityBit, rankOf, holds, encoded}
-use Rattle.parity.proofs.Sums.{Is, is-true, is-false, is, one≤1, all-at, all-of, count-suc, count-end, count-not, sum-zero}
+use Rattle.parity.specs.Encoding.{dependent, rankOf, holds, encoded}
+use Rattle.parity.proofs.Sums.{is-true, is-false, is, one≤1, all-at, all-of, count-suc, count-end, count-not, sum-zero}
 use Rattle.parity.proofs.Split.{Even, evens}
 use Rattle.parity.proofs.Extend.{inside-cong}
 use Rattle.parity.proofs.Residue.{below, below-at, anySet-of, anySet-at, the-one, inside-xor}

@@ -1,18 +1,17 @@
 -- Extending writes the one extended word whose added checks are even. Assumes nothing.
 use mathlib.Core.Path.{_≡_, refl, sym, ap, _∙_}
-use mathlib.Core.Bool.{Bool, true, false, not, cond, _&&_, _||_}
-use Prim.Native.Nat.{ℕ, zero, suc, _+_, _*_, _-_, _%_, _≤_, _<_}
+use mathlib.Core.Bool.{Bool, true, false, _&&_}
+use Prim.Native.Nat.{ℕ, zero, suc, _+_, _%_, _≤_, _<_}
 use native.Mathlib.Nat.{add-suc, add-zero}
 use native.Mathlib.Omega.{arith}
 use native.Mathlib.Decide.{ℕ-discrete}
-use lib.Dec.{eqb}
 use lib.Arith.{le-zero}
-use borrow.Author.Tests.{eq-eqb, ne-eqb, eqb-true, eqb-false}
-use Rattle.parity.specs.Finite.{one, count}
+use borrow.Author.Tests.{eq-eqb, ne-eqb}
+use Rattle.parity.specs.Finite.{one}
 use Rattle.parity.specs.Matrix.{Matrix, ruleA}
 use Rattle.parity.specs.Words.{inside, odd, extended}
-use Rattle.parity.proofs.Sums.{Is, is-true, is-false, is, all-at, count-cong, count-suc, count-tail}
-use Rattle.parity.proofs.Rule.{Rule, rule}
+use Rattle.parity.proofs.Sums.{all-at, count-cong, count-suc, count-tail}
+use Rattle.parity.proofs.Rule.{rule}
 
 -- the added checks are even
 abbrev pub Added : Matrix → ℕ → ℕ → ℕ → (ℕ → Bool) → Type 0

@@ -1,5 +1,8 @@
 pub mod Bools
 pub mod Sums
+pub mod Digits
+pub mod Ones
+pub mod Lent
 pub mod Packing
 pub mod Pairs
 pub mod Split

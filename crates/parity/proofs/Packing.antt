@@ -3,42 +3,20 @@ use mathlib.Core.Path.{_≡_, refl, sym, ap, _∙_, fun-ext}
 use mathlib.Core.Bool.{Bool, true, false, and-false}
 use mathlib.Core.List.{List}
 use Prim.Native.Nat.{ℕ, zero, suc, _+_, _*_, _-_, _/_, _%_, _^_, _≤_, _<_}
-use native.Mathlib.Nat.{not-suc-le-zero, add-zero, div-one, div-add-mod', mod-lt, mul-add-div-right, mul-assoc, pow-suc, zero-div, mul-le-mul-right}
-use native.Mathlib.Numerals.{add-one}
+use native.Mathlib.Nat.{not-suc-le-zero, add-zero, div-add-mod', mod-lt, mul-add-div-right, mul-assoc, pow-suc, zero-div, mul-le-mul-right}
 use native.Mathlib.Omega.{arith}
 use native.Mathlib.Decide.{ℕ-discrete, decLt}
 use lib.Dec.{eqb}
 use lib.ListN.{getD, length, List·getD-eq-default}
 use lib.Seq.{ext-getD}
-use lib.Arith.{digits-div, digits-mod, digits-lt, lt-one}
-use lib.Pow.{pow-add, pow-pos, shr-shr, shr-lt, high}
-use borrow.Author.Tests.{lt-ltb, le-ltb}
+use lib.Arith.{digits-div, digits-mod, digits-lt}
+use lib.Pow.{pow-add, pow-pos, high}
+use borrow.Author.Tests.{lt-ltb}
 use Rattle.parity.specs.Finite.{one, sum, listFrom}
 use Rattle.parity.specs.Matrix.{Matrix, bitOf, lent, wordOf, pack}
 use Rattle.parity.proofs.Sums.{one≤1}
-
--- the lowest bit, and those above it
-pub low-bit : (w : ℕ) → one (bitOf w 0) ≡ w % 2
-unfolding bitOf
-low-bit w = rw (div-one w) (go (w % 2) (omega arith))
-  where
-    go : (r : ℕ) → r < 2 → one (eqb r 1) ≡ r
-    go zero k = refl
-    go (suc zero) k = refl
-    go (suc (suc r)) k = absurd (omega arith)
-
-pub higher : (w i : ℕ) → bitOf w (1 + i) ≡ bitOf (w / 2) i
-unfolding bitOf
-higher w i = rw (← shr-shr w 1 i)
-
--- a number is its bits
-pub same-bits : (k x y : ℕ) → x < 2 ^ k → y < 2 ^ k → ((i : ℕ) → i < k → bitOf x i ≡ bitOf y i) → x ≡ y
-same-bits zero x y a b f = lt-one a ∙ sym (lt-one b)
-same-bits (suc k) x y a b f =
-    let r = same-bits k (x / 2) (y / 2) (shr-lt k 1 (rw (add-one k) a)) (shr-lt k 1 (rw (add-one k) b))
-    (λ i l. sym (higher x i) ∙ f (1 + i) (omega arith) ∙ higher y i) in
-    let q : x % 2 ≡ y % 2 = sym (low-bit x) ∙ ap one (f 0 (omega arith)) ∙ low-bit y in
-    omega arith
+use Rattle.parity.proofs.Digits.{same-bits}
+use Rattle.parity.proofs.Lent.{lent-out, lent-word}
 
 -- the entries of a list that a function gives
 pub length-listFrom : (i n : ℕ) (f : ℕ → ℕ) → length (listFrom i n f) ≡ n
@@ -116,11 +94,6 @@ module _ (W : ℕ) (h : Matrix) where
         | no k ↦ rw (List·getD-eq-default (pack W h) 0 {n = i} (omega (arith, pack-length))) (pow-pos 64)
       ]
 
--- nothing stands behind the words
-pub behind-bits : (W : ℕ) (ws : List ℕ) (c b : ℕ) → W * 64 ≤ b → lent W ws c b ≡ false
-unfolding lent
-behind-bits W ws c b k = rw (le-ltb b (W * 64) k)
-
 pub behind-checks : (W : ℕ) (ws : List ℕ) → length ws ≡ 512 * W → (c b : ℕ) → 512 ≤ c → lent W ws c b ≡ false
 unfolding lent bitOf
 behind-checks W ws e c b k =
@@ -142,7 +115,7 @@ lent-packed W h f g = fun-ext (λ c. fun-ext (λ b. at c b))
     at : (c b : ℕ) → lent W (pack W h) c b ≡ h c b
     at c b =
         elim (decLt b (W * 64)) [
-          | no l ↦ behind-bits W (pack W h) c b (omega arith) ∙ sym (g c b (omega arith))
+          | no l ↦ lent-out W (pack W h) c b (omega arith) ∙ sym (g c b (omega arith))
           | yes l ↦ elim (decLt c 512) [
             | yes k ↦ lent-pack W h c b k l
             | no k ↦ behind-checks W (pack W h) (pack-length W h) c b (omega arith) ∙ sym (f c b (omega arith))
@@ -150,20 +123,18 @@ lent-packed W h f g = fun-ext (λ c. fun-ext (λ b. at c b))
         ]
 
 -- bit b of word i
-pub lent-word : (W : ℕ) → 0 < W → (ws : List ℕ) (i b : ℕ) → b < 64 → lent W ws (i / W) (i % W * 64 + b) ≡ bitOf (getD ws i 0) b
-unfolding lent
-lent-word W w ws i b k =
-    rw (lt-ltb (i % W * 64 + b) (W * 64) (digits-lt (mod-lt i w) k), digits-div (i % W) k, digits-mod (i % W) k, div-add-mod' i W)
+pub lent-flat : (W : ℕ) → 0 < W → (ws : List ℕ) (i b : ℕ) → b < 64 → lent W ws (i / W) (i % W * 64 + b) ≡ bitOf (getD ws i 0) b
+lent-flat W p ws i b k = lent-word W ws (i / W) (i % W) b (mod-lt i p) k ∙ rw (div-add-mod' i W)
 
 -- two lists of machine words that hold the same matrix are the same list
 pub words-same : (W : ℕ) → 0 < W → (ws vs : List ℕ) → length ws ≡ length vs → ((i : ℕ) → getD ws i 0 < 2 ^ 64) → ((i : ℕ) → getD vs i 0 < 2 ^ 64)
     → lent W ws ≡ lent W vs → ws ≡ vs
 words-same W w ws vs e a b f =
     ext-getD 0 ws vs e (λ i l. same-bits 64 (getD ws i 0) (getD vs i 0) (a i) (b i) (λ j k.
-    sym (lent-word W w ws i j k) ∙ ap (λ (h : Matrix). h (i / W) (i % W * 64 + j)) f ∙ lent-word W w vs i j k))
+    sym (lent-flat W w ws i j k) ∙ ap (λ (h : Matrix). h (i / W) (i % W * 64 + j)) f ∙ lent-flat W w vs i j k))
 
 -- packing what was read
 pub pack-lent : (W : ℕ) → 0 < W → (ws : List ℕ) → length ws ≡ 512 * W → ((i : ℕ) → getD ws i 0 < 2 ^ 64) → pack W (lent W ws) ≡ ws
 pack-lent W w ws e a =
     words-same W w (pack W (lent W ws)) ws (pack-length W (lent W ws) ∙ sym e) (pack-lt W (lent W ws)) a
-    (lent-packed W (lent W ws) (behind-checks W ws e) (behind-bits W ws))
+    (lent-packed W (lent W ws) (behind-checks W ws e) (lent-out W ws))

@@ -1,15 +1,14 @@
 -- Peeling a word that a codeword solves. Assumes nothing.
-use mathlib.Core.Path.{_≡_, refl, sym, ap, _∙_}
-use mathlib.Core.Bool.{Bool, true, false, not, cond, _&&_, _||_, and-eq-true-iff, true≢false, false≢true}
-use Prim.Native.Nat.{ℕ, zero, suc, _+_, _*_, _-_, _%_, _≤_, _<_}
+use mathlib.Core.Path.{_≡_, ap, _∙_}
+use mathlib.Core.Bool.{Bool, true, false}
+use Prim.Native.Nat.{ℕ, _<_}
 use native.Mathlib.Omega.{arith}
-use lib.Dec.{eqb, ltb}
-use Rattle.parity.specs.Finite.{one, anySet}
+use Rattle.parity.specs.Finite.{one}
 use Rattle.parity.specs.Matrix.{Matrix}
-use Rattle.parity.specs.Words.{inside, residue, solves, erased, isOne, peels, peeled}
-use Rattle.parity.proofs.Sums.{Is, is-true, is-false, is, one≤1}
+use Rattle.parity.specs.Words.{residue, solves, erased, isOne, peels, peeled}
+use Rattle.parity.proofs.Sums.{is-true, is-false, is, one≤1}
 use Rattle.parity.proofs.Extend.{inside-cong}
-use Rattle.parity.proofs.Residue.{below, below-at, anySet-of, anySet-at, the-one, Solves, solve, unique}
+use Rattle.parity.proofs.Residue.{below, below-at, anySet-of, the-one, Solves, solve, unique}
 
 module _ (h : Matrix) (N M : ℕ) (w : ℕ → ℕ) (y : ℕ → Bool) (s : Solves h N M (erased w) (residue h N M (erased w)) (isOne w) y) where
   found : solves h N M (erased w) (residue h N M (erased w)) (isOne w) (below N y) ≡ true

@@ -1,16 +1,16 @@
 -- The pair that orthogonalising splits, and when there is none. Assumes nothing.
-use mathlib.Core.Path.{_≡_, refl, sym, ap, _∙_}
-use mathlib.Core.Bool.{Bool, true, false, not, cond, _&&_, _||_, and-eq-true-iff}
-use Prim.Native.Nat.{ℕ, zero, suc, _+_, _*_, _-_, _≤_, _<_}
+use mathlib.Core.Path.{_≡_, refl, sym, _∙_}
+use mathlib.Core.Bool.{_&&_, and-eq-true-iff}
+use Prim.Native.Nat.{ℕ, zero, suc, _≤_, _<_}
 use mathlib.Core.Logic.{_↔_}
 use native.Mathlib.Omega.{arith}
 use native.Mathlib.Decide.{decLt}
 use lib.Dec.{eqb, ltb}
 use borrow.Author.Tests.{eq-eqb, eqb-true, lt-ltb, ltb-true}
-use Rattle.parity.specs.Finite.{one, sum, count, all, any, most, least}
+use Rattle.parity.specs.Finite.{sum, any, most}
 use Rattle.parity.specs.Matrix.{Matrix}
 use Rattle.parity.specs.Cycles.{share, pairs, cycles, largestShare, lowerBit, higherBit}
-use Rattle.parity.proofs.Sums.{sum-zero, sum-ge, most-le, most-at, any-of, any-at, least-at, least-min}
+use Rattle.parity.proofs.Sums.{sum-zero, sum-ge, most-le, most-at, any-of, least-at, least-min}
 use Rattle.parity.proofs.Pairs.{pairs-suc}
 
 -- The pair of the largest share, then of the smallest lower bit, then of the smallest higher bit.

@@ -1,18 +1,17 @@
 -- The residue is the largest stopping set inside the erased bits, and what peeling writes outside it is unique. Assumes nothing.
-use mathlib.Core.Path.{_≡_, refl, sym, ap, _∙_, fun-ext, subst}
+use mathlib.Core.Path.{_≡_, refl, sym, _∙_, fun-ext}
 use mathlib.Core.Logic.{_↔_}
-use mathlib.Core.Bool.{Bool, true, false, not, cond, _&&_, _||_, xor, Bool·beq, and-false, or-true, or-false, and-eq-true-iff, true≢false, false≢true}
-use Prim.Native.Nat.{ℕ, zero, suc, _+_, _*_, _-_, _%_, _≤_, _<_}
-use native.Mathlib.Nat.{not-suc-le-zero}
+use mathlib.Core.Bool.{Bool, true, false, not, _&&_, _||_, xor, Bool·beq, and-false, or-true, and-eq-true-iff, false≢true}
+use Prim.Native.Nat.{ℕ, zero, suc, _+_, _*_, _%_, _≤_, _<_}
 use native.Mathlib.Omega.{arith}
 use native.Mathlib.Decide.{ℕ-discrete, decLt}
 use lib.Dec.{eqb, ltb}
-use borrow.Author.Tests.{eq-eqb, ne-eqb, eqb-true, eqb-false, lt-ltb, le-ltb, not-true}
-use Rattle.parity.specs.Finite.{one, sum, count, all, anySet}
+use borrow.Author.Tests.{eq-eqb, ne-eqb, eqb-true, lt-ltb, le-ltb}
+use Rattle.parity.specs.Finite.{one, count, all, anySet}
 use Rattle.parity.specs.Matrix.{Matrix}
-use Rattle.parity.specs.Words.{inside, stopping, within, residue, solves, erased, isOne, peels, peeled}
-use Rattle.parity.proofs.Sums.{Is, is-true, is-false, is, all-at, all-of, one-le, count-pos, count-at, count-cong, sum-le, sum-cong, sum-add}
-use Rattle.parity.proofs.Split.{Stops, Even, stops}
+use Rattle.parity.specs.Words.{inside, stopping, within, residue, solves}
+use Rattle.parity.proofs.Sums.{is-true, is-false, is, all-at, all-of, one-le, count-pos, count-at, count-cong, sum-le, sum-cong, sum-add}
+use Rattle.parity.proofs.Split.{Stops, stops}
 use Rattle.parity.proofs.Bools.{then, when, or-else, beq-same, beq-refl, differ, xor-self}
 use Rattle.parity.proofs.Extend.{inside-cong}
 

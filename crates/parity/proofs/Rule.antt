@@ -1,20 +1,20 @@
 -- A split keeps rule A. Assumes nothing.
 use mathlib.Core.Path.{_≡_, refl, sym, ap, _∙_}
 use mathlib.Core.Logic.{_↔_}
-use mathlib.Core.Bool.{Bool, true, false, not, cond, _&&_, _||_, and-true, and-false, or-true, and-eq-true-iff, true≢false, false≢true}
-use Prim.Native.Nat.{ℕ, zero, suc, _+_, _*_, _-_, _≤_, _<_}
+use mathlib.Core.Bool.{Bool, true, false, not, cond, _&&_, _||_, and-true, and-eq-true-iff, true≢false, false≢true}
+use Prim.Native.Nat.{ℕ, suc, _+_, _≤_, _<_}
 use native.Mathlib.Nat.{add-suc}
 use native.Mathlib.Omega.{arith}
 use native.Mathlib.Decide.{ℕ-discrete, decLt}
 use lib.Dec.{eqb}
 use borrow.Author.Tests.{eq-eqb, ne-eqb, eqb-true, not-true}
-use Rattle.parity.specs.Finite.{one, sum, count, all}
+use Rattle.parity.specs.Finite.{one, sum, count}
 use Rattle.parity.specs.Matrix.{Matrix, noOther, ruleAt, ruleA}
 use Rattle.parity.specs.Cycles.{share, splitOf}
 use Rattle.parity.specs.Words.{inside}
-use Rattle.parity.proofs.Sums.{Is, is-true, is-false, is, all-at, all-of, one-le, one≤1, count-pos, count-two, count-cong, count-suc, sum-le, sum-cong, sum-at}
-use Rattle.parity.proofs.Split.{at-new-bit, at-other, at-apart, at-u, at-v, inside-new}
-use Rattle.parity.proofs.Cycles.{share-comm, new-other, new-u, new-v, new-z, share-uv, share-uz, share-vz}
+use Rattle.parity.proofs.Sums.{is-true, is-false, is, all-at, all-of, one-le, count-pos, count-two, count-cong, count-suc, sum-le, sum-cong, sum-at}
+use Rattle.parity.proofs.Split.{at-new-bit, at-apart, inside-new}
+use Rattle.parity.proofs.Cycles.{share-comm, new-other, new-z, share-uv, share-uz, share-vz}
 
 -- rule A for the added check m + j, as facts
 pub record Rule (h : Matrix) (n m k j : ℕ) : Type 0 where

@@ -1,13 +1,13 @@
 -- What acceptance says of the matrix itself; a split keeps it, and so does orthogonalising. Assumes nothing.
-use mathlib.Core.Path.{_≡_, refl, sym, ap, _∙_}
-use mathlib.Core.Bool.{Bool, true, false, not, cond, _&&_, _||_, and-eq-true-iff, false≢true}
-use Prim.Native.Nat.{ℕ, zero, suc, _+_, _*_, _-_, _≤_, _<_}
+use mathlib.Core.Path.{_≡_, sym, _∙_}
+use mathlib.Core.Bool.{true, and-eq-true-iff, false≢true}
+use Prim.Native.Nat.{ℕ, suc, _+_, _≤_, _<_}
 use native.Mathlib.Nat.{add-suc}
 use native.Mathlib.Omega.{arith}
 use native.Mathlib.Decide.{ℕ-discrete}
 use Rattle.parity.specs.Matrix.{Matrix, ruleAt, ruleA}
 use Rattle.parity.specs.Cycles.{share, splitOf}
-use Rattle.parity.proofs.Sums.{Is, is-true, is-false, is, all-at}
+use Rattle.parity.proofs.Sums.{is-true, is-false, is, all-at}
 use Rattle.parity.proofs.Split.{at-new-bit, at-other}
 use Rattle.parity.proofs.Cycles.{new-other}
 use Rattle.parity.proofs.Rule.{Rule, rule, at-le, split-rule}

@@ -1,17 +1,17 @@
 -- What a split does to a check, and so to stopping sets and codewords. Assumes nothing.
-use mathlib.Core.Path.{_≡_, refl, sym, ap, _∙_}
+use mathlib.Core.Path.{_≡_, refl, _∙_}
 use mathlib.Core.Bool.{Bool, true, false, not, cond, _&&_, _||_, xor, and-false, or-true, and-eq-true-iff, true≢false, false≢true}
-use Prim.Native.Nat.{ℕ, zero, suc, _+_, _*_, _-_, _%_, _≤_, _<_}
+use Prim.Native.Nat.{ℕ, suc, _+_, _%_, _<_}
 use mathlib.Core.Logic.{_↔_}
 use native.Mathlib.Omega.{arith}
 use native.Mathlib.Decide.{ℕ-discrete}
 use lib.Dec.{eqb}
 use borrow.Author.Tests.{eq-eqb, ne-eqb, eqb-true, eqb-false, not-true}
-use Rattle.parity.specs.Finite.{one, sum, count, all}
+use Rattle.parity.specs.Finite.{one, sum, count}
 use Rattle.parity.specs.Matrix.{Matrix}
-use Rattle.parity.specs.Cycles.{share, pairs, cycles, splitOf}
+use Rattle.parity.specs.Cycles.{splitOf}
 use Rattle.parity.specs.Words.{inside, stopping, evenChecks}
-use Rattle.parity.proofs.Sums.{one≤1, sum-cong, sum-le, sum-add, sum-zero, sum-point, sum-two, Is, is-true, is-false, is, all-at, all-of}
+use Rattle.parity.proofs.Sums.{one≤1, sum-cong, sum-zero, sum-two, is-true, is-false, is, all-at, all-of}
 
 module _ (h : Matrix) (N M u v : ℕ) where
   -- the entries of the split matrix

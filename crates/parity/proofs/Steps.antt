@@ -1,17 +1,16 @@
 -- Peeling step by step: whatever the order, it ends where the definition says. Assumes nothing.
 use mathlib.Core.Path.{_≡_, refl, sym, ap, _∙_}
-use mathlib.Core.Logic.{_↔_}
-use mathlib.Core.Bool.{Bool, true, false, not, cond, _&&_, _||_, and-true, and-eq-true-iff, true≢false, false≢true}
-use Prim.Native.Nat.{ℕ, zero, suc, _+_, _*_, _-_, _%_, _≤_, _<_}
+use mathlib.Core.Bool.{Bool, true, false, not, _&&_, and-eq-true-iff, true≢false}
+use Prim.Native.Nat.{ℕ, zero, suc, _%_, _≤_, _<_}
 use native.Mathlib.Omega.{arith}
 use native.Mathlib.Decide.{ℕ-discrete}
-use lib.Dec.{eqb, ltb}
+use lib.Dec.{eqb}
 use borrow.Author.Tests.{eq-eqb, ne-eqb, eqb-true, eqb-false, not-false}
-use Rattle.parity.specs.Finite.{one, sum, count, all, any, least}
+use Rattle.parity.specs.Finite.{one, count, any}
 use Rattle.parity.specs.Matrix.{Matrix}
-use Rattle.parity.specs.Words.{solved, loneCheck, loneBit, steps, agrees, inside, odd, residue, solves, erased, isOne, peels, peeled, recoveredBits, leftBits}
+use Rattle.parity.specs.Words.{solved, loneCheck, loneBit, steps, agrees, inside, odd, residue, erased, isOne, peels, peeled, recoveredBits, leftBits}
 use Rattle.parity.proofs.Bools.{or-false-both, or-else, same-test}
-use Rattle.parity.proofs.Sums.{Is, is-true, is-false, is, one≤1, all-at, all-of, all-not, count-two, count-cong, count-le, count-bound, any-of, any-at, least-at, count-at, sum-point}
+use Rattle.parity.proofs.Sums.{is-true, is-false, is, one≤1, all-at, all-not, count-two, count-cong, count-le, count-bound, any-of, least-at, count-at, sum-point}
 use Rattle.parity.proofs.Split.{Stops}
 use Rattle.parity.proofs.Extend.{odd-only, inside-cong}
 use Rattle.parity.proofs.Residue.{Within, inside-le, inside-pos, outside, anySet-at, residue-of, residue-within, residue-stops, Solves, solve}

@@ -1,12 +1,12 @@
 -- What every call answers and leaves, for all inputs: document 01's definitions behind its causes, in the order of the checks.
 -- A call that changes nothing has a reply; one that is lent a list to change has an outcome. Assumes nothing.
-use Prim.Native.Nat.{ℕ, zero, suc, _+_, _*_, _-_}
-use mathlib.Core.Bool.{Bool, true, false, not, cond, _&&_, _||_}
+use Prim.Native.Nat.{ℕ, suc, _+_, _-_}
+use mathlib.Core.Bool.{Bool, not, cond, _&&_, _||_}
 use mathlib.Core.List.{List, [], _∷_, _++_}
-use lib.Dec.{eqb, ltb, leb}
+use lib.Dec.{eqb, ltb}
 use lib.ListN.{getD, length, drop}
 use Rattle.parity.specs.Finite.{one, any, least, listFrom}
-use Rattle.parity.specs.Matrix.{Matrix, lent, pack, cause}
+use Rattle.parity.specs.Matrix.{lent, pack, cause}
 use Rattle.parity.specs.Cycles.{share, cycles, splitOf, Orthogonalised, orthogonal}
 use Rattle.parity.specs.Words.{isOne, codeword, extended, stopping, peels, peeled, recoveredBits, leftBits}
 use Rattle.parity.specs.Record.{Loaded, faulty, loaded, loading, written}

@@ -1,6 +1,6 @@
 -- Document 01, 'Causes and numbers': replies, and the number and values of each refusal. Assumes nothing.
 use Prim.Native.Nat.{ℕ}
-use mathlib.Core.Bool.{Bool, true, false, cond}
+use mathlib.Core.Bool.{Bool, cond}
 use mathlib.Core.List.{List, [], _∷_}
 use lib.Dec.{eqb}
 use Rattle.parity.specs.Matrix.{cause}

@@ -1,15 +1,15 @@
 -- Document 01, 'The words of demand 3': lists of calls, and demand 3 as one statement over what the calls answer and leave. Assumes nothing.
-use Prim.Native.Nat.{ℕ, zero, suc, _+_, _≤_, _<_}
+use Prim.Native.Nat.{ℕ, _+_, _≤_, _<_}
 use mathlib.Core.Path.{_≡_}
 use mathlib.Core.Logic.{_↔_}
-use mathlib.Core.Bool.{Bool, true, false, cond, _||_}
+use mathlib.Core.Bool.{Bool, cond, _||_}
 use mathlib.Core.List.{List, [], _∷_, _++_}
 use lib.Dec.{eqb}
 use lib.ListN.{getD, length, take, replicate}
 use Rattle.parity.specs.Finite.{listFrom}
 use Rattle.parity.specs.Matrix.{cause}
 use Rattle.parity.specs.Cycles.{pairs}
-use Rattle.parity.specs.Causes.{Reply, answer, Outcome}
+use Rattle.parity.specs.Causes.{Reply, answer}
 use Rattle.parity.specs.Calls.{byteOf, countReply, splitOutcome, orthogonaliseOutcome, verifyReply, extendOutcome, peelOutcome}
 
 -- The list's calls are splits, of any two numbers, and orthogonalisings.

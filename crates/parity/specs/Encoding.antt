@@ -1,6 +1,6 @@
 -- Document 01, 'Encoding': parity bits, the rank, encoding, for a matrix with k = 0. Assumes nothing.
-use Prim.Native.Nat.{ℕ, zero, suc, _+_, _%_}
-use mathlib.Core.Bool.{Bool, true, false, not, _&&_, _||_, Bool·beq}
+use Prim.Native.Nat.{ℕ, _%_}
+use mathlib.Core.Bool.{Bool, not, _&&_, _||_, Bool·beq}
 use lib.Dec.{eqb}
 use Rattle.parity.specs.Finite.{one, count, all, anySet}
 use Rattle.parity.specs.Matrix.{Matrix}

@@ -3,9 +3,9 @@ use Prim.Native.Nat.{ℕ, zero, suc, _+_, _*_, _/_, _%_}
 use mathlib.Core.Bool.{Bool, true, false, cond, _||_}
 use mathlib.Core.List.{List, [], _∷_, _++_}
 use lib.Dec.{eqb, ltb}
-use lib.ListN.{getD, length, take, drop, replicate}
+use lib.ListN.{getD, length, drop, replicate}
 use Rattle.parity.specs.Finite.{listFrom}
-use Rattle.parity.specs.Causes.{Reply, Outcome}
+use Rattle.parity.specs.Causes.{Reply}
 use Rattle.parity.specs.Calls.{byteOf, loadOutcome, orthogonaliseOutcome, peelOutcome}
 
 -- the number in the four bytes from place p on, highest byte first

@@ -1,7 +1,7 @@
 -- Document 01, 'Words, peeling': words, codewords, verifying, extending, stopping sets, the residue, peeling. Assumes nothing.
 -- A word gives each bit its byte; a set of bits says of each bit whether it is in it. N bits and M checks are looked at.
-use Prim.Native.Nat.{ℕ, zero, suc, _+_, _*_, _-_, _%_}
-use mathlib.Core.Bool.{Bool, true, false, not, cond, _&&_, _||_, Bool·beq}
+use Prim.Native.Nat.{ℕ, zero, suc, _+_, _%_}
+use mathlib.Core.Bool.{Bool, not, cond, _&&_, _||_, Bool·beq}
 use lib.Dec.{eqb, leb}
 use Rattle.parity.specs.Finite.{one, count, all, any, least, anySet}
 use Rattle.parity.specs.Matrix.{Matrix}

@@ -1,0 +1,5 @@
+pub mod Next
+pub mod Fill
+pub mod Zeros
+pub mod Three
+pub mod Alone

@@ -1,0 +1,45 @@
+-- `rule::alone` meets its contract. Assumes nothing.
+use mathlib.Core.Path.{_≡_}
+use Prim.Native.Nat.{_-_, _≤_}
+use native.Mathlib.Omega.{arith}
+use borrow.Author.Needs.{needs}
+use Rattle.matrix.specs.Three.{othersIn}
+use Rattle.matrix.specs.Zeros.{Zeros}
+use Rattle.matrix.proofs.Zeros.{zeros-none, zeros-more}
+use Rattle.matrix.proofs.Alone.{alone-law}
+use Rattle.matrix.proofs.rule.alone.Statement.{statement}
+use Rattle.matrix.proofs.rule.alone.Tie as tie
+
+abbrev Inv-loop : tie.InvT-loop
+Inv-loop cols x y z c acc₀ i₀ acc i = (i ≤ 8) × Zeros 0 i (othersIn cols x y z c) acc
+
+abbrev μ-loop : tie.MeasureT-loop
+μ-loop cols x y z c acc₀ i₀ acc i = 8 - i
+
+loop-holds : tie.Need-loop-holds Inv-loop μ-loop
+loop-holds c = (omega arith, zeros-none _ _)
+
+others-requires : tie.Need-others-requires Inv-loop μ-loop
+others-requires c κs = search needs
+
+add-i : tie.Need-add-i Inv-loop μ-loop
+add-i c = search needs
+
+loop-less : tie.Need-loop-less Inv-loop μ-loop
+loop-less c = search needs
+
+loop-again : tie.Need-loop-again Inv-loop μ-loop
+loop-again c = (omega arith, zeros-more _ _ _ _ _ (omega arith) (c .before .before .loop .inv .1) (c .others .ensures))
+
+returns : tie.Need-returns Inv-loop μ-loop
+returns c =
+    let k = c .before .before in
+    let s = k .before in
+    let e : c .before .loop .i ≡ 8 = omega arith in
+    alone-law (s .args .cols .now) (s .args .x) (s .args .y) (s .args .z) (s .args .c) (omega arith) (λ i. omega (arith, k .shared-slice-known .given i))
+    _ (rw e at (c .before .loop .inv .1))
+
+pub alone-spec : {M : Type 1} → statement M
+alone-spec =
+    tie.close
+    (tie.spec Inv-loop μ-loop loop-holds others-requires add-i loop-less loop-again returns)

@@ -1,0 +1,4 @@
+pub mod Acceptance
+pub mod Rows
+pub mod Three
+pub mod Zeros

@@ -1,0 +1,55 @@
+// The lent matrix on its 4,096 words: single bits, the ones of a check, columns, and acceptance by causes 1 to 4.
+pub mod bits;
+pub mod columns;
+pub mod ones;
+mod outside;
+mod rule;
+
+use crate::outside::is_clean;
+use crate::rule::rule_a;
+use parity::Refusal;
+ghost use mathlib.Core.Path.{_≡_};
+ghost use Rattle.parity.specs.Matrix.{inRange};
+ghost use Rattle.parity.specs.Calls.{acceptReply};
+ghost use Rattle.matrix.specs.Acceptance.{acceptanceReply};
+
+// Whether a lent matrix is accepted.
+pub enum Acceptance {
+    Accepted,
+    Refused(Refusal),
+}
+
+// Whether n, m and k are within their ranges.
+fn in_range(n: usize, m: usize, k: usize) -> bool
+    ensures { λ r. ⌜ r ≡ inRange n m k ⌝ }
+{
+    if n < 1 {
+        return false;
+    }
+    if 120 < n {
+        return false;
+    }
+    if 120 < m {
+        return false;
+    }
+    k <= 392
+}
+
+// Accepts a lent matrix, or refuses it by the first of causes 1 to 4 that holds.
+pub fn accept(words: &[u64], n: usize, m: usize, k: usize) -> Acceptance
+    ensures { λ r. ⌜ acceptanceReply r ≡ acceptReply (now (words .entry)) n m k ⌝ }
+{
+    if words.len() != 4096 {
+        return Acceptance::Refused(Refusal::MatrixLength);
+    }
+    if !in_range(n, m, k) {
+        return Acceptance::Refused(Refusal::OutOfRange);
+    }
+    if !is_clean(words, n + k, m + k) {
+        return Acceptance::Refused(Refusal::OneOutside);
+    }
+    if !rule_a(words, n, m, k) {
+        return Acceptance::Refused(Refusal::RuleABroken);
+    }
+    Acceptance::Accepted
+}

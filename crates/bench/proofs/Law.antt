@@ -1,52 +1,38 @@
 -- A case whose test is true holds: the test, turned into the calls' definitions. Assumes nothing.
-use mathlib.Core.Path.{_≡_, refl, sym, ap, _∙_}
-use mathlib.Core.Bool.{Bool, true, false, not, _&&_, and-eq-true-iff, false≢true}
+use mathlib.Core.Path.{_≡_, ap, _∙_}
+use mathlib.Core.Bool.{true, false, not, _&&_, and-eq-true-iff, false≢true}
 use mathlib.Core.List.{List, [], _∷_}
-use Prim.Native.Nat.{ℕ, _+_, _-_, _≤_, _<_}
+use Prim.Native.Nat.{ℕ, _+_, _-_}
 use native.Mathlib.Omega.{arith}
 use lib.Dec.{eqb, ltb}
 use lib.ListN.{length}
-use borrow.Author.Tests.{eqb-true, eq-eqb, ltb-false, not-true}
-use Rattle.parity.specs.Finite.{one, count, any, listFrom}
-use Rattle.parity.specs.Matrix.{Matrix, lent, pack, cause}
+use borrow.Author.Tests.{eqb-true, eq-eqb, not-true}
+use Rattle.parity.specs.Finite.{one, count, listFrom}
+use Rattle.parity.specs.Matrix.{Matrix, lent, pack}
 use Rattle.parity.specs.Cycles.{share, cycles, Orthogonalised, orthogonal}
-use Rattle.parity.specs.Words.{erased, isOne, peels, peeled, steps, agrees}
+use Rattle.parity.specs.Words.{erased, isOne, steps, agrees}
 use Rattle.parity.specs.Record.{Loaded, faulty, loaded, loading}
 use Rattle.parity.specs.Encoding.{rankOf, encoded}
 use Rattle.parity.specs.Causes.{Reply, answer, refusal, accepting}
-use Rattle.parity.specs.Calls.{byteOf, notPair, wrongByte, loadedReply, loadOutcome, countReply, splitReply, splitOutcome, orthogonalisedReply, orthogonaliseOutcome, peelReply, peelOutcome, rankReply, encodeReply, encodeOutcome}
-use Rattle.parity.proofs.Sums.{any-of}
-use Rattle.parity.proofs.Packing.{listFrom-cong}
+use Rattle.parity.specs.Calls.{byteOf, notPair, wrongByte, loadedReply, loadOutcome, splitReply, splitOutcome, orthogonalisedReply}
 use Rattle.parity.proofs.Sound.{Sound}
 use Rattle.parity.proofs.Orthogonal.{orthogonal-sound}
-use Rattle.parity.proofs.Accept.{accepting-answers}
-use Rattle.parity.proofs.Steps.{peel-steps}
+use Rattle.parity.proofs.Accept.{Accepted, accepts, accepting-answers}
+use Rattle.parity.proofs.Replies.{Word, right-bytes, counts, orthogonalises as all-orthogonalises, peel-made, peel-refused, ranks, encodes-list}
+use Rattle.parity.proofs.Steps.{Ended, peel-steps}
 use Rattle.bench.specs.Case.{listed, Lent, Case, wordsOf, counting, orthogonalising, splitting-no-pair, splitting-below-two, peeling, peeling-contradiction, ranking, encoding, loading-faulty, Holds, AllHold}
 use Rattle.bench.specs.Test.{sameList, fits, agree, orthogonalises, isWord, peelsTo, faultyAt, test, tests}
 use Rattle.bench.proofs.Listed.{listed-sound, accepted, held, agreed, same-list}
 
 -- a word that passes the test of its length and bytes
-module _ (N top : ℕ) (w : List ℕ) (e : isWord N top w ≡ true) where
-  word-length : length w ≡ N
-  unfolding isWord
-  word-length = eqb-true _ _ (and-eq-true-iff (eqb (length w) N) _ .0 e .0)
-
-  word-bytes : wrongByte top w ≡ false
-  unfolding isWord
-  word-bytes = not-true _ (and-eq-true-iff (eqb (length w) N) _ .0 e .1)
-
-  word-at : (b : ℕ) → b < N → byteOf w b ≤ top
-  unfolding wrongByte
-  word-at b k =
-      ltb-false top (byteOf w b)
-      (not-passing (length w) (λ b. ltb top (byteOf w b)) word-bytes b (omega (arith, word-length)))
-    where
-      not-passing : (n : ℕ) (p : ℕ → Bool) → any n p ≡ false → (i : ℕ) → i < n → p i ≡ false
-      not-passing n p q i l = go (p i) refl
-        where
-          go : (t : Bool) → p i ≡ t → p i ≡ false
-          go true r = absurd (false≢true (sym q ∙ any-of n p i l r))
-          go false r = r
+is-word : (N top : ℕ) (w : List ℕ) → isWord N top w ≡ true → Word N top w
+unfolding isWord
+is-word N top w e =
+    let (p, q) = and-eq-true-iff (eqb (length w) N) (not (wrongByte top w)) .0 e in
+    record {
+      size = eqb-true (length w) N p;
+      bytes = λ b l. right-bytes top w .0 (not-true (wrongByte top w) q) b (omega (arith, eqb-true (length w) N p));
+    }
 
 -- what orthogonalising came to, where its test is true
 came-to : (o : Orthogonalised) (n m splits total k : ℕ) (after : List (List ℕ)) → Sound (o .matrix) n m (o .k)
@@ -76,69 +62,69 @@ module _ (g : Lent) (f : fits (g .n) (g .m) (g .k) (g .checks) ≡ true) where
   abbrev M : ℕ
   M = g .m + g .k
 
-  ok : cause ws (g .n) (g .m) (g .k) ≡ 0
-  ok = accepted (g .n) (g .m) (g .k) (g .checks) f
+  A : Accepted ws (g .n) (g .m) (g .k)
+  A = accepted (g .n) (g .m) (g .k) (g .checks) f
 
   same : lent 8 ws ≡ h
   same = held (g .n) (g .m) (g .k) (g .checks) f
 
-  answers : (r : Reply) → accepting ws (g .n) (g .m) (g .k) r ≡ r
-  answers r = accepting-answers ws (g .n) (g .m) (g .k) r ok
+  passes : (r : Reply) → accepting ws (g .n) (g .m) (g .k) r ≡ r
+  passes r = accepting-answers ws (g .n) (g .m) (g .k) r (accepts ws (g .n) (g .m) (g .k) .1 A)
 
   law-counting : (c : ℕ) → eqb (cycles h N M) c ≡ true → Holds (counting g c)
-  unfolding countReply
-  law-counting c e = answers _ ∙ rw (same, eqb-true (cycles h N M) c e)
+  law-counting c e = counts ws (g .n) (g .m) (g .k) A ∙ rw (same, eqb-true (cycles h N M) c e)
 
   law-orthogonalising : (splits total k : ℕ) (after : List (List ℕ))
       → orthogonalises (orthogonal (393 - g .k) h (g .n) (g .m) (g .k) 0 0) (g .n) (g .m) splits total k after ≡ true
       → Holds (orthogonalising g splits total k after)
-  unfolding orthogonaliseOutcome
   law-orthogonalising splits total k after e =
-      let o = orthogonal (393 - g .k) h (g .n) (g .m) (g .k) 0 0 in
       let S = orthogonal-sound (g .n) (g .m) (393 - g .k) h (g .k) 0 0 (listed-sound (g .n) (g .m) (g .k) (g .checks) f) in
-      let (p, q) = came-to o (g .n) (g .m) splits total k after S e in
-      rw (answers, same, ok, p, q)
+      let (p, q) = came-to (orthogonal (393 - g .k) h (g .n) (g .m) (g .k) 0 0) (g .n) (g .m) splits total k after S e in
+      all-orthogonalises ws (g .n) (g .m) (g .k) A ∙ rw (same, p, q)
 
   law-no-pair : (u v : ℕ) → notPair N u v ≡ true → Holds (splitting-no-pair g u v)
   unfolding splitOutcome splitReply
-  law-no-pair u v e = rw (answers, e)
+  law-no-pair u v e = rw (passes, e)
 
   law-below-two : (u v s : ℕ) → notPair N u v ≡ false → eqb (share h M u v) s ≡ true → ltb s 2 ≡ true → Holds (splitting-below-two g u v s)
   unfolding splitOutcome splitReply
-  law-below-two u v s e q l = rw (answers, e, same, eqb-true (share h M u v) s q, l)
+  law-below-two u v s e q l = rw (passes, e, same, eqb-true (share h M u v) s q, l)
 
-  law-peeling : (w : List ℕ) (recovered left : ℕ) (after : List ℕ) → isWord N 2 w ≡ true → peelsTo h N M w recovered left after ≡ true
-      → Holds (peeling g w recovered left after)
-  unfolding peelOutcome peelReply peelsTo
-  law-peeling w recovered left after i e =
-      let E = peel-steps h N M (byteOf w) (word-at N 2 w i) in
-      let end = steps N h N M (byteOf w) in
-      let r = count N (λ b. erased (byteOf w) b && not (erased end b)) in
-      let (e₁, s) = and-eq-true-iff (agrees h N M end && eqb r recovered && eqb (count N (erased end)) left) (sameList (listFrom 0 N end) after) .0 e in
-      let (e₂, l) = and-eq-true-iff (agrees h N M end && eqb r recovered) (eqb (count N (erased end)) left) .0 e₁ in
-      let (a, q) = and-eq-true-iff (agrees h N M end) (eqb r recovered) .0 e₂ in
-      let p : peels h N M (byteOf w) ≡ true = E .answers ∙ a in
-      let t : listFrom 0 N (peeled h N M (byteOf w)) ≡ after =
-      listFrom-cong 0 N (peeled h N M (byteOf w)) end (λ j k. E .word p (0 + j) (omega arith)) ∙ same-list (listFrom 0 N end) after s in
-      rw (answers, eq-eqb _ _ (word-length N 2 w i), word-bytes N 2 w i, same, p, t, E .recovered ∙ eqb-true r recovered q, E .left ∙ eqb-true (count N (erased end)) left l)
+  module _ (w : List ℕ) (i : isWord N 2 w ≡ true) where
+    W : Word N 2 w
+    W = is-word N 2 w i
 
-  law-contradiction : (w : List ℕ) → isWord N 2 w ≡ true → agrees h N M (steps N h N M (byteOf w)) ≡ false → Holds (peeling-contradiction g w)
-  unfolding peelOutcome peelReply
-  law-contradiction w i e =
-      let E = peel-steps h N M (byteOf w) (word-at N 2 w i) in
-      rw (answers, eq-eqb _ _ (word-length N 2 w i), word-bytes N 2 w i, same, E .answers, e)
+    abbrev end : ℕ → ℕ
+    end = steps N h N M (byteOf w)
+
+    E : Ended h N M (byteOf w) end
+    E = peel-steps h N M (byteOf w) (W .bytes)
+
+    law-peeling : (recovered left : ℕ) (after : List ℕ) → peelsTo h N M w recovered left after ≡ true → Holds (peeling g w recovered left after)
+    unfolding peelsTo
+    law-peeling recovered left after e =
+        let r = count N (λ b. erased (byteOf w) b && not (erased end b)) in
+        let (e₁, s) = and-eq-true-iff (agrees h N M end && eqb r recovered && eqb (count N (erased end)) left) (sameList (listFrom 0 N end) after) .0 e in
+        let (e₂, l) = and-eq-true-iff (agrees h N M end && eqb r recovered) (eqb (count N (erased end)) left) .0 e₁ in
+        let (a, q) = and-eq-true-iff (agrees h N M end) (eqb r recovered) .0 e₂ in
+        peel-made ws (g .n) (g .m) (g .k) A w W end (rw same E) (rw same a)
+        ∙ rw (same, E .recovered, E .left, eqb-true r recovered q, eqb-true (count N (erased end)) left l, same-list (listFrom 0 N end) after s)
+
+    law-contradiction : agrees h N M end ≡ false → Holds (peeling-contradiction g w)
+    law-contradiction e = peel-refused ws (g .n) (g .m) (g .k) A w W end (rw same E) (rw same e)
 
   law-ranking : (r : ℕ) → eqb (g .k) 0 ≡ true → eqb (rankOf h (g .n) (g .m)) r ≡ true → Holds (ranking g r)
-  unfolding rankReply
-  law-ranking r z e = rw (answers, eqb-true (g .k) 0 z, same, eqb-true (rankOf h (g .n) (g .m)) r e)
+  law-ranking r z e =
+      let k : g .k ≡ 0 = eqb-true (g .k) 0 z in
+      rw k (ranks ws (g .n) (g .m) (rw k at A) ∙ rw (same, eqb-true (rankOf h (g .n) (g .m)) r e))
 
   law-encoding : (message w : List ℕ) → eqb (g .k) 0 ≡ true → isWord (g .n - rankOf h (g .n) (g .m)) 1 message ≡ true
       → sameList (listFrom 0 (g .n) (λ b. one (encoded h (g .n) (g .m) (isOne (byteOf message)) b))) w ≡ true
       → Holds (encoding g message w)
-  unfolding encodeOutcome encodeReply
   law-encoding message w z i e held l =
-      let J = g .n - rankOf h (g .n) (g .m) in
-      rw (answers, eqb-true (g .k) 0 z, eq-eqb _ _ l, same, eq-eqb _ _ (word-length J 1 message i), word-bytes J 1 message i, same-list _ w e)
+      let k : g .k ≡ 0 = eqb-true (g .k) 0 z in
+      rw k (encodes-list ws (g .n) (g .m) (rw k at A) message held (rw same (is-word (g .n - rankOf h (g .n) (g .m)) 1 message i)) l
+      ∙ rw (same, same-list _ w e))
 
 law-loading : (source : List ℕ) (place : ℕ) → faultyAt (loading source) place ≡ true → Holds (loading-faulty source place)
 unfolding loadOutcome
@@ -163,7 +149,7 @@ law (splitting-below-two g u v s) e =
 law (peeling g w recovered left after) e =
     let (p, q) = and-eq-true-iff (fits (g .n) (g .m) (g .k) (g .checks) && isWord (g .n + g .k) 2 w) _ .0 e in
     let (f, i) = and-eq-true-iff (fits (g .n) (g .m) (g .k) (g .checks)) _ .0 p in
-    law-peeling g f w recovered left after i q
+    law-peeling g f w i recovered left after q
 law (peeling-contradiction g w) e =
     let (p, q) = and-eq-true-iff (fits (g .n) (g .m) (g .k) (g .checks) && isWord (g .n + g .k) 2 w) _ .0 e in
     let (f, i) = and-eq-true-iff (fits (g .n) (g .m) (g .k) (g .checks)) _ .0 p in

@@ -8,12 +8,12 @@ use native.Mathlib.Decide.{decLt}
 use lib.Dec.{eqb, ltb, leb}
 use lib.ListN.{length}
 use borrow.Author.Tests.{eqb-true, ne-eqb, ltb-true, leb-true}
-use Rattle.parity.specs.Matrix.{Matrix, lent, inRange, ruleA, cause}
+use Rattle.parity.specs.Matrix.{Matrix, lent, inRange, ruleA}
 use Rattle.parity.proofs.Bools.{beq-same}
 use Rattle.parity.proofs.Sums.{all-at}
 use Rattle.parity.proofs.Clean.{Clean}
 use Rattle.parity.proofs.Sound.{Sound}
-use Rattle.parity.proofs.Accept.{ranges, accepts, pack-same, pack-accepted}
+use Rattle.parity.proofs.Accept.{Accepted, ranges, pack-same, pack-accepted}
 use Rattle.bench.specs.Case.{among, listed, wordsOf}
 use Rattle.bench.specs.Test.{sameList, bitsBelow, allBelow, fits, agree}
 
@@ -53,9 +53,9 @@ module _ (n m k : ℕ) (rs : List (List ℕ)) (e : fits n m k rs ≡ true) where
         rule = r;
       }
 
-  pub accepted : cause (wordsOf rs) n m k ≡ 0
+  pub accepted : Accepted (wordsOf rs) n m k
   unfolding wordsOf
-  accepted = accepts (wordsOf rs) n m k .1 (pack-accepted (listed rs) n m k listed-sound)
+  accepted = pack-accepted (listed rs) n m k listed-sound
 
   pub held : lent 8 (wordsOf rs) ≡ listed rs
   unfolding wordsOf

@@ -18,3 +18,4 @@ pub mod Residue
 pub mod Peel
 pub mod Steps
 pub mod Encode
+pub mod Replies

@@ -96,15 +96,7 @@ unfolding inside
 inside-pos h N c s b k p q = count-pos N (λ b. h c b && s b) b k (rw (p, q))
 
 module _ (h : Matrix) (N M : ℕ) (e : ℕ → Bool) where
-  -- the residue holds each stopping set inside the erased bits
-  pub residue-of : (s : ℕ → Bool) → Stops h N M s → Within N s e → Within N s (residue h N M e)
-  unfolding residue
-  residue-of s t w b k p =
-      let r : (b : ℕ) → b < N → below N s b ≡ s b = below-at N s in
-      anySet-of N _ s
-      (rw (stops h N M (below N s) .1 (λ c l q. t c l (sym (inside-cong h N c r) ∙ q)), withins N (below N s) e .1 (λ b l q. w b l (sym (r b l) ∙ q)), r b k) p)
-
-  -- and only those
+  -- each bit of the residue is in a stopping set inside the erased bits
   pub residue-at : (b : ℕ) → residue h N M e b ≡ true → (s : ℕ → Bool) × Stops h N M s × Within N s e × (s b ≡ true)
   unfolding residue
   residue-at b q =
@@ -112,6 +104,14 @@ module _ (h : Matrix) (N M : ℕ) (e : ℕ → Bool) where
       let (t₁, t₂) = and-eq-true-iff (stopping h N M s && within N s e) (s b) .0 t in
       let (t₃, t₄) = and-eq-true-iff (stopping h N M s) (within N s e) .0 t₁ in
       (s, stops h N M s .0 t₃, withins N s e .0 t₄, t₂)
+
+  -- and the residue holds every such set
+  pub residue-of : (s : ℕ → Bool) → Stops h N M s → Within N s e → Within N s (residue h N M e)
+  unfolding residue
+  residue-of s t w b k p =
+      let r : (b : ℕ) → b < N → below N s b ≡ s b = below-at N s in
+      anySet-of N _ s
+      (rw (stops h N M (below N s) .1 (λ c l q. t c l (sym (inside-cong h N c r) ∙ q)), withins N (below N s) e .1 (λ b l q. w b l (sym (r b l) ∙ q)), r b k) p)
 
   pub residue-within : Within N (residue h N M e) e
   residue-within b k q = let (s, t, w, p) = residue-at b q in w b k p

@@ -21,7 +21,7 @@ module _ (h : Matrix) (N M u v : ℕ) where
 
   pub at-other : (c b : ℕ) → (c ≡ M → ⊥) → (b ≡ N → ⊥) → (b ≡ u → ⊥) → (b ≡ v → ⊥) → splitOf h N M u v c b ≡ h c b
   unfolding splitOf
-  at-other c b d dn du dv = rw (ne-eqb c M d, ne-eqb b N dn, ne-eqb b u du, ne-eqb b v dv)
+  at-other c b d dn du dv = simp (ne-eqb c M d, ne-eqb b N dn, ne-eqb b u du, ne-eqb b v dv)
 
   pub at-apart : (c b : ℕ) → (c ≡ M → ⊥) → (b ≡ N → ⊥) → (h c u && h c v) ≡ false → splitOf h N M u v c b ≡ h c b
   unfolding splitOf

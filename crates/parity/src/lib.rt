@@ -1,4 +1,6 @@
 // The types that the calls share: the numbers of bits and of checks, and the refusals.
+ghost use mathlib.Core.Path.{_≡_};
+ghost use Rattle.parity.specs.Causes.{refusalOf};
 
 // A bit's number: sent bits first, then added ones.
 pub struct Bit(pub usize);
@@ -38,4 +40,31 @@ pub enum Refusal {
     AddedBits,
     // 14: program input.
     ProgramInput,
+}
+
+// Document 01's number of a refusal.
+pub fn number(r: Refusal) -> u64
+    ensures { λ c. ⌜ c ≡ refusalOf r .number ⌝ }
+{
+    match r {
+        Refusal::MatrixLength => 1,
+        Refusal::OutOfRange => 2,
+        Refusal::OneOutside => 3,
+        Refusal::RuleABroken => 4,
+        Refusal::FaultyWord { place: _ } => 5,
+        Refusal::RecordTooShort { needed: _ } => 6,
+        Refusal::NotAPair => 7,
+        Refusal::ShareBelowTwo { share: _ } => 8,
+        Refusal::NoRoomToSplit => 9,
+        Refusal::NoRoomLeft {
+            splits: _,
+            sum: _,
+            k: _,
+        } => 9,
+        Refusal::WrongLength => 10,
+        Refusal::WrongByte { place: _ } => 11,
+        Refusal::Contradiction => 12,
+        Refusal::AddedBits => 13,
+        Refusal::ProgramInput => 14,
+    }
 }

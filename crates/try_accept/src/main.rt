@@ -71,10 +71,38 @@ fn rule_a() {
     with_checks(b"weight 4: ", 0b10111, 0, 4, 0, 1);
     with_checks(b"its own bit missing: ", 0b111, 0, 4, 0, 1);
     with_checks(b"a bit above its own: ", 0b110001, 0b101010, 4, 0, 2);
-    with_checks(b"a pair shared with a given check: ", 0b111, 0b10011, 4, 1, 1);
-    with_checks(b"a bit shared with a given check: ", 0b101, 0b10011, 4, 1, 1);
-    with_checks(b"a pair shared with an added check: ", 0b10011, 0b100011, 4, 0, 2);
-    with_checks(b"its bit in the next added check: ", 0b10011, 0b110100, 4, 0, 2);
+    with_checks(
+        b"a pair shared with a given check: ",
+        0b111,
+        0b10011,
+        4,
+        1,
+        1,
+    );
+    with_checks(
+        b"a bit shared with a given check: ",
+        0b101,
+        0b10011,
+        4,
+        1,
+        1,
+    );
+    with_checks(
+        b"a pair shared with an added check: ",
+        0b10011,
+        0b100011,
+        4,
+        0,
+        2,
+    );
+    with_checks(
+        b"its bit in the next added check: ",
+        0b10011,
+        0b110100,
+        4,
+        0,
+        2,
+    );
     with_checks(b"{0,1,4,5} {2,3,5}: ", 0b110011, 0b101100, 4, 0, 2);
 }
 

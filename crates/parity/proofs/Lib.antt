@@ -19,3 +19,7 @@ pub mod Peel
 pub mod Steps
 pub mod Encode
 pub mod Replies
+pub mod Common
+pub mod Refused
+pub mod Given
+pub mod Splitting

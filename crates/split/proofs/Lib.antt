@@ -1,0 +1,4 @@
+pub mod Columns
+pub mod Exchange
+pub mod RowBounds
+pub mod Turns

@@ -1,0 +1,70 @@
+-- `fill_check` meets its contract. Assumes nothing.
+use mathlib.Core.Path.{_≡_, _∙_}
+use Prim.Native.Nat.{_-_, _≤_}
+use native.Mathlib.Omega.{arith}
+use lib.ListN.{length}
+use Rattle.parity.specs.Matrix.{lent}
+use Rattle.matrix.specs.Rows.{CheckIn}
+use Rattle.matrix.proofs.Fill.{check-none, check-next}
+use borrow.Author.Needs.{needs}
+use Rattle.split.proofs.given.fill_check.Statement.{statement}
+use Rattle.split.proofs.given.fill_check.Tie as tie
+
+abbrev Inv-loop : tie.InvT-loop
+Inv-loop words cols₀ c i₀ cols i = (i ≤ 8) × (length cols ≡ 1024) × CheckIn (lent 8 words) (lent 2 cols₀) (lent 2 cols) c i
+
+abbrev μ-loop : tie.MeasureT-loop
+μ-loop words cols₀ c i₀ cols i = 8 - i
+
+loop-holds : tie.Need-loop-holds Inv-loop μ-loop
+loop-holds c = (omega arith, omega arith, check-none _ _ _)
+
+mul-fill-word : tie.Need-mul-fill-word Inv-loop μ-loop
+mul-fill-word c = search needs
+
+add-fill-word : tie.Need-add-fill-word Inv-loop μ-loop
+add-fill-word c = search needs
+
+mul-fill-word-2 : tie.Need-mul-fill-word-2 Inv-loop μ-loop
+mul-fill-word-2 c = search needs
+
+shared-slice-read-fill-word : tie.Need-shared-slice-read-fill-word Inv-loop μ-loop
+shared-slice-read-fill-word c = search needs
+
+fill-word-requires : tie.Need-fill-word-requires Inv-loop μ-loop
+fill-word-requires c κs = search needs
+
+add-i : tie.Need-add-i Inv-loop μ-loop
+add-i c = search needs
+
+loop-less : tie.Need-loop-less Inv-loop μ-loop
+loop-less c = search needs
+
+loop-again : tie.Need-loop-again Inv-loop μ-loop
+loop-again c =
+    let l = c .before .before .before .before .before .before .loop in
+    (omega arith, c .before .before .fill-word .kept .0 ∙ l .inv .1, check-next _ _ _ _ _ _ (omega arith) (l .inv .2) (c .before .before .fill-word .ensures))
+
+same-length : tie.Need-same-length Inv-loop μ-loop
+same-length c = search needs
+
+returns : tie.Need-returns Inv-loop μ-loop
+returns c = let e : c .before .loop .i ≡ 8 = omega arith in rw e at (c .before .loop .inv .2)
+
+pub fill-check-spec : {M : Type 1} → statement M
+fill-check-spec =
+    tie.close
+    (tie.spec
+    Inv-loop
+    μ-loop
+    loop-holds
+    mul-fill-word
+    add-fill-word
+    mul-fill-word-2
+    shared-slice-read-fill-word
+    fill-word-requires
+    add-i
+    loop-less
+    loop-again
+    same-length
+    returns)

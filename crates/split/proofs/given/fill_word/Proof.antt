@@ -1,0 +1,79 @@
+-- `fill_word` meets its contract. Assumes nothing.
+use mathlib.Core.Path.{_≡_, _∙_}
+use native.Mathlib.Omega.{arith}
+use lib.ListN.{length}
+use Rattle.parity.specs.Matrix.{lent}
+use Rattle.parity.proofs.Digits.{one-shl}
+use Rattle.parity.proofs.Ones.{trailing-lowest, cleared-less}
+use Rattle.matrix.proofs.Fill.{Spread, spread-none, spread-all, spread-next}
+use borrow.Author.Needs.{needs}
+use Rattle.split.proofs.given.fill_word.Statement.{statement}
+use Rattle.split.proofs.given.fill_word.Tie as tie
+
+abbrev Inv-loop : tie.InvT-loop
+Inv-loop cols₀ c i w rest₀ cols rest = (length cols ≡ 1024) × Spread (lent 2 cols₀) (lent 2 cols) c i w rest
+
+abbrev μ-loop : tie.MeasureT-loop
+μ-loop cols₀ c i w rest₀ cols rest = rest
+
+loop-holds : tie.Need-loop-holds Inv-loop μ-loop
+loop-holds c = (c .before .pre .0, spread-none _ _ _ _ (c .before .fits .w .fits))
+
+wide-requires : tie.Need-wide-requires Inv-loop μ-loop
+wide-requires c κs = search needs
+
+mul-raise : tie.Need-mul-raise Inv-loop μ-loop
+mul-raise c = omega arith
+
+add-raise : tie.Need-add-raise Inv-loop μ-loop
+add-raise c =
+    let L = trailing-lowest 64 _ (c .before .before .before .loop .inv .1 .fits) (c .before .before .loop-test .taken) in
+    omega (arith, L .short, c .before .wide .ensures)
+
+raise-requires : tie.Need-raise-requires Inv-loop μ-loop
+raise-requires c κs =
+    let L = trailing-lowest 64 _ (c .before .before .before .loop .inv .1 .fits) (c .before .before .loop-test .taken) in
+    (c .before .before .before .loop .inv .0, omega (arith, L .short, c .before .wide .ensures), omega arith)
+
+shl-rest : tie.Need-shl-rest Inv-loop μ-loop
+shl-rest c =
+    let l = c .before .before .before .before .before .before .loop in
+    let L = trailing-lowest 64 _ (l .inv .1 .fits) (c .before .before .before .before .before .loop-test .taken) in
+    omega (arith, L .short, c .before .before .before .before .wide .ensures)
+
+loop-less : tie.Need-loop-less Inv-loop μ-loop
+loop-less c =
+    let l = c .before .before .before .before .before .before .loop in
+    let L = trailing-lowest 64 _ (l .inv .1 .fits) (c .before .before .before .before .before .loop-test .taken) in
+    rw (c .before .before .before .before .wide .ensures, one-shl _ (L .short)) (cleared-less 64 _ _ (L .short) (L .here))
+
+loop-again : tie.Need-loop-again Inv-loop μ-loop
+loop-again c =
+    let l = c .before .before .before .before .before .before .loop in
+    let L = trailing-lowest 64 _ (l .inv .1 .fits) (c .before .before .before .before .before .loop-test .taken) in (
+      c .before .before .raise .kept .0 ∙ l .inv .0,
+      rw (c .before .before .raise .ensures, c .before .before .before .before .wide .ensures, one-shl _ (L .short)) (spread-next _ _ _ _ _ _ _ (l .inv .1) L),
+    )
+
+same-length : tie.Need-same-length Inv-loop μ-loop
+same-length c = search needs
+
+returns : tie.Need-returns Inv-loop μ-loop
+returns c = spread-all _ _ _ _ _ _ (c .loop-test .left) (c .before .loop .inv .1)
+
+pub fill-word-spec : {M : Type 1} → statement M
+fill-word-spec =
+    tie.close
+    (tie.spec
+    Inv-loop
+    μ-loop
+    loop-holds
+    wide-requires
+    mul-raise
+    add-raise
+    raise-requires
+    shl-rest
+    loop-less
+    loop-again
+    same-length
+    returns)

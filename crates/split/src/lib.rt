@@ -1,0 +1,78 @@
+// A split of two bits, and orthogonalising.
+mod bounds;
+mod given;
+mod merge;
+mod orthogonal;
+
+use crate::merge::split_pair;
+use crate::orthogonal::repeat;
+use cycles::is_pair;
+use cycles::shared;
+use matrix::Acceptance;
+use matrix::accept;
+use parity::Bit;
+use parity::Check;
+use parity::Refusal;
+ghost use mathlib.Core.Path.{_≡_};
+ghost use Rattle.parity.specs.Matrix.{cause};
+ghost use Rattle.parity.specs.Calls.{splitOutcome, orthogonaliseOutcome};
+ghost use Rattle.split.specs.Answers.{splittingReply, orthogonalisingReply};
+
+// What a split answers: the share of the two bits and the new k.
+pub enum Splitting {
+    Made { share: u64, k: usize },
+    Refused(Refusal),
+}
+
+// What orthogonalising answers: the number of splits, the sum of s(s-1)/2 over them, and k.
+pub enum Orthogonalising {
+    Finished { splits: u64, sum: u64, k: usize },
+    Refused(Refusal),
+}
+
+// The split of an accepted matrix, behind causes 7, 8 and 9.
+fn split_accepted(words: &mut [u64], n: usize, m: usize, k: usize, u: Bit, v: Bit) -> Splitting
+    requires { ⌜ cause (now words) n m k ≡ 0 ⌝ }
+    ensures { λ r. ⌜ splittingReply r ≡ splitOutcome (now (words .entry)) n m k (u .0) (v .0) .reply ⌝ }
+    ensures { λ r. ⌜ now (words .exit) ≡ splitOutcome (now (words .entry)) n m k (u .0) (v .0) .after ⌝ }
+{
+    let bits = n + k;
+    let checks = m + k;
+    if !is_pair(bits, u, v) {
+        return Splitting::Refused(Refusal::NotAPair);
+    }
+    let share = shared(words, checks, u, v);
+    if share < 2 {
+        return Splitting::Refused(Refusal::ShareBelowTwo { share });
+    }
+    if k == 392 {
+        return Splitting::Refused(Refusal::NoRoomToSplit);
+    }
+    split_pair(words, m, Check(checks), u, v, Bit(bits));
+    let next = k + 1;
+    Splitting::Made { share, k: next }
+}
+
+// The split of `u` and `v`: in every check that contains both, both are removed and the new bit n + k is put in; then check m + k is added,
+// containing `u`, `v` and the new bit. Refused by causes 1 to 4, 7, 8 and 9.
+pub fn split(words: &mut [u64], n: usize, m: usize, k: usize, u: Bit, v: Bit) -> Splitting
+    ensures { λ r. ⌜ splittingReply r ≡ splitOutcome (now (words .entry)) n m k (u .0) (v .0) .reply ⌝ }
+    ensures { λ r. ⌜ now (words .exit) ≡ splitOutcome (now (words .entry)) n m k (u .0) (v .0) .after ⌝ }
+{
+    match accept(words, n, m, k) {
+        Acceptance::Refused(r) => Splitting::Refused(r),
+        Acceptance::Accepted => split_accepted(words, n, m, k, u, v),
+    }
+}
+
+// Orthogonalising: repeats the split of the pair with the largest share, then the smallest lower bit, then the smallest higher bit,
+// until no pair has share two or more. Refused by causes 1 to 4, and by 9 after the splits made.
+pub fn orthogonalise(words: &mut [u64], n: usize, m: usize, k: usize) -> Orthogonalising
+    ensures { λ r. ⌜ orthogonalisingReply r ≡ orthogonaliseOutcome (now (words .entry)) n m k .reply ⌝ }
+    ensures { λ r. ⌜ now (words .exit) ≡ orthogonaliseOutcome (now (words .entry)) n m k .after ⌝ }
+{
+    match accept(words, n, m, k) {
+        Acceptance::Refused(r) => Orthogonalising::Refused(r),
+        Acceptance::Accepted => repeat(words, n, m, k),
+    }
+}

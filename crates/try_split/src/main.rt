@@ -1,0 +1,201 @@
+// Sharing, counting, splitting and orthogonalising on the bench's matrices A, C, E and L, and on a dense matrix that is refused 9.
+use cycles::Counting;
+use cycles::Sharing;
+use parity::Bit;
+use parity::Check;
+use split::Orthogonalising;
+use split::Splitting;
+ghost use mathlib.Core.Path.{_≡_};
+ghost use Prim.Native.Nat.{_≤_};
+ghost use lib.ListN.{length};
+
+fn field(head: &[u8], x: u64) {
+    io::write_all(1, head);
+    io::print_decimal(1, x);
+}
+
+fn end() {
+    io::write_all(1, b"\n");
+}
+
+fn show_count(words: &[u64], n: usize, m: usize, k: usize) {
+    match cycles::count(words, n, m, k) {
+        Counting::Cycles(c) => field(b"count ", c),
+        Counting::Refused(r) => field(b"refused ", parity::number(r)),
+    }
+    end();
+}
+
+fn show_share(words: &[u64], n: usize, m: usize, u: usize, v: usize) {
+    match cycles::share(words, n, m, 0, Bit(u), Bit(v)) {
+        Sharing::Share(s) => field(b"share ", s),
+        Sharing::Refused(r) => field(b"refused ", parity::number(r)),
+    }
+    end();
+}
+
+fn show_split(words: &mut [u64], n: usize, m: usize, u: usize, v: usize) {
+    match split::split(words, n, m, 0, Bit(u), Bit(v)) {
+        Splitting::Made { share, k } => {
+            field(b"split, share ", share);
+            field(b", k ", k as u64);
+        }
+        Splitting::Refused(r) => field(b"refused ", parity::number(r)),
+    }
+    end();
+}
+
+fn show_result(splits: u64, sum: u64, k: usize) {
+    field(b"splits ", splits);
+    field(b", sum ", sum);
+    field(b", k ", k as u64);
+    end();
+}
+
+// Orthogonalises from k = 0, and answers the k that it came to.
+fn show_orthogonalise(words: &mut [u64], n: usize, m: usize) -> usize {
+    match split::orthogonalise(words, n, m, 0) {
+        Orthogonalising::Finished { splits, sum, k } => {
+            show_result(splits, sum, k);
+            k
+        }
+        Orthogonalising::Refused(r) => {
+            field(b"refused ", parity::number(r));
+            end();
+            if let parity::Refusal::NoRoomLeft { splits, sum, k } = r {
+                show_result(splits, sum, k);
+                return k;
+            }
+            0
+        }
+    }
+}
+
+// The first word of check `c`.
+fn show_check(words: &[u64], c: usize) {
+    let at = c % 512 * 8;
+    if at < words.len() {
+        field(b" ", words[at]);
+    }
+}
+
+fn show_checks(words: &[u64]) {
+    io::write_all(1, b"checks");
+    show_check(words, 0);
+    show_check(words, 1);
+    show_check(words, 2);
+    show_check(words, 3);
+    end();
+}
+
+// A: {0,3,4,6} {1,3,5,6} {2,4,5,6}.
+fn case_a() {
+    io::write_all(1, b"A\n");
+    let mut words = [0u64; 4096];
+    words[0] = 0b1011001;
+    words[8] = 0b1101010;
+    words[16] = 0b1110100;
+    show_count(&words, 7, 3, 0);
+    show_share(&words, 7, 3, 6, 3);
+    let k = show_orthogonalise(&mut words, 7, 3);
+    show_checks(&words);
+    show_count(&words, 7, 3, k);
+}
+
+// C: {0,1,2,3} {0,1,4,5} {0,2,6}.
+fn case_c() {
+    io::write_all(1, b"C\n");
+    let mut words = [0u64; 4096];
+    words[0] = 0b1111;
+    words[8] = 0b110011;
+    words[16] = 0b1000101;
+    show_count(&words, 7, 3, 0);
+    show_split(&mut words, 7, 3, 0, 3);
+    show_split(&mut words, 7, 3, 4, 4);
+    show_split(&mut words, 7, 3, 1, 0);
+    show_checks(&words);
+}
+
+// E: {0,1,2} twice.
+fn case_e() {
+    io::write_all(1, b"E\n");
+    let mut words = [0u64; 4096];
+    words[0] = 0b111;
+    words[8] = 0b111;
+    show_count(&words, 3, 2, 0);
+    let k = show_orthogonalise(&mut words, 3, 2);
+    show_checks(&words);
+    show_count(&words, 3, 2, k);
+}
+
+// Check c of L contains (c + e) mod 23 for the eight e: the first, turned by c places.
+fn circulant(words: &mut [u64])
+    requires { ⌜ length (now words) ≡ 4096 ⌝ }
+    ensures { λ r. ⌜ length (now (words .exit)) ≡ 4096 ⌝ }
+{
+    let mut row: u64 = 0b1010010011111;
+    for c in 0..23 {
+        words[c * 8] = row;
+        row = row * 2 % 0x800000 + row / 0x400000;
+    }
+}
+
+// The ones of the first `m` checks.
+fn ones(words: &[u64], m: usize) -> u64
+    requires { ⌜ (length (now words) ≡ 4096) × (m ≤ 512) ⌝ }
+{
+    let mut n: u64 = 0;
+    for c in 0..m {
+        n = n % 65536 + matrix::ones::weight(words, Check(c)) as u64 % 65536;
+    }
+    n
+}
+
+fn case_l() {
+    io::write_all(1, b"L\n");
+    let mut words = [0u64; 4096];
+    circulant(&mut words);
+    field(b"ones ", ones(&words, 23));
+    end();
+    show_count(&words, 23, 23, 0);
+    let k = show_orthogonalise(&mut words, 23, 23);
+    show_count(&words, 23, 23, k);
+}
+
+// The next of a run of pseudo-random words.
+fn next(x: u64) -> u64 {
+    let y = x ^ (x << 13);
+    let z = y ^ (y >> 7);
+    z ^ (z << 17)
+}
+
+// 120 checks of 120 bits, about half of them ones.
+fn dense(words: &mut [u64])
+    requires { ⌜ length (now words) ≡ 4096 ⌝ }
+    ensures { λ r. ⌜ length (now (words .exit)) ≡ 4096 ⌝ }
+{
+    let mut x: u64 = 88172645463325252;
+    for c in 0..120 {
+        x = next(x);
+        words[c * 8] = x;
+        x = next(x);
+        words[c * 8 + 1] = x / 256;
+    }
+}
+
+fn case_dense() {
+    io::write_all(1, b"dense\n");
+    let mut words = [0u64; 4096];
+    dense(&mut words);
+    show_count(&words, 120, 120, 0);
+    let k = show_orthogonalise(&mut words, 120, 120);
+    show_count(&words, 120, 120, k);
+}
+
+fn main() {
+    case_a();
+    case_c();
+    case_e();
+    case_l();
+    case_dense();
+}

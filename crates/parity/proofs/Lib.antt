@@ -23,3 +23,6 @@ pub mod Common
 pub mod Refused
 pub mod Given
 pub mod Splitting
+pub mod Admit
+pub mod Firsts
+pub mod Sets

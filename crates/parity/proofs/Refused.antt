@@ -12,7 +12,7 @@ use Rattle.parity.specs.declared.Refusal.the-variants.{MatrixLength, Out
 use Rattle.parity.proofs.Accept.{Accepted, accepts, accepting-answers, accepting-refuses, accept-answers}
 
 -- no refusal has number 0
-refused-number : (r : Refusal) → refusalOf r .number ≡ 0 → ⊥
+pub refused-number : (r : Refusal) → refusalOf r .number ≡ 0 → ⊥
 refused-number MatrixLength e = omega arith
 refused-number OutOfRange e = omega arith
 refused-number OneOutside e = omega arith

@@ -63,12 +63,13 @@ is-one : (c : Bool) → one c ≡ 1 → c ≡ true
 is-one true q = refl
 is-one false q = absurd (omega arith)
 
-byte-one : (a : ℕ) → a ≤ 1 → one (eqb a 1) ≡ a
+-- bytes of 0 or 1
+pub byte-one : (a : ℕ) → a ≤ 1 → one (eqb a 1) ≡ a
 byte-one zero k = refl
 byte-one (suc zero) k = refl
 byte-one (suc (suc a)) k = absurd (omega arith)
 
-eqb-one : (c : Bool) → eqb (one c) 1 ≡ c
+pub eqb-one : (c : Bool) → eqb (one c) 1 ≡ c
 eqb-one true = refl
 eqb-one false = refl
 

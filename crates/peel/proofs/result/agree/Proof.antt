@@ -1,0 +1,72 @@
+-- `result::agree` meets its contract. Assumes nothing.
+use mathlib.Core.Bool.{or-true}
+use mathlib.Core.Path.{_≡_, refl, sym, _∙_}
+use mathlib.Core.Bool.{true}
+use mathlib.Core.Logic.{⊎-elim}
+use Prim.Native.Nat.{_-_, _≤_}
+use native.Mathlib.Omega.{arith}
+use borrow.Author.Needs.{needs}
+use borrow.Author.Tests.{not-true, not-false}
+use Rattle.parity.specs.Finite.{all}
+use Rattle.parity.specs.Matrix.{lent}
+use Rattle.parity.proofs.Sums.{all-more, all-false}
+use Rattle.parity.proofs.Sets.{odd-even, not-odd-even}
+use Rattle.peel.specs.Steps.{agreeing}
+use Rattle.peel.proofs.result.agree.Statement.{statement}
+use Rattle.peel.proofs.result.agree.Tie as tie
+
+abbrev Inv-loop : tie.InvT-loop
+Inv-loop words checks erased ones c₀ c = (c ≤ checks) × (agreeing (lent 8 words) c (lent 8 erased 0) (lent 8 ones 0) ≡ true)
+
+abbrev μ-loop : tie.MeasureT-loop
+μ-loop words checks erased ones c₀ c = checks - c
+
+loop-holds : tie.Need-loop-holds Inv-loop μ-loop
+unfolding agreeing all
+loop-holds c = (omega arith, refl)
+
+touches-requires : tie.Need-touches-requires Inv-loop μ-loop
+touches-requires c κs = search needs
+
+is-odd-requires : tie.Need-is-odd-requires Inv-loop μ-loop
+is-odd-requires c κs = search needs
+
+returns : tie.Need-returns Inv-loop μ-loop
+unfolding agreeing
+returns c = let l = c .before .before .before .before .before .loop in
+    let s = c .before .before .before .before .before .before .before .before .before in
+    sym (all-false (s .args .checks) _ (l .c) (omega arith) (rw (sym (c .before .before .before .touches .ensures) ∙ not-true (c .before .before .before .touches .result) (c .before .before .if1 .taken)) (odd-even _ (sym (c .before .is-odd .ensures) ∙ c .if2 .taken))))
+
+add-c : tie.Need-add-c Inv-loop μ-loop
+add-c c = omega arith
+
+loop-less : tie.Need-loop-less Inv-loop μ-loop
+loop-less c = omega arith
+
+loop-again : tie.Need-loop-again Inv-loop μ-loop
+unfolding agreeing
+loop-again c = let l = c .before .before .before .loop in (
+  omega arith,
+  all-more (l .c) _ (l .inv .1) (
+      ⊎-elim
+      (λ w. rw (not-odd-even _ (sym (w .1 .ensures) ∙ w .2 .left), or-true))
+      (λ w. rw (sym (c .before .touches .ensures) ∙ not-false (c .before .touches .result) (w .left))) (c .if1 .came)),
+)
+
+returns-2 : tie.Need-returns-2 Inv-loop μ-loop
+returns-2 c = let e : c .before .loop .c ≡ c .before .before .before .before .before .args .checks = omega arith in sym (rw e at (c .before .loop .inv .1))
+
+pub agree-spec : {M : Type 1} → statement M
+agree-spec =
+    tie.close
+    (tie.spec
+    Inv-loop
+    μ-loop
+    loop-holds
+    touches-requires
+    is-odd-requires
+    returns
+    add-c
+    loop-less
+    loop-again
+    returns-2)

@@ -1,0 +1,99 @@
+-- `solving::settle` meets its contract. Assumes nothing.
+use mathlib.Core.Path.{_≡_, sym, _∙_}
+use mathlib.Core.Bool.{Bool}
+use Prim.Native.Nat.{ℕ, suc, _+_, _*_, _≤_, _<_}
+use native.Mathlib.Omega.{arith}
+use borrow.Author.Needs.{needs}
+use borrow.Author.Tests.{lt-ltb}
+use lib.Dec.{ltb}
+use lib.ListN.{length}
+use Rattle.parity.specs.Finite.{one, count}
+use Rattle.parity.specs.Matrix.{lent}
+use Rattle.parity.proofs.Sums.{one≤1}
+use Rattle.peel.specs.Steps.{Reached, start, next}
+use Rattle.peel.proofs.Held.{fewer}
+use Rattle.peel.proofs.solving.settle.Statement.{statement}
+use Rattle.peel.proofs.solving.settle.Tie as tie
+
+less-work : (a b : ℕ) (x y : Bool) → a ≡ suc b → 2 * b + one x < 2 * a + one y
+less-work a b x y e = omega (arith, one≤1 x)
+
+abbrev Inv-loop : tie.InvT-loop
+Inv-loop words checks erased₀ ones₀ from₀ erased ones from = (from ≤ checks) × (length erased ≡ 8) × (length ones ≡ 8) × Reached (lent 8 words) checks (lent 8 erased₀ 0) (lent 8 ones₀ 0) (lent 8 erased 0) (lent 8 ones 0)
+
+abbrev μ-loop : tie.MeasureT-loop
+μ-loop words checks erased₀ ones₀ from₀ erased ones from = 2 * count 512 (lent 8 erased 0) + one (ltb 0 from)
+
+loop-holds : tie.Need-loop-holds Inv-loop μ-loop
+loop-holds c = let s = c .before .before .before in
+    (omega arith, s .pre .2, s .pre .3, start)
+
+next-single-requires : tie.Need-next-single-requires Inv-loop μ-loop
+next-single-requires c κs = let s = c .before .before .before .before .before in
+    (s .pre .0, s .pre .1, c .before .loop .inv .0, c .before .loop .inv .1)
+
+enum-known-single : tie.Need-enum-known-single Inv-loop μ-loop
+enum-known-single c = search needs
+
+solve-requires : tie.Need-solve-requires Inv-loop μ-loop
+solve-requires c κs = let s = c .before .before .before .before .before .before .before .before .before .before .before in
+    let l = c .before .before .before .before .before .before .before .loop in
+    let g = c .before .before .before in
+    let L = rw (g .single .given .1) at (g .before .before .next-single .ensures) in
+    (s .pre .0, omega (arith, L .check, s .pre .1), L .bit, l .inv .1, l .inv .2)
+
+loop-less : tie.Need-loop-less Inv-loop μ-loop
+loop-less c = let g = c .before .before .before .before .before .before .before .before in
+    let L = rw (g .single .given .1) at (g .before .before .next-single .ensures) in
+    less-work _ _ (ltb 0 (g .single .given .0 .0 .0)) (ltb 0 (g .before .before .before .before .loop .from)) (fewer _ _ _ _ _ _ _ _ L (c .before .before .before .before .solve .ensures))
+
+loop-again : tie.Need-loop-again Inv-loop μ-loop
+loop-again c = let g = c .before .before .before .before .before .before .before .before in
+    let l = g .before .before .before .before .loop in
+    let L = rw (g .single .given .1) at (g .before .before .next-single .ensures) in
+    let v = c .before .before .before .before in
+    (omega (arith, L .check), v .solve .kept .1 .1 .1 .0 ∙ l .inv .1, v .solve .kept .1 .1 .1 .1 .0 ∙ l .inv .2, next (l .inv .3) _ _ L (v .solve .ensures))
+
+enum-told : tie.Need-enum-told Inv-loop μ-loop
+enum-told c = search needs
+
+loop-less-2 : tie.Need-loop-less-2 Inv-loop μ-loop
+loop-less-2 c = let l = c .before .before .before .before .before .loop in
+    let p : 0 < l .from = omega arith in
+    rw (lt-ltb 0 (l .from) p) (omega arith)
+
+loop-again-2 : tie.Need-loop-again-2 Inv-loop μ-loop
+loop-again-2 c = let l = c .before .before .before .before .before .loop in
+    (omega arith, l .inv .1, l .inv .2, l .inv .3)
+
+same-length : tie.Need-same-length Inv-loop μ-loop
+same-length c = let s = c .before .before .before .before .before .before .before .before .before in
+    c .before .before .before .before .before .loop .inv .1 ∙ sym (s .pre .2)
+
+same-length-2 : tie.Need-same-length-2 Inv-loop μ-loop
+same-length-2 c = let s = c .before .before .before .before .before .before .before .before .before in
+    c .before .before .before .before .before .loop .inv .2 ∙ sym (s .pre .3)
+
+returns : tie.Need-returns Inv-loop μ-loop
+returns c = let l = c .before .before .before .before .before in
+    let N = rw (c .before .enum-told .given .1) at (c .before .before .before .next-single .ensures) in
+    record { reached = l .loop .inv .3; over = rw (c .if1 .taken) at N }
+
+pub settle-spec : {M : Type 1} → statement M
+settle-spec =
+    tie.close
+    (tie.spec
+    Inv-loop
+    μ-loop
+    loop-holds
+    next-single-requires
+    enum-known-single
+    solve-requires
+    loop-less
+    loop-again
+    enum-told
+    loop-less-2
+    loop-again-2
+    same-length
+    same-length-2
+    returns)

@@ -1,0 +1,32 @@
+-- Peeling on the sets of a word's erased bits and of its ones. Assumes nothing.
+use mathlib.Core.Path.{_≡_}
+use mathlib.Core.Bool.{Bool, not, cond, _&&_, _||_}
+use Prim.Native.Nat.{ℕ, _%_}
+use lib.Dec.{eqb}
+use Rattle.parity.specs.Finite.{one, all}
+use Rattle.parity.specs.Matrix.{Matrix}
+use Rattle.parity.specs.Words.{inside, odd}
+use Rattle.peel.specs.Next.{Lone, NoSingle}
+
+-- the word whose erased bits are e, and whose ones are o
+abbrev pub held : (ℕ → Bool) → (ℕ → Bool) → ℕ → ℕ
+held e o b = cond (e b) 2 (one (o b))
+
+-- Bit b of check c is solved: it is erased no more, and becomes the sum modulo 2 of the check's ones.
+pub record Solved (h : Matrix) (c b : ℕ) (e o e' o' : ℕ → Bool) : Type 0 where
+  pub gone : (a : ℕ) → e' a ≡ (e a && not (eqb a b))
+  pub value : (a : ℕ) → o' a ≡ (o a || (eqb a b && odd (inside h 512 c o)))
+
+-- the sets that solving steps lead to
+pub data Reached (h : Matrix) (M : ℕ) (e o : ℕ → Bool) : (ℕ → Bool) → (ℕ → Bool) → Type 0 where
+  start : Reached h M e o e o
+  next : {e₁ o₁ e₂ o₂ : ℕ → Bool} → Reached h M e o e₁ o₁ → (c b : ℕ) → Lone h M e₁ c b → Solved h c b e₁ o₁ e₂ o₂ → Reached h M e o e₂ o₂
+
+-- steps lead there, and no check has exactly one erased bit
+pub record Settled (h : Matrix) (M : ℕ) (e o e' o' : ℕ → Bool) : Type 0 where
+  pub reached : Reached h M e o e' o'
+  pub over : NoSingle h M 0 e'
+
+-- each check without an erased bit is even
+unfoldable pub agreeing : Matrix → ℕ → (ℕ → Bool) → (ℕ → Bool) → Bool
+agreeing h M e o = all M (λ c. not (eqb (inside h 512 c e) 0) || eqb (inside h 512 c o % 2) 0)

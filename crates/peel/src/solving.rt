@@ -1,0 +1,50 @@
+// Solving checks with exactly one erased bit, on the sets of the erased bits and of the ones.
+use crate::scan::Single;
+use crate::scan::next_single;
+use matrix::bits::lower;
+use matrix::bits::raise;
+use parity::Bit;
+use parity::Check;
+use word::sets::is_odd;
+ghost use mathlib.Core.Path.{_≡_};
+ghost use Prim.Native.Nat.{_<_, _≤_};
+ghost use lib.ListN.{length};
+ghost use Rattle.parity.specs.Matrix.{lent};
+ghost use Rattle.peel.specs.Steps.{Solved, Settled};
+
+// Bit `b`, the one erased bit of check `c`, becomes the sum modulo 2 of the check's ones.
+fn solve(words: &[u64], c: Check, b: Bit, erased: &mut [u64], ones: &mut [u64])
+    requires { ⌜ (length (now words) ≡ 4096) × (c .0 < 512) × (b .0 < 512) × (length (now erased) ≡ 8) × (length (now ones) ≡ 8) ⌝ }
+    ensures { λ r. ⌜ Solved (lent 8 (now (words .entry))) (c .0) (b .0) (lent 8 (now (erased .entry)) 0) (lent 8 (now (ones .entry)) 0) (lent 8 (now (erased .exit)) 0) (lent 8 (now (ones .exit)) 0) ⌝ }
+{
+    let odd = is_odd(words, c, ones);
+    let at = b.0;
+    lower(erased, 0, at);
+    if odd {
+        raise(ones, 0, at);
+    }
+}
+
+// Solves checks as long as one of the first `checks` has exactly one erased bit. The search resumes at the check found, and ends after a
+// whole pass that found none.
+pub fn settle(words: &[u64], checks: usize, erased: &mut [u64], ones: &mut [u64])
+    requires { ⌜ (length (now words) ≡ 4096) × (checks ≤ 512) × (length (now erased) ≡ 8) × (length (now ones) ≡ 8) ⌝ }
+    ensures { λ r. ⌜ Settled (lent 8 (now (words .entry))) checks (lent 8 (now (erased .entry)) 0) (lent 8 (now (ones .entry)) 0) (lent 8 (now (erased .exit)) 0) (lent 8 (now (ones .exit)) 0) ⌝ }
+{
+    let mut from: usize = 0;
+    loop {
+        let single = next_single(words, checks, from, erased);
+        match single {
+            Single::Found(c, b) => {
+                solve(words, c, b, erased, ones);
+                from = c.0;
+            }
+            Single::Nothing => {
+                if from == 0 {
+                    break;
+                }
+                from = 0;
+            }
+        }
+    }
+}

@@ -1,0 +1,22 @@
+-- Sets of bits that are given by bytes, as words of 64 bits. Assumes nothing.
+use mathlib.Core.Path.{_≡_}
+use mathlib.Core.Bool.{Bool, _&&_}
+use mathlib.Core.List.{List}
+use Prim.Native.Nat.{ℕ, _+_, _*_, _<_}
+use lib.Dec.{eqb, ltb}
+use lib.ListN.{length}
+use Rattle.parity.specs.Matrix.{bitOf, lent}
+use Rattle.parity.specs.Calls.{byteOf}
+
+-- the bits whose byte is v
+abbrev pub withByte : List ℕ → ℕ → ℕ → Bool
+withByte w v b = ltb b (length w) && eqb (byteOf w b) v
+
+-- x is word i of their set
+pub record WordOf (w : List ℕ) (v i x : ℕ) : Type 0 where
+  pub at : (j : ℕ) → j < 64 → bitOf x j ≡ withByte w v (i * 64 + j)
+
+-- the words r are their set
+pub record SetOf (w : List ℕ) (v : ℕ) (r : List ℕ) : Type 0 where
+  pub size : length r ≡ 8
+  pub at : (b : ℕ) → lent 8 r 0 b ≡ withByte w v b

@@ -1,0 +1,138 @@
+// Words and sets of bits, one byte for each bit: verifying, and testing stopping sets.
+pub mod bytes;
+pub mod extending;
+pub mod sets;
+
+use crate::bytes::first_above;
+use crate::sets::common;
+use crate::sets::is_odd;
+use crate::sets::set_of;
+use matrix::Acceptance;
+use parity::Check;
+use parity::Refusal;
+ghost use mathlib.Core.Path.{_≡_};
+ghost use Prim.Native.Nat.{_<_, _≤_};
+ghost use lib.ListN.{length};
+ghost use Rattle.parity.specs.Matrix.{lent};
+ghost use Rattle.parity.specs.Words.{isOne, evenChecks, codeword, stopping};
+ghost use Rattle.parity.specs.Calls.{byteOf, verifyReply, isStoppingReply};
+ghost use Rattle.word.specs.Answers.{admissionReply, admitReply, verifyReplyOf, stoppingReplyOf};
+
+// Whether a matrix and the bytes lent with it are taken.
+pub enum Admission {
+    Admitted,
+    Refused(Refusal),
+}
+
+// What verifying answers.
+pub enum Verified {
+    Yes,
+    No,
+    Refused(Refusal),
+}
+
+// What testing a set answers.
+pub enum Stopping {
+    Yes,
+    No,
+    Refused(Refusal),
+}
+
+// Accepts a matrix and takes its n + k bytes, none above `top`, or refuses by the first of causes 1 to 4, 10 and 11 that holds.
+pub fn admit(words: &[u64], n: usize, m: usize, k: usize, bytes: &[u8], top: u8) -> Admission
+    ensures { λ r. ⌜ admissionReply r ≡ admitReply (now (words .entry)) n m k (now (bytes .entry)) top ⌝ }
+{
+    let accepted = matrix::accept(words, n, m, k);
+    match accepted {
+        Acceptance::Refused(r) => Admission::Refused(r),
+        Acceptance::Accepted => {
+            if bytes.len() != n + k {
+                return Admission::Refused(Refusal::WrongLength);
+            }
+            let place = first_above(bytes, top);
+            if place < bytes.len() {
+                return Admission::Refused(Refusal::WrongByte { place: place });
+            }
+            Admission::Admitted
+        }
+    }
+}
+
+// Whether each of the first `checks` checks contains an even number of the set's bits.
+fn all_even(words: &[u64], checks: usize, set: &[u64]) -> bool
+    requires { ⌜ (length (now words) ≡ 4096) × (checks ≤ 512) × (length (now set) ≡ 8) ⌝ }
+    ensures { λ r. ⌜ r ≡ evenChecks (lent 8 (now (words .entry))) 512 checks (lent 8 (now (set .entry)) 0) ⌝ }
+{
+    for c in 0..checks {
+        if is_odd(words, Check(c), set) {
+            return false;
+        }
+    }
+    true
+}
+
+// Whether the bytes are a codeword of the first `checks` checks.
+fn is_codeword(words: &[u64], checks: usize, bytes: &[u8]) -> bool
+    requires { ⌜ (length (now words) ≡ 4096) × (checks ≤ 512) × (length (now bytes) ≤ 512) ⌝ }
+    ensures { λ r. ⌜ r ≡ codeword (lent 8 (now (words .entry))) (length (now (bytes .entry))) checks (byteOf (now (bytes .entry))) ⌝ }
+{
+    if first_above(bytes, 1) < bytes.len() {
+        return false;
+    }
+    let ones = set_of(bytes, 1);
+    all_even(words, checks, &ones)
+}
+
+// Verifies a word: yes exactly for codewords.
+pub fn verify(words: &[u64], n: usize, m: usize, k: usize, word: &[u8]) -> Verified
+    ensures { λ r. ⌜ verifyReplyOf r ≡ verifyReply (now (words .entry)) n m k (now (word .entry)) ⌝ }
+{
+    let admission = admit(words, n, m, k, word, 2);
+    match admission {
+        Admission::Refused(r) => Verified::Refused(r),
+        Admission::Admitted => {
+            if is_codeword(words, m + k, word) {
+                return Verified::Yes;
+            }
+            Verified::No
+        }
+    }
+}
+
+// Whether none of the first `checks` checks contains exactly one of the set's bits.
+fn none_single(words: &[u64], checks: usize, set: &[u64]) -> bool
+    requires { ⌜ (length (now words) ≡ 4096) × (checks ≤ 512) × (length (now set) ≡ 8) ⌝ }
+    ensures { λ r. ⌜ r ≡ stopping (lent 8 (now (words .entry))) 512 checks (lent 8 (now (set .entry)) 0) ⌝ }
+{
+    for c in 0..checks {
+        if common(words, Check(c), set) == 1 {
+            return false;
+        }
+    }
+    true
+}
+
+// Whether the ones of the bytes are a stopping set of the first `checks` checks.
+fn stops(words: &[u64], checks: usize, bytes: &[u8]) -> bool
+    requires { ⌜ (length (now words) ≡ 4096) × (checks ≤ 512) × (length (now bytes) ≤ 512) ⌝ }
+    ensures { λ r. ⌜ r ≡ stopping (lent 8 (now (words .entry))) (length (now (bytes .entry))) checks (isOne (byteOf (now (bytes .entry)))) ⌝ }
+{
+    let set = set_of(bytes, 1);
+    none_single(words, checks, &set)
+}
+
+// Tests a set of bits, given as bytes of 0 or 1: yes exactly for stopping sets.
+pub fn is_stopping(words: &[u64], n: usize, m: usize, k: usize, set: &[u8]) -> Stopping
+    ensures { λ r. ⌜ stoppingReplyOf r ≡ isStoppingReply (now (words .entry)) n m k (now (set .entry)) ⌝ }
+{
+    let admission = admit(words, n, m, k, set, 1);
+    match admission {
+        Admission::Refused(r) => Stopping::Refused(r),
+        Admission::Admitted => {
+            if stops(words, m + k, set) {
+                return Stopping::Yes;
+            }
+            Stopping::No
+        }
+    }
+}

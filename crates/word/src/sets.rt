@@ -1,0 +1,116 @@
+// Sets of bits, as the eight words of a row of the matrix, and the bits of a check that are in one.
+use matrix::ones::wide;
+use parity::Check;
+ghost use mathlib.Core.Path.{_≡_};
+ghost use mathlib.Core.Bool.{not};
+ghost use Prim.Native.Nat.{_<_, _≤_, min};
+ghost use lib.Dec.{eqb};
+ghost use lib.ListN.{length};
+ghost use Rattle.parity.specs.Finite.{count};
+ghost use Rattle.parity.specs.Matrix.{lent};
+ghost use Rattle.parity.specs.Words.{inside, odd};
+ghost use Rattle.word.specs.Sets.{WordOf, SetOf};
+
+// A count of bits, as a total.
+fn long(x: u32) -> u64
+    ensures { λ r. ⌜ r ≡ x ⌝ }
+{
+    x as u64
+}
+
+// The lesser of two numbers.
+fn lesser(a: usize, b: usize) -> usize
+    ensures { λ r. ⌜ r ≡ min a b ⌝ }
+{
+    if a < b {
+        return a;
+    }
+    b
+}
+
+// Word `i` of the set of the bits whose byte is `value`.
+fn word_of(bytes: &[u8], value: u8, i: usize) -> u64
+    requires { ⌜ i < 8 ⌝ }
+    ensures { λ r. ⌜ WordOf (now (bytes .entry)) value i r ⌝ }
+{
+    let first = i * 64;
+    let end = lesser(bytes.len(), first + 64);
+    let mut x: u64 = 0;
+    for b in first..end {
+        if bytes[b] == value {
+            x = x | (1 << (b - first));
+        }
+    }
+    x
+}
+
+// The set of the bits whose byte is `value`.
+pub fn set_of(bytes: &[u8], value: u8) -> [u64; 8]
+    requires { ⌜ length (now bytes) ≤ 512 ⌝ }
+    ensures { λ r. ⌜ SetOf (now (bytes .entry)) value r ⌝ }
+{
+    let mut set = [0u64; 8];
+    for i in 0..8 {
+        set[i] = word_of(bytes, value, i);
+    }
+    set
+}
+
+// Whether bit `b` is in the set.
+pub fn is_in(set: &[u64], b: usize) -> bool
+    requires { ⌜ (length (now set) ≡ 8) × (b < 512) ⌝ }
+    ensures { λ r. ⌜ r ≡ lent 8 (now (set .entry)) 0 b ⌝ }
+{
+    (set[b / 64] >> (b % 64)) % 2 == 1
+}
+
+// How many bits of the set check `c` contains.
+pub fn common(words: &[u64], c: Check, set: &[u64]) -> usize
+    requires { ⌜ (length (now words) ≡ 4096) × (c .0 < 512) × (length (now set) ≡ 8) ⌝ }
+    ensures { λ r. ⌜ r ≡ inside (lent 8 (now (words .entry))) 512 (c .0) (lent 8 (now (set .entry)) 0) ⌝ }
+{
+    let row = c.0;
+    let mut n: usize = 0;
+    for i in 0..8 {
+        n += wide(u64::count_ones(words[row * 8 + i] & set[i]));
+    }
+    n
+}
+
+// Whether check `c` contains an odd number of the set's bits.
+pub fn is_odd(words: &[u64], c: Check, set: &[u64]) -> bool
+    requires { ⌜ (length (now words) ≡ 4096) × (c .0 < 512) × (length (now set) ≡ 8) ⌝ }
+    ensures { λ r. ⌜ r ≡ odd (inside (lent 8 (now (words .entry))) 512 (c .0) (lent 8 (now (set .entry)) 0)) ⌝ }
+{
+    let row = c.0;
+    let mut acc: u64 = 0;
+    for i in 0..8 {
+        acc = acc ^ (words[row * 8 + i] & set[i]);
+    }
+    u64::count_ones(acc) % 2 == 1
+}
+
+// Whether check `c` contains a bit of the set.
+pub fn touches(words: &[u64], c: Check, set: &[u64]) -> bool
+    requires { ⌜ (length (now words) ≡ 4096) × (c .0 < 512) × (length (now set) ≡ 8) ⌝ }
+    ensures { λ r. ⌜ r ≡ not (eqb (inside (lent 8 (now (words .entry))) 512 (c .0) (lent 8 (now (set .entry)) 0)) 0) ⌝ }
+{
+    let row = c.0;
+    let mut acc: u64 = 0;
+    for i in 0..8 {
+        acc = acc | (words[row * 8 + i] & set[i]);
+    }
+    acc != 0
+}
+
+// How many bits the set has.
+pub fn size(set: &[u64]) -> u64
+    requires { ⌜ length (now set) ≡ 8 ⌝ }
+    ensures { λ r. ⌜ r ≡ count 512 (lent 8 (now (set .entry)) 0) ⌝ }
+{
+    let mut n: u64 = 0;
+    for i in 0..8 {
+        n += long(u64::count_ones(set[i]));
+    }
+    n
+}

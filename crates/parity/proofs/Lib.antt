@@ -26,3 +26,13 @@ pub mod Splitting
 pub mod Admit
 pub mod Firsts
 pub mod Sets
+pub mod Reading
+pub mod Records
+pub mod Rest
+pub mod Writing
+pub mod RoundTrip
+pub mod Chain
+pub mod Demand3
+pub mod Peeling
+pub mod Dependent
+pub mod Messages

@@ -1,9 +1,11 @@
 -- Peeling on the sets of a word's erased bits and of its ones. Assumes nothing.
 use mathlib.Core.Path.{_≡_}
 use mathlib.Core.Bool.{Bool, not, cond, _&&_, _||_}
+use mathlib.Core.List.{List}
 use Prim.Native.Nat.{ℕ, _%_}
 use lib.Dec.{eqb}
-use Rattle.parity.specs.Finite.{one, all}
+use lib.ListN.{length}
+use Rattle.parity.specs.Finite.{one, all, listFrom}
 use Rattle.parity.specs.Matrix.{Matrix}
 use Rattle.parity.specs.Words.{inside, odd}
 use Rattle.peel.specs.Next.{Lone, NoSingle}
@@ -30,3 +32,8 @@ pub record Settled (h : Matrix) (M : ℕ) (e o e' o' : ℕ → Bool) : Type 0 wh
 -- each check without an erased bit is even
 unfoldable pub agreeing : Matrix → ℕ → (ℕ → Bool) → (ℕ → Bool) → Bool
 agreeing h M e o = all M (λ c. not (eqb (inside h 512 c e) 0) || eqb (inside h 512 c o % 2) 0)
+
+-- r says whether they are, and the word w becomes the one that the sets hold, or stays
+pub record Finished (h : Matrix) (M : ℕ) (e o : ℕ → Bool) (w : List ℕ) (r : Bool) (w' : List ℕ) : Type 0 where
+  pub told : r ≡ agreeing h M e o
+  pub word : w' ≡ cond r (listFrom 0 (length w) (held e o)) w

@@ -3,8 +3,7 @@ mod result;
 mod scan;
 mod solving;
 
-use crate::result::agree;
-use crate::result::write;
+use crate::result::finish;
 use crate::solving::settle;
 use parity::Refusal;
 use word::Admission;
@@ -35,10 +34,9 @@ fn peel_word(words: &[u64], checks: usize, word: &mut [u8]) -> Peeled
     let mut ones = set_of(word, 1);
     let before = size(&erased);
     settle(words, checks, &mut erased, &mut ones);
-    if !agree(words, checks, &erased, &ones) {
+    if !finish(words, checks, word, &erased, &ones) {
         return Peeled::Refused(Refusal::Contradiction);
     }
-    write(word, &erased, &ones);
     let left = size(&erased);
     Peeled::Made {
         recovered: before - left,

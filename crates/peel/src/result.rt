@@ -8,10 +8,10 @@ ghost use Prim.Native.Nat.{_<_, _≤_};
 ghost use lib.ListN.{length};
 ghost use Rattle.parity.specs.Finite.{listFrom};
 ghost use Rattle.parity.specs.Matrix.{lent};
-ghost use Rattle.peel.specs.Steps.{held, agreeing};
+ghost use Rattle.peel.specs.Steps.{held, agreeing, Finished};
 
 // Whether each of the first `checks` checks without an erased bit is even.
-pub fn agree(words: &[u64], checks: usize, erased: &[u64], ones: &[u64]) -> bool
+fn agree(words: &[u64], checks: usize, erased: &[u64], ones: &[u64]) -> bool
     requires { ⌜ (length (now words) ≡ 4096) × (checks ≤ 512) × (length (now erased) ≡ 8) × (length (now ones) ≡ 8) ⌝ }
     ensures { λ r. ⌜ r ≡ agreeing (lent 8 (now (words .entry))) checks (lent 8 (now (erased .entry)) 0) (lent 8 (now (ones .entry)) 0) ⌝ }
 {
@@ -40,7 +40,7 @@ fn byte_at(erased: &[u64], ones: &[u64], b: usize) -> u8
 }
 
 // The word becomes the one that the sets hold.
-pub fn write(word: &mut [u8], erased: &[u64], ones: &[u64])
+fn write(word: &mut [u8], erased: &[u64], ones: &[u64])
     requires { ⌜ (length (now word) ≤ 512) × (length (now erased) ≡ 8) × (length (now ones) ≡ 8) ⌝ }
     ensures { λ r. ⌜ now (word .exit) ≡ listFrom 0 (length (now (word .entry))) (held (lent 8 (now (erased .entry)) 0) (lent 8 (now (ones .entry)) 0)) ⌝ }
 {
@@ -48,4 +48,16 @@ pub fn write(word: &mut [u8], erased: &[u64], ones: &[u64])
     for b in 0..n {
         word[b] = byte_at(erased, ones, b);
     }
+}
+
+// The word becomes the one that the sets hold if each check without an erased bit is even, and else stays. Whether they are.
+pub fn finish(words: &[u64], checks: usize, word: &mut [u8], erased: &[u64], ones: &[u64]) -> bool
+    requires { ⌜ (length (now words) ≡ 4096) × (checks ≤ 512) × (length (now word) ≤ 512) × (length (now erased) ≡ 8) × (length (now ones) ≡ 8) ⌝ }
+    ensures { λ r. ⌜ Finished (lent 8 (now (words .entry))) checks (lent 8 (now (erased .entry)) 0) (lent 8 (now (ones .entry)) 0) (now (word .entry)) r (now (word .exit)) ⌝ }
+{
+    let agreed = agree(words, checks, erased, ones);
+    if agreed {
+        write(word, erased, ones);
+    }
+    agreed
 }

@@ -104,8 +104,8 @@ fn none_single(words: &[u64], checks: usize, set: &[u64]) -> bool
     requires { ⌜ (length (now words) ≡ 4096) × (checks ≤ 512) × (length (now set) ≡ 8) ⌝ }
     ensures { λ r. ⌜ r ≡ stopping (lent 8 (now (words .entry))) 512 checks (lent 8 (now (set .entry)) 0) ⌝ }
 {
-    for c in 0..checks {
-        if common(words, Check(c), set) == 1 {
+    for d in 0..checks {
+        if common(words, Check(d), set) == 1 {
             return false;
         }
     }

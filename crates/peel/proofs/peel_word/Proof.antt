@@ -29,35 +29,27 @@ slice-aggregate-settle-2 c = search needs
 settle-requires : tie.Need-settle-requires
 settle-requires c κs = search needs
 
-slice-aggregate-agree : tie.Need-slice-aggregate-agree
-slice-aggregate-agree c = search needs
+slice-aggregate-finish : tie.Need-slice-aggregate-finish
+slice-aggregate-finish c = search needs
 
-slice-aggregate-agree-2 : tie.Need-slice-aggregate-agree-2
-slice-aggregate-agree-2 c = search needs
+slice-aggregate-finish-2 : tie.Need-slice-aggregate-finish-2
+slice-aggregate-finish-2 c = search needs
 
-agree-requires : tie.Need-agree-requires
-agree-requires c κs = search needs
+finish-requires : tie.Need-finish-requires
+finish-requires c κs = search needs
 
 same-length : tie.Need-same-length
 same-length c = search needs
 
 returns : tie.Need-returns
-returns c = let g = c .before in
-    let t = g .before .before .before .before .before in
+returns c = let g = c .before .before .before in
+    let t = g .before .before .before .before .before .before in
     let z = t .before .before .before in
     let s = z .before .before .before .before .before .before .before .before in
+    let f = not-true (g .finish .result) (c .if1 .taken) in
     let r = word-refused (lent 8 (s .args .words .now)) (s .args .checks) (s .args .word .now) _ _ (s .pre .2) (s .pre .3) (z .before .before .before .before .set-of .ensures) (z .before .before .set-of2 .ensures) _ _ (t .settle .ensures)
-    (sym (g .agree .ensures) ∙ not-true (g .agree .result) (c .if1 .taken)) in
-    (sym (ap (λ (o : Outcome). o .reply) r), sym (ap (λ (o : Outcome). o .after) r))
-
-slice-aggregate-write : tie.Need-slice-aggregate-write
-slice-aggregate-write c = search needs
-
-slice-aggregate-write-2 : tie.Need-slice-aggregate-write-2
-slice-aggregate-write-2 c = search needs
-
-write-requires : tie.Need-write-requires
-write-requires c κs = search needs
+    (sym (g .finish .ensures .told) ∙ f) in
+    (sym (ap (λ (o : Outcome). o .reply) r), (rw f at (g .finish .ensures .word)) ∙ sym (ap (λ (o : Outcome). o .after) r))
 
 slice-aggregate-size-2 : tie.Need-slice-aggregate-size-2
 slice-aggregate-size-2 c = search needs
@@ -65,25 +57,25 @@ slice-aggregate-size-2 c = search needs
 size-requires-2 : tie.Need-size-requires-2
 size-requires-2 c κs = search needs
 
-sub-t35 : tie.Need-sub-t35
-sub-t35 c = let g = c .before .before .before .before .before .before .before .before .before in
-    let t = g .before .before .before .before .before in
+sub-t31 : tie.Need-sub-t31
+sub-t31 c = let g = c .before .before .before .before .before in
+    let t = g .before .before .before .before .before .before in
     let z = t .before .before .before in
     let s = z .before .before .before .before .before .before .before .before in
-    let r = fewer-left (lent 8 (s .args .words .now)) (s .args .checks) (s .args .word .now) _ _ (s .pre .2) (s .pre .3) (z .before .before .before .before .set-of .ensures) (z .before .before .set-of2 .ensures) _ _ (t .settle .ensures) _ _ (z .size .ensures) (c .size2 .ensures) in
-    r
+    fewer-left (lent 8 (s .args .words .now)) (s .args .checks) (s .args .word .now) _ _ (s .pre .2) (s .pre .3) (z .before .before .before .before .set-of .ensures) (z .before .before .set-of2 .ensures) _ _ (t .settle .ensures) _ _ (z .size .ensures) (c .size2 .ensures)
 
 same-length-2 : tie.Need-same-length-2
 same-length-2 c = search needs
 
 returns-2 : tie.Need-returns-2
-returns-2 c = let g = c .before .before .before .before .before .before .before .before .before in
-    let t = g .before .before .before .before .before in
+returns-2 c = let g = c .before .before .before .before .before in
+    let t = g .before .before .before .before .before .before in
     let z = t .before .before .before in
     let s = z .before .before .before .before .before .before .before .before in
+    let f = not-false (g .finish .result) (c .before .before .if1 .left) in
     let r = word-made (lent 8 (s .args .words .now)) (s .args .checks) (s .args .word .now) _ _ (s .pre .2) (s .pre .3) (z .before .before .before .before .set-of .ensures) (z .before .before .set-of2 .ensures) _ _ (t .settle .ensures)
-    _ _ (z .size .ensures) (c .size2 .ensures) (sym (g .agree .ensures) ∙ not-false (g .agree .result) (c .before .before .before .before .before .before .before .before .if1 .left)) in
-    (sym (ap (λ (o : Outcome). o .reply) r), c .before .before .before .before .write .ensures ∙ sym (ap (λ (o : Outcome). o .after) r))
+    _ _ (z .size .ensures) (c .size2 .ensures) (sym (g .finish .ensures .told) ∙ f) in
+    (sym (ap (λ (o : Outcome). o .reply) r), (rw f at (g .finish .ensures .word)) ∙ sym (ap (λ (o : Outcome). o .after) r))
 
 pub peel-word-spec : {M : Type 1} → statement M
 peel-word-spec =
@@ -96,16 +88,13 @@ peel-word-spec =
     slice-aggregate-settle
     slice-aggregate-settle-2
     settle-requires
-    slice-aggregate-agree
-    slice-aggregate-agree-2
-    agree-requires
+    slice-aggregate-finish
+    slice-aggregate-finish-2
+    finish-requires
     same-length
     returns
-    slice-aggregate-write
-    slice-aggregate-write-2
-    write-requires
     slice-aggregate-size-2
     size-requires-2
-    sub-t35
+    sub-t31
     same-length-2
     returns-2)

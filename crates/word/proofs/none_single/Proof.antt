@@ -13,10 +13,10 @@ use Rattle.word.proofs.none_single.Statement.{statement}
 use Rattle.word.proofs.none_single.Tie as tie
 
 abbrev Inv-loop : tie.InvT-loop
-Inv-loop words checks set c₀ c = (c ≤ checks) × (stopping (lent 8 words) 512 c (lent 8 set 0) ≡ true)
+Inv-loop words checks set d₀ d = (d ≤ checks) × (stopping (lent 8 words) 512 d (lent 8 set 0) ≡ true)
 
 abbrev μ-loop : tie.MeasureT-loop
-μ-loop words checks set c₀ c = checks - c
+μ-loop words checks set d₀ d = checks - d
 
 loop-holds : tie.Need-loop-holds Inv-loop μ-loop
 unfolding stopping all
@@ -29,10 +29,10 @@ returns : tie.Need-returns Inv-loop μ-loop
 unfolding stopping
 returns c = let s = c .before .before .before .before .before .before in
     let l = c .before .before .before .loop in
-    sym (all-false (s .args .checks) _ (l .c) (omega arith) (rw (← c .before .common .ensures, c .if1 .taken)))
+    sym (all-false (s .args .checks) _ (l .d) (omega arith) (rw (← c .before .common .ensures, c .if1 .taken)))
 
-add-c : tie.Need-add-c Inv-loop μ-loop
-add-c c = omega arith
+add-d : tie.Need-add-d Inv-loop μ-loop
+add-d c = omega arith
 
 loop-less : tie.Need-loop-less Inv-loop μ-loop
 loop-less c = omega arith
@@ -40,10 +40,10 @@ loop-less c = omega arith
 loop-again : tie.Need-loop-again Inv-loop μ-loop
 unfolding stopping
 loop-again c = let l = c .before .before .before .loop in
-    (omega arith, all-more (l .c) _ (l .inv .1) (rw (← c .before .common .ensures, ne-eqb _ _ (c .if1 .left))))
+    (omega arith, all-more (l .d) _ (l .inv .1) (rw (← c .before .common .ensures, ne-eqb _ _ (c .if1 .left))))
 
 returns-2 : tie.Need-returns-2 Inv-loop μ-loop
-returns-2 c = let e : c .before .loop .c ≡ c .before .before .before .before .args .checks = omega arith in sym (rw e at (c .before .loop .inv .1))
+returns-2 c = let e : c .before .loop .d ≡ c .before .before .before .before .args .checks = omega arith in sym (rw e at (c .before .loop .inv .1))
 
 pub none-single-spec : {M : Type 1} → statement M
 none-single-spec =
@@ -54,7 +54,7 @@ none-single-spec =
     loop-holds
     common-requires
     returns
-    add-c
+    add-d
     loop-less
     loop-again
     returns-2)

@@ -1,0 +1,197 @@
+-- Adding a check to others keeps the codewords; and how bit b becomes the pivot of check r. Assumes nothing.
+use mathlib.Core.Path.{_≡_, refl, sym, _∙_, fun-ext}
+use mathlib.Core.Logic.{_↔_}
+use mathlib.Core.Bool.{Bool, true, false, _&&_, xor, and-false}
+use Prim.Native.Nat.{ℕ, _+_, _*_, _%_, _≤_, _<_}
+use native.Mathlib.Omega.{arith}
+use native.Mathlib.Decide.{ℕ-discrete, decLt}
+use borrow.Author.Tests.{lt-ltb, le-ltb, le-leb, lt-leb}
+use Rattle.parity.specs.Finite.{one, count}
+use Rattle.parity.specs.Matrix.{Matrix}
+use Rattle.parity.specs.Words.{inside, evenChecks}
+use Rattle.parity.proofs.Bools.{same-test}
+use Rattle.parity.proofs.Sums.{sum-add, sum-cong, count-cong}
+use Rattle.parity.proofs.Split.{Even, evens}
+use Rattle.elimination.specs.Reduction.{plus, when, cleared, Same, Pivoted}
+use Rattle.elimination.proofs.Adding.{plus-at, plus-else}
+
+pub xor-false : (a : Bool) → xor a false ≡ a
+unfolding xor
+xor-false true = refl
+xor-false false = refl
+
+pub xor-self : (a : Bool) → xor a a ≡ false
+unfolding xor
+xor-self true = refl
+xor-self false = refl
+
+-- The codewords of two matrices are the same if each is even where the other is.
+pub same-of : (h g : Matrix) (n m : ℕ) → ((x : ℕ → Bool) → Even h n m x ↔ Even g n m x) → Same h g n m
+same-of h g n m f x = same-test (evenChecks h n m x) (evenChecks g n m x)
+    (λ t. evens g n m x .1 (f x .0 (evens h n m x .0 t))) (λ t. evens h n m x .1 (f x .1 (evens g n m x .0 t)))
+
+pub same-at : (h g : Matrix) (n m : ℕ) → Same h g n m → (x : ℕ → Bool) → Even h n m x ↔ Even g n m x
+same-at h g n m s x = (λ t. evens g n m x .0 (sym (s x) ∙ evens h n m x .1 t), λ t. evens h n m x .0 (s x ∙ evens g n m x .1 t))
+
+pub same-trans : (f g h : Matrix) (n m : ℕ) → Same f g n m → Same g h n m → Same f h n m
+same-trans f g h n m s t x = s x ∙ t x
+
+-- the ones of two rows and of their sum
+both : (n : ℕ) (p q x : ℕ → Bool)
+    → count n (λ b. p b && x b) + count n (λ b. q b && x b) ≡ count n (λ b. xor (p b) (q b) && x b) + 2 * count n (λ b. p b && q b && x b)
+unfolding count xor
+both n p q x =
+    let d : ℕ → ℕ = λ b. one (xor (p b) (q b) && x b) in
+    let a : ℕ → ℕ = λ b. one (p b && q b && x b) in
+    omega (
+      arith,
+      sum-add n (λ b. one (p b && x b)) (λ b. one (q b && x b)),
+      sum-add n (λ b. d b + a b) a,
+      sum-add n d a,
+      sum-cong n {f = λ b. one (p b && x b) + one (q b && x b)} {g = λ b. d b + a b + a b} (λ b k. bits (p b) (q b) (x b)),
+    )
+  where
+    bits : (p q x : Bool) → one (p && x) + one (q && x) ≡ one (xor p q && x) + one (p && q && x) + one (p && q && x)
+    bits true true true = refl
+    bits true true false = refl
+    bits true false true = refl
+    bits true false false = refl
+    bits false true true = refl
+    bits false true false = refl
+    bits false false x = refl
+
+-- Each check of k is that of g, or it and another check p, which stays, are its sum.
+module _ (g k : Matrix) (n m : ℕ) (p : ℕ) (pm : p < m) where
+  -- check c of k is that of g with x times check p added
+  abbrev pub Plus : ℕ → Bool → Type 0
+  Plus c x = (b : ℕ) → k c b ≡ xor (g c b) (when x (g p) b)
+
+  plus-inside : (c : ℕ) (x : Bool) → Plus c x → (w : ℕ → Bool)
+      → (s : ℕ) × (inside g n c w + one x * inside g n p w ≡ inside k n c w + 2 * s)
+  unfolding inside
+  plus-inside c true f w =
+      let e : count n (λ b. k c b && w b) ≡ count n (λ b. xor (g c b) (g p b) && w b) = count-cong n (λ b l. rw (f b)) in
+      (count n (λ b. g c b && g p b && w b), rw e (omega (arith, both n (g c) (g p) w)))
+  plus-inside c false f w =
+      let e : count n (λ b. k c b && w b) ≡ count n (λ b. g c b && w b) = count-cong n (λ b l. rw (f b, xor-false (g c b))) in
+      (0, rw e (omega arith))
+
+  pub plus-same : ((b : ℕ) → k p b ≡ g p b) → ((c : ℕ) → c < m → (c ≡ p → ⊥) → (x : Bool) × Plus c x) → Same g k n m
+  plus-same own f = same-of g k n m (λ w. (
+    λ t c l. elim (ℕ-discrete c p) [
+      | yes q ↦ rw (q, row w) (t p pm)
+      | no d ↦ let (x, P) = f c l d in let (s, e) = plus-inside c x P w in forth x (inside g n c w) (inside g n p w) (inside k n c w) s e (t p pm) (t c l)
+    ],
+    λ t c l. elim (ℕ-discrete c p) [
+      | yes q ↦ rw (q, ← row w) (t p pm)
+      | no d ↦ let (x, P) = f c l d in let (s, e) = plus-inside c x P w in back x (inside g n c w) (inside g n p w) (inside k n c w) s e (rw (row w) at (t p pm)) (t c l)
+    ],
+  ))
+    where
+      row : (w : ℕ → Bool) → inside k n p w ≡ inside g n p w
+      row w = unfold inside in count-cong n (λ b l. rw (own b))
+
+      forth : (x : Bool) (G P K s : ℕ) → G + one x * P ≡ K + 2 * s → P % 2 ≡ 0 → G % 2 ≡ 0 → K % 2 ≡ 0
+      forth true G P K s e f h = omega arith
+      forth false G P K s e f h = omega arith
+
+      back : (x : Bool) (G P K s : ℕ) → G + one x * P ≡ K + 2 * s → P % 2 ≡ 0 → K % 2 ≡ 0 → G % 2 ≡ 0
+      back true G P K s e f h = omega arith
+      back false G P K s e f h = omega arith
+
+-- check p added to check c
+module _ (g : Matrix) (p c : ℕ) (d : p ≡ c → ⊥) where
+  pub added-same : (n m : ℕ) → p < m → Same g (plus c (g p) g) n m
+  added-same n m pm = plus-same g (plus c (g p) g) n m p pm (λ b. plus-else c (g p) g p b d) (λ i l e. elim (ℕ-discrete i c) [
+    | yes q ↦ (true, λ b. rw q (plus-at c (g p) g b))
+    | no s ↦ (false, λ b. plus-else c (g p) g i b s ∙ sym (xor-false (g i b)))
+  ])
+
+  -- where check p has no bit, nothing changes
+  pub added-keep : (i b : ℕ) → g p b ≡ false → plus c (g p) g i b ≡ g i b
+  added-keep i b q = elim (ℕ-discrete i c) [ yes e ↦ rw (e, plus-at c (g p) g b, q) (xor-false (g c b)) | no s ↦ plus-else c (g p) g i b s ]
+
+-- Clearing, check by check
+module _ (row : ℕ → Bool) (b : ℕ) (g : Matrix) where
+  pub cleared-in : (first end i j : ℕ) → first ≤ i → i < end → cleared row b first end g i j ≡ xor (g i j) (when (g i b) row j)
+  unfolding cleared
+  cleared-in first end i j k l = rw (le-leb first i k, lt-ltb i end l)
+
+  pub cleared-out : (first end i j : ℕ) → (first ≤ i → i < end → ⊥) → cleared row b first end g i j ≡ g i j
+  unfolding cleared
+  cleared-out first end i j d = elim (decLt i first) [
+    | yes k ↦ rw (lt-leb first i k)
+    | no k ↦ let h : first ≤ i = omega arith in rw (le-leb first i h, le-ltb i end (omega (arith, d h)))
+  ]
+
+  pub cleared-none : (first end : ℕ) → end ≤ first → g ≡ cleared row b first end g
+  cleared-none first end l = fun-ext (λ i. fun-ext (λ j. sym (cleared-out first end i j (λ k m. omega arith))))
+
+  -- one check more
+  pub cleared-more : (first c : ℕ) → first ≤ c
+      → plus c (when (cleared row b first c g c b) row) (cleared row b first c g) ≡ cleared row b first (c + 1) g
+  cleared-more first c l = fun-ext (λ i. fun-ext (λ j.
+      let k = cleared row b first c g in
+      elim (ℕ-discrete i c) [
+        | yes q ↦ rw (q, plus-at c (when (k c b) row) k j, cleared-in first (c + 1) c j l (omega arith))
+            (rw (cleared-out first c c j (λ _ m. omega arith), cleared-out first c c b (λ _ m. omega arith)))
+        | no d ↦ plus-else c (when (k c b) row) k i j d ∙ elim (decLt i first) [
+          | yes m ↦ cleared-out first c i j (λ x _. omega arith) ∙ sym (cleared-out first (c + 1) i j (λ x _. omega arith))
+          | no m ↦ elim (decLt i c) [
+            | yes y ↦ cleared-in first c i j (omega arith) y ∙ sym (cleared-in first (c + 1) i j (omega arith) (omega arith))
+            | no y ↦ cleared-out first c i j (λ _ z. omega arith) ∙ sym (cleared-out first (c + 1) i j (λ _ z. omega arith))
+          ]
+        ]
+      ]))
+
+-- Check r, which contains b, is added to each of the m checks that contains b but itself.
+module _ (g : Matrix) (m r b : ℕ) (rm : r < m) (own : g r b ≡ true) where
+  -- in two ranges
+  abbrev pub around : Matrix
+  around = cleared (g r) b (r + 1) m (cleared (g r) b 0 r g)
+
+  around-own : (j : ℕ) → around r j ≡ g r j
+  around-own j = cleared-out (g r) b (cleared (g r) b 0 r g) (r + 1) m r j (λ k l. omega arith) ∙ cleared-out (g r) b g 0 r r j (λ k l. omega arith)
+
+  around-else : (c j : ℕ) → c < m → (c ≡ r → ⊥) → around c j ≡ xor (g c j) (when (g c b) (g r) j)
+  around-else c j l d = elim (decLt c r) [
+    | yes k ↦ cleared-out (g r) b (cleared (g r) b 0 r g) (r + 1) m c j (λ x y. omega arith) ∙ cleared-in (g r) b g 0 r c j (omega arith) k
+    | no k ↦ cleared-in (g r) b (cleared (g r) b 0 r g) (r + 1) m c j (omega arith) l
+        ∙ rw (cleared-out (g r) b g 0 r c j (λ x y. omega arith), cleared-out (g r) b g 0 r c b (λ x y. omega arith))
+  ]
+
+  around-behind : (c j : ℕ) → m ≤ c → around c j ≡ g c j
+  around-behind c j l = cleared-out (g r) b (cleared (g r) b 0 r g) (r + 1) m c j (λ x y. omega arith) ∙ cleared-out (g r) b g 0 r c j (λ x y. omega arith)
+
+  pub around-pivoted : Pivoted g around m r r b
+  around-pivoted = record {
+    same = λ n. plus-same g around n m r rm around-own (λ c l d. (g c b, λ j. around-else c j l d));
+    keep = λ c j z _. elim (ℕ-discrete c r) [
+      | yes q ↦ rw q (around-own j)
+      | no d ↦ elim (decLt c m) [
+        | yes l ↦ around-else c j l d ∙ rw (z, and-false, xor-false (g c j))
+        | no l ↦ around-behind c j (omega arith)
+      ]
+    ];
+    own = around-own b ∙ own;
+    alone = λ c l d. around-else c b l d ∙ cancel (g c b);
+  }
+    where
+      cancel : (x : Bool) → xor x (when x (g r) b) ≡ false
+      cancel true = rw own (xor-self true)
+      cancel false = xor-self false
+
+-- r did not contain b, and check p was added to it first
+pub lifted : (g k : Matrix) (m p r b : ℕ) → p < m → (p ≡ r → ⊥) → g p b ≡ true → g r b ≡ false → Pivoted (plus r (g p) g) k m r r b → Pivoted g k m p r b
+lifted g k m p r b l d has out C = record {
+  same = λ n. same-trans g (plus r (g p) g) k n m (added-same g p r d n m l) (C .same n);
+  keep = λ c j z y. C .keep c j (sum j z y) (sum j z y) ∙ added-keep g p r d c j z;
+  own = C .own;
+  alone = C .alone;
+}
+  where
+    sum : (j : ℕ) → g p j ≡ false → g r j ≡ false → plus r (g p) g r j ≡ false
+    sum j z y = plus-at r (g p) g j ∙ rw (y, z) (xor-self false)
+
+pub lifted-own : (g : Matrix) (p r b : ℕ) → g p b ≡ true → g r b ≡ false → plus r (g p) g r b ≡ true
+lifted-own g p r b has out = plus-at r (g p) g b ∙ rw (has, out) (unfold xor in refl)

@@ -1,0 +1,5 @@
+pub mod Adding
+pub mod Copying
+pub mod Clearing
+pub mod Turns
+pub mod Reduced

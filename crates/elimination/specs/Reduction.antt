@@ -1,0 +1,61 @@
+-- Elimination: adding checks to others, and the form that a reduced matrix has. Assumes nothing.
+use Prim.Native.Nat.{ℕ, _≤_, _<_}
+use mathlib.Core.Path.{_≡_}
+use mathlib.Core.Bool.{Bool, true, false, cond, _&&_, xor}
+use mathlib.Core.List.{List}
+use lib.Dec.{eqb, ltb, leb}
+use lib.ListN.{getD}
+use Rattle.parity.specs.Finite.{any}
+use Rattle.parity.specs.Matrix.{Matrix}
+use Rattle.parity.specs.Words.{evenChecks}
+
+-- the row if x is true, and else nothing
+abbrev pub when : Bool → (ℕ → Bool) → ℕ → Bool
+when x row b = x && row b
+
+-- the row added to check c, modulo 2
+unfoldable pub plus : ℕ → (ℕ → Bool) → Matrix → Matrix
+plus c row g i b = cond (eqb i c) (xor (g i b) (row b)) (g i b)
+
+-- the row added to each check from `first` up to `end` that contains bit b
+unfoldable pub cleared : (ℕ → Bool) → ℕ → ℕ → ℕ → Matrix → Matrix
+cleared row b first end g i j = cond (leb first i && ltb i end) (xor (g i j) (when (g i b) row j)) (g i j)
+
+-- p is the first check from `first` on that contains bit b, or m if none of the m checks does
+pub record FirstIn (g : Matrix) (m first b p : ℕ) : Type 0 where
+  pub from : first ≤ p
+  pub to : p ≤ m
+  pub none : (c : ℕ) → first ≤ c → c < p → g c b ≡ false
+  pub found : p < m → g p b ≡ true
+
+-- The two matrices have the same codewords, in their first n bits and m checks.
+abbrev pub Same : Matrix → Matrix → ℕ → ℕ → Type 0
+Same h g n m = (x : ℕ → Bool) → evenChecks h n m x ≡ evenChecks g n m x
+
+-- k is g after bit b was made the pivot of check r; only bits that check p or check r contained may have changed.
+pub record Pivoted (g k : Matrix) (m p r b : ℕ) : Type 0 where
+  pub same : (n : ℕ) → Same g k n m
+  pub keep : (c j : ℕ) → g p j ≡ false → g r j ≡ false → k c j ≡ g c j
+  pub own : k r b ≡ true
+  pub alone : (c : ℕ) → c < m → (c ≡ r → ⊥) → k c b ≡ false
+
+-- Of the columns below b, those of the bits e are reduced. Each check c below r has a pivot, `at c`, a bit of e; the pivots rise.
+-- No other check contains it, and check c contains no lower bit of e. The checks from r on contain no bit of e below b.
+pub record Reduced (g : Matrix) (m : ℕ) (e : ℕ → Bool) (b r : ℕ) (at : ℕ → ℕ) : Type 0 where
+  pub few : r ≤ m
+  pub low : (c : ℕ) → c < r → at c < b
+  pub among : (c : ℕ) → c < r → e (at c) ≡ true
+  pub rise : (c d : ℕ) → c < d → d < r → at c < at d
+  pub own : (c : ℕ) → c < r → g c (at c) ≡ true
+  pub alone : (c d : ℕ) → c < r → d < m → (d ≡ c → ⊥) → g d (at c) ≡ false
+  pub first : (c j : ℕ) → c < r → j < at c → e j ≡ true → g c j ≡ false
+  pub rest : (c j : ℕ) → r ≤ c → c < m → j < b → e j ≡ true → g c j ≡ false
+
+-- the bit is the pivot of one of the checks below r
+unfoldable pub pivot : ℕ → (ℕ → ℕ) → ℕ → Bool
+pivot r at b = any r (λ c. eqb (at c) b)
+
+-- g has the codewords of h, in n bits and m checks, and is reduced in the bits of e below b; the list has the pivots.
+pub record Reduction (h g : Matrix) (n m : ℕ) (e : ℕ → Bool) (b r : ℕ) (at : List ℕ) : Type 0 where
+  pub same : Same h g n m
+  pub form : Reduced g m e b r (λ c. getD at c 0)

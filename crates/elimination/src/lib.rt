@@ -1,0 +1,54 @@
+// Elimination modulo 2: a copy of the checks, in rows of `width` words, is reduced in the bits that a word leaves unknown.
+pub mod rows;
+
+use crate::rows::add_check;
+use crate::rows::clear;
+use crate::rows::first_with;
+use crate::rows::row_of;
+ghost use mathlib.Core.Path.{_≡_};
+ghost use Prim.Native.Nat.{_*_, _<_, _≤_};
+ghost use lib.ListN.{length};
+ghost use Rattle.parity.specs.Matrix.{lent};
+ghost use Rattle.parity.specs.Words.{erased};
+ghost use Rattle.parity.specs.Calls.{byteOf};
+ghost use Rattle.elimination.specs.Reduction.{FirstIn, Pivoted, Reduction};
+
+// Bit `b`, which check `p` contains, becomes the pivot of check `r`: no other check contains it afterwards.
+fn make_pivot(rows: &mut [u64], width: usize, checks: usize, p: usize, r: usize, b: usize)
+    requires { ⌜ (checks * width ≤ length (now rows)) × (width ≤ 8) × (b < width * 64) × (p < checks) ⌝ }
+    requires { ⌜ FirstIn (lent width (now rows)) checks r b p ⌝ }
+    ensures { λ _. ⌜ Pivoted (lent width (now (rows .entry))) (lent width (now (rows .exit))) checks p r b ⌝ }
+{
+    if p != r {
+        add_check(rows, width, p, r);
+    }
+    let row = row_of(rows, width, r);
+    clear(rows, width, 0, r, &row, b);
+    clear(rows, width, r + 1, checks, &row, b);
+}
+
+// The rows are reduced in the bits that are 2 in `word`. The answer is the number of pivots, which stand in `pivots`, rising.
+pub fn reduce(
+    rows: &mut [u64],
+    width: usize,
+    checks: usize,
+    word: &[u8],
+    pivots: &mut [usize],
+) -> usize
+    requires { ⌜ (checks * width ≤ length (now rows)) × (width ≤ 8) × (length (now word) ≤ width * 64) × (checks ≤ length (now pivots)) ⌝ }
+    ensures { λ r. ⌜ Reduction (lent width (now (rows .entry))) (lent width (now (rows .exit))) (length (now (word .entry))) checks
+        (erased (byteOf (now (word .entry)))) (length (now (word .entry))) r (now (pivots .exit)) ⌝ }
+{
+    let mut r: usize = 0;
+    for b in 0..word.len() {
+        if word[b] == 2 {
+            let p = first_with(rows, width, checks, r, b);
+            if p < checks {
+                make_pivot(rows, width, checks, p, r, b);
+                pivots[r] = b;
+                r += 1;
+            }
+        }
+    }
+    r
+}

@@ -1,0 +1,107 @@
+// Rows of `width` words of 64 bits, one for each check.
+ghost use mathlib.Core.Path.{_≡_};
+ghost use Prim.Native.Nat.{_+_, _*_, _/_, _<_, _≤_};
+ghost use lib.ListN.{length};
+ghost use Rattle.parity.specs.Matrix.{lent};
+ghost use Rattle.parity.specs.Words.{inside, odd};
+ghost use Rattle.elimination.specs.Reduction.{plus, when, cleared, FirstIn};
+ghost use Rattle.elimination.specs.Rows.{Blank, RowOf, SameRows};
+
+// Whether check `c` contains bit `b`.
+pub fn contains(rows: &[u64], width: usize, c: usize, b: usize) -> bool
+    requires { ⌜ (c * width + width ≤ length (now rows)) × (b < width * 64) ⌝ }
+    ensures { λ r. ⌜ r ≡ lent width (now (rows .entry)) c b ⌝ }
+{
+    (rows[c * width + b / 64] >> (b % 64)) % 2 == 1
+}
+
+// Check `p` is added to check `c`, modulo 2.
+pub fn add_check(rows: &mut [u64], width: usize, p: usize, c: usize)
+    requires { ⌜ (p * width + width ≤ length (now rows)) × (c * width + width ≤ length (now rows)) × (p ≡ c → ⊥) ⌝ }
+    ensures { λ _. ⌜ lent width (now (rows .exit)) ≡ plus c (lent width (now (rows .entry)) p) (lent width (now (rows .entry))) ⌝ }
+{
+    for i in 0..width {
+        rows[c * width + i] = rows[c * width + i] ^ rows[p * width + i];
+    }
+}
+
+// Two rows: an empty one, and that of check `c`.
+pub fn row_of(rows: &[u64], width: usize, c: usize) -> [u64; 16]
+    requires { ⌜ (c * width + width ≤ length (now rows)) × (width ≤ 8) ⌝ }
+    ensures { λ r. ⌜ RowOf width (now (rows .entry)) c r ⌝ }
+{
+    let mut row = [0u64; 16];
+    for i in 0..width {
+        row[width + i] = rows[c * width + i];
+    }
+    row
+}
+
+// The row is added to check `c` if the check contains bit `b`. The bit picks the row, without a branch: which checks contain it is hard to foresee.
+fn clear_check(rows: &mut [u64], width: usize, c: usize, row: &[u64], b: usize)
+    requires { ⌜ (c * width + width ≤ length (now rows)) × (width ≤ 8) × (b < width * 64) × Blank width (now row) ⌝ }
+    ensures { λ _. ⌜ lent width (now (rows .exit))
+        ≡ plus c (when (lent width (now (rows .entry)) c b) (lent width (now (row .entry)) 1)) (lent width (now (rows .entry))) ⌝ }
+{
+    let pick = ((rows[c * width + b / 64] >> (b % 64)) % 2) as usize;
+    for i in 0..width {
+        rows[c * width + i] = rows[c * width + i] ^ row[pick * width + i];
+    }
+}
+
+// The row is added to each check from `first` up to `end` that contains bit `b`.
+pub fn clear(rows: &mut [u64], width: usize, first: usize, end: usize, row: &[u64], b: usize)
+    requires { ⌜ (first ≤ end) × (end * width ≤ length (now rows)) × (width ≤ 8) × (b < width * 64) × Blank width (now row) ⌝ }
+    ensures { λ _. ⌜ lent width (now (rows .exit)) ≡ cleared (lent width (now (row .entry)) 1) b first end (lent width (now (rows .entry))) ⌝ }
+{
+    for c in first..end {
+        clear_check(rows, width, c, row, b);
+    }
+}
+
+// The first check from `first` on that contains bit `b`, or `checks` if none does.
+pub fn first_with(rows: &[u64], width: usize, checks: usize, first: usize, b: usize) -> usize
+    requires { ⌜ (checks * width ≤ length (now rows)) × (b < width * 64) × (first ≤ checks) ⌝ }
+    ensures { λ r. ⌜ FirstIn (lent width (now (rows .entry))) checks first b r ⌝ }
+{
+    let mut c = first;
+    while c < checks {
+        if contains(rows, width, c, b) {
+            return c;
+        }
+        c += 1;
+    }
+    c
+}
+
+// Whether check `c` contains an odd number of the set's bits.
+pub fn is_odd(rows: &[u64], width: usize, c: usize, set: &[u64]) -> bool
+    requires { ⌜ (c * width + width ≤ length (now rows)) × (width ≤ length (now set)) ⌝ }
+    ensures { λ r. ⌜ r ≡ odd (inside (lent width (now (rows .entry))) (width * 64) c (lent width (now (set .entry)) 0)) ⌝ }
+{
+    let mut acc: u64 = 0;
+    for i in 0..width {
+        acc = acc ^ (rows[c * width + i] & set[i]);
+    }
+    u64::count_ones(acc) % 2 == 1
+}
+
+// The first `width` words of check `c` of a lent matrix become check `c` of the rows.
+fn copy_check(words: &[u64], width: usize, c: usize, rows: &mut [u64])
+    requires { ⌜ (length (now words) ≡ 4096) × (width ≤ 8) × (c < 512) × (c * width + width ≤ length (now rows)) ⌝ }
+    ensures { λ _. ⌜ SameRows width (now (words .entry)) (now (rows .entry)) (now (rows .exit)) c (c + 1) ⌝ }
+{
+    for i in 0..width {
+        rows[c * width + i] = words[c * 8 + i];
+    }
+}
+
+// The first `width` words of each check of a lent matrix become its row.
+pub fn copy(words: &[u64], width: usize, checks: usize, rows: &mut [u64])
+    requires { ⌜ (length (now words) ≡ 4096) × (width ≤ 8) × (checks ≤ 512) × (checks * width ≤ length (now rows)) ⌝ }
+    ensures { λ _. ⌜ SameRows width (now (words .entry)) (now (rows .entry)) (now (rows .exit)) 0 checks ⌝ }
+{
+    for c in 0..checks {
+        copy_check(words, width, c, rows);
+    }
+}

@@ -1,0 +1,183 @@
+-- What is read off the reduced rows, and what rank and encoding answer. Assumes nothing.
+use mathlib.Core.Path.{_≡_, refl, sym, ap, _∙_}
+use mathlib.Core.Bool.{Bool, true, false, not}
+use mathlib.Core.List.{List, [], _∷_}
+use Prim.Native.Nat.{ℕ, zero, suc, _+_, _-_, _%_, _≤_, _<_}
+use native.Mathlib.Omega.{arith}
+use native.Mathlib.Decide.{decLt}
+use lib.Dec.{eqb}
+use lib.ListN.{getD, length, take, replicate, getD-replicate, length-replicate, List·getD-eq-default}
+use lib.Seq.{getD-take, length-take-le}
+use borrow.Author.Tests.{eq-eqb, ne-eqb, lt-ltb}
+use Rattle.parity.specs.Finite.{one, count, listFrom}
+use Rattle.parity.specs.Matrix.{Matrix, lent}
+use Rattle.parity.specs.Words.{erased, isOne, inside, evenChecks}
+use Rattle.parity.specs.Encoding.{rankOf, encoded}
+use Rattle.parity.specs.Causes.{Reply, answer, refusalOf, accepting}
+use Rattle.parity.specs.Calls.{byteOf, wrongByte, wrongPlace, acceptReply, rankReply, encodeReply, encodeOutcome}
+use Rattle.parity.specs.declared.Refusal.{Refusal}
+use Rattle.parity.specs.declared.Refusal.the-variants.{WrongLength, WrongByte, AddedBits}
+use Rattle.parity.proofs.Sums.{is-true, is-false, is, count-cong}
+use Rattle.parity.proofs.Firsts.{all-cong}
+use Rattle.parity.proofs.Encode.{lengths}
+use Rattle.parity.proofs.Accept.{Accepted, accepts, accepting-answers}
+use Rattle.parity.proofs.Refused.{refused-number, refused-same}
+use Rattle.parity.proofs.Replies.{right-bytes, ranks}
+use Rattle.parity.proofs.Packing.{at-listFrom}
+use Rattle.elimination.specs.Reduction.{Same, Reduced, Reduction, pivot}
+use Rattle.elimination.specs.Rows.{SameRows}
+use Rattle.elimination.proofs.Clearing.{same-trans}
+use Rattle.elimination.proofs.Copying.{rows-lent}
+use Rattle.elimination.proofs.Reduced.{pivot-at, pivot-of, solved-at, solved-else}
+use Rattle.encode.specs.Answers.{givenOutcome}
+use Rattle.encode.specs.Filling.{everyBit, pivotAt, Rising, placed, Filled}
+use Rattle.encode.proofs.Pivots as pivots
+use Rattle.encode.proofs.Filling.{is-listFrom}
+
+-- the first n bytes of a word of which every bit is unknown
+pub unknown-length : (l : List ℕ) (n : ℕ) → l ≡ replicate 120 2 → n ≤ 120 → length (take n l) ≡ n
+unknown-length l n e k = length-take-le n l (rw (e, length-replicate {A = ℕ} 120 2) k)
+
+unknown-at : (l : List ℕ) (n : ℕ) → l ≡ replicate 120 2 → n ≤ 120 → (b : ℕ) → b < n → erased (byteOf (take n l)) b ≡ true
+unknown-at l n e k b i = rw (getD-take {A = ℕ} n l b 0 i, e, getD-replicate {A = ℕ} 120 b 2 0 (omega arith))
+
+-- a copy has the codewords of the lent matrix
+copy-same : (ws w u : List ℕ) (n m : ℕ) → n ≤ 120 → SameRows 2 ws w u 0 m → Same (lent 8 ws) (lent 2 u) n m
+unfolding evenChecks inside
+copy-same ws w u n m k C x = all-cong m (λ c l. ap (λ a. eqb (a % 2) 0)
+    (count-cong n (λ b i. rw (rows-lent 2 (omega arith) ws w u m C c b l (omega arith)))))
+
+-- reduced in all bits below n
+every-reduced : (g : Matrix) (n m : ℕ) (e : ℕ → Bool) (r : ℕ) (at : ℕ → ℕ) → ((b : ℕ) → b < n → e b ≡ true) → Reduced g m e n r at → Reduced g m everyBit n r at
+every-reduced g n m e r at f R = record {
+  few = R .few;
+  low = R .low;
+  among = λ c k. refl;
+  rise = R .rise;
+  own = R .own;
+  alone = R .alone;
+  first = λ c j k l q. R .first c j k l (f j (omega (arith, R .low c k)));
+  rest = λ c j k l i q. R .rest c j k l i (f j i);
+}
+
+pub eliminated : (ws w u : List ℕ) (g : Matrix) (l : List ℕ) (n m r : ℕ) (at : List ℕ) → n ≤ 120 → l ≡ replicate 120 2 → SameRows 2 ws w u 0 m
+    → Reduction (lent 2 u) g (length (take n l)) m (erased (byteOf (take n l))) (length (take n l)) r at → Reduction (lent 8 ws) g n m everyBit n r at
+eliminated ws w u g l n m r at k e C R =
+    let S : Reduction (lent 2 u) g n m (erased (byteOf (take n l))) n r at = rw (unknown-length l n e k) at R in
+    record {
+      same = same-trans (lent 8 ws) (lent 2 u) g n m (copy-same ws w u n m k C) (S .same);
+      form = every-reduced g n m (erased (byteOf (take n l))) r (pivotAt at) (unknown-at l n e k) (S .form);
+    }
+
+small-byte : (a : ℕ) → a ≤ 1 → one (eqb a 1) ≡ a
+small-byte zero k = refl
+small-byte (suc zero) k = refl
+small-byte (suc (suc a)) k = absurd (omega arith)
+
+module _ (h g : Matrix) (n m r : ℕ) (at : List ℕ) (R : Reduction h g n m everyBit n r at) where
+  pub is-rank : r ≡ rankOf h n m
+  is-rank = sym (pivots.ranks h g n m r (pivotAt at) (R .form) (R .same))
+
+  pub rising : Rising n r at
+  rising = record { low = R .form .low; rise = R .form .rise }
+
+  module _ (message : List ℕ) (small : wrongByte 1 message ≡ false) (w : List ℕ) (W : w ≡ listFrom 0 n (placed r at (byteOf message))) where
+    word-at : (b : ℕ) → b < n → byteOf w b ≡ placed r at (byteOf message) b
+    word-at b k = ap (λ l. getD l b 0) W ∙ at-listFrom 0 n (placed r at (byteOf message)) b k ∙ ap (placed r at (byteOf message)) (omega arith)
+
+    at-pivot : (c : ℕ) → c < r → byteOf w (pivotAt at c) ≡ 0
+    unfolding placed
+    at-pivot c k = word-at (pivotAt at c) (R .form .low c k) ∙ rw (pivot-at r (pivotAt at) c k)
+
+    at-else : (b : ℕ) → b < n → pivot r (pivotAt at) b ≡ false → byteOf w b ≡ byteOf message (count b (λ i. not (pivot r (pivotAt at) i)))
+    unfolding placed
+    at-else b k q = word-at b k ∙ rw q
+
+    message-small : (i : ℕ) → byteOf message i ≤ 1
+    message-small i = elim (decLt i (length message)) [
+      | yes k ↦ right-bytes 1 message .0 small i k
+      | no k ↦ let l : length message ≤ i = omega arith in rw (List·getD-eq-default message 0 l) (omega arith)
+    ]
+
+    -- what stands after the pivots are filled in is the message's codeword
+    pub codeword-read : (u : List ℕ) → length u ≡ n → Filled g n r at r (byteOf w) (byteOf u) → u ≡ listFrom 0 n (λ b. one (encoded h n m (isOne (byteOf message)) b))
+    codeword-read u l F = is-listFrom n (λ b. one (encoded h n m (isOne (byteOf message)) b)) u l (λ b k.
+        let x = pivots.reads h g n m r (pivotAt at) (R .form) (R .same) (isOne (byteOf message)) (isOne (byteOf w)) (λ c i. rw (at-pivot c i)) (λ b i q. rw (at-else b i q)) b k in
+        elim (is (pivot r (pivotAt at) b)) [
+          | is-true q ↦
+              let (c, i, e) = pivot-of r (pivotAt at) b q in
+              rw (x, ← e) (F .done c i ∙ ap one (sym (solved-at g n m everyBit r (pivotAt at) (R .form) (isOne (byteOf w)) c i)))
+          | is-false q ↦
+              rw x (F .else b q ∙ sym (small-byte (byteOf w b) (rw (at-else b k q) (message-small _)))
+              ∙ ap one (sym (solved-else g n m everyBit r (pivotAt at) (R .form) (isOne (byteOf w)) b q)))
+        ])
+
+-- encoding with an accepted matrix that has k = 0
+module _ (ws : List ℕ) (m : ℕ) (message w : List ℕ) (r : ℕ) (e : r ≡ rankOf (lent 8 ws) (length w) m) where
+  rest-length : (length message ≡ length w - rankOf (lent 8 ws) (length w) m → ⊥) → length message + r ≡ length w → ⊥
+  rest-length d q = d (omega arith)
+
+  whole-length : length message + r ≡ length w → length message ≡ length w - rankOf (lent 8 ws) (length w) m
+  whole-length q = omega arith
+
+  pub given-length : (length message + r ≡ length w → ⊥) → (refusalOf WrongLength ≡ givenOutcome ws m message w .reply) × (w ≡ givenOutcome ws m message w .after)
+  unfolding givenOutcome
+  given-length d =
+      let f = ne-eqb (length message) (length w - rankOf (lent 8 ws) (length w) m) (λ q. d (omega (arith, lengths (lent 8 ws) (length w) m (λ b. false)))) in
+      (rw f, rw f)
+
+  pub given-byte : length message + r ≡ length w → (place : ℕ) → place ≡ wrongPlace 1 message → wrongByte 1 message ≡ true
+      → (refusalOf (WrongByte place) ≡ givenOutcome ws m message w .reply) × (w ≡ givenOutcome ws m message w .after)
+  unfolding givenOutcome
+  given-byte q place p t =
+      let f = eq-eqb (length message) (length w - rankOf (lent 8 ws) (length w) m) (whole-length q) in
+      (rw (f, t, p), rw (f, t))
+
+  pub given-written : length message + r ≡ length w → wrongByte 1 message ≡ false
+      → (u : List ℕ) → u ≡ listFrom 0 (length w) (λ b. one (encoded (lent 8 ws) (length w) m (isOne (byteOf message)) b))
+      → (answer [] ≡ givenOutcome ws m message w .reply) × (u ≡ givenOutcome ws m message w .after)
+  unfolding givenOutcome
+  given-written q t u s =
+      let f = eq-eqb (length message) (length w - rankOf (lent 8 ws) (length w) m) (whole-length q) in
+      (rw (f, t), s ∙ rw (f, t))
+
+-- the calls
+module _ (ws : List ℕ) (n m k : ℕ) where
+  pub rank-first : (r : Refusal) → refusalOf r ≡ acceptReply ws n m k → refusalOf r ≡ rankReply ws n m k
+  unfolding rankReply
+  rank-first r e = refused-same ws n m k r _ e
+
+  module _ (A : Accepted ws n m k) where
+    passes : (after : Reply) → accepting ws n m k after ≡ after
+    passes after = accepting-answers ws n m k after (accepts ws n m k .1 A)
+
+    pub rank-added : (k ≡ 0 → ⊥) → refusalOf AddedBits ≡ rankReply ws n m k
+    unfolding rankReply
+    rank-added d = rw (passes _, lt-ltb 0 k (omega (arith, d)))
+
+    pub rank-told : k ≡ 0 → (r : ℕ) → r ≡ rankOf (lent 8 ws) n m → answer (r ∷ []) ≡ rankReply ws n m k
+    unfolding rankReply
+    rank-told e r q = rw (passes _, e, q)
+
+  module _ (message w : List ℕ) where
+    abbrev Told : Reply → List ℕ → Type 0
+    Told r u = (r ≡ encodeOutcome ws n m k message w .reply) × (u ≡ encodeOutcome ws n m k message w .after)
+
+    -- a refusal leaves the word as it was
+    refused : (r : Refusal) → refusalOf r ≡ encodeReply ws n m k message w → Told (refusalOf r) w
+    unfolding encodeOutcome
+    refused r e = (e, rw (← e, ne-eqb (refusalOf r .number) 0 (refused-number r)))
+
+    pub encode-first : (r : Refusal) → refusalOf r ≡ acceptReply ws n m k → Told (refusalOf r) w
+    encode-first r e = refused r (unfold encodeReply in refused-same ws n m k r _ e)
+
+    module _ (A : Accepted ws n m k) where
+      pub encode-added : (k ≡ 0 → ⊥) → Told (refusalOf AddedBits) w
+      encode-added d = refused AddedBits (unfold encodeReply in rw (passes A _, lt-ltb 0 k (omega (arith, d))))
+
+      pub encode-length : k ≡ 0 → (length w ≡ n → ⊥) → Told (refusalOf WrongLength) w
+      encode-length e d = refused WrongLength (unfold encodeReply in rw (passes A _, e, ne-eqb (length w) n d))
+
+      pub encode-given : k ≡ 0 → length w ≡ n → givenOutcome ws m message w ≡ encodeOutcome ws n m k message w
+      unfolding givenOutcome encodeOutcome encodeReply
+      encode-given e l = rw (passes A _, e, l, eq-eqb n n refl)

@@ -1,0 +1,126 @@
+// The rank of a matrix with k = 0, and encoding: the codeword whose bits that are no parity bits hold a message.
+mod message;
+
+use crate::message::fill;
+use crate::message::place;
+use elimination::reduce;
+use elimination::rows::copy;
+use matrix::Acceptance;
+use parity::Refusal;
+use word::bytes::first_above;
+ghost use mathlib.Core.Path.{_≡_};
+ghost use Prim.Native.Nat.{_≤_};
+ghost use lib.ListN.{length, replicate};
+ghost use Rattle.parity.specs.Matrix.{lent};
+ghost use Rattle.parity.specs.Encoding.{rankOf};
+ghost use Rattle.parity.specs.Calls.{rankReply, encodeOutcome};
+ghost use Rattle.elimination.specs.Reduction.{Reduction};
+ghost use Rattle.encode.specs.Answers.{rankReplyOf, encodeReplyOf, givenOutcome};
+ghost use Rattle.encode.specs.Filling.{everyBit};
+
+// What the rank call answers.
+pub enum Ranked {
+    Rank { rank: u64 },
+    Refused(Refusal),
+}
+
+// What encoding answers.
+pub enum Encoded {
+    Written,
+    Refused(Refusal),
+}
+
+// A word of which every bit is unknown.
+fn unknown() -> [u8; 120]
+    ensures { λ r. ⌜ r ≡ replicate 120 2 ⌝ }
+{
+    [2u8; 120]
+}
+
+// The given checks become rows of two words, reduced in all bits. The answer is the number of pivots, which stand in `pivots`.
+fn eliminate(words: &[u64], n: usize, m: usize, rows: &mut [u64], pivots: &mut [usize]) -> usize
+    requires { ⌜ (length (now words) ≡ 4096) × (n ≤ 120) × (m ≤ 120) × (length (now rows) ≡ 240) × (length (now pivots) ≡ 120) ⌝ }
+    ensures { λ r. ⌜ Reduction (lent 8 (now (words .entry))) (lent 2 (now (rows .exit))) n m everyBit n r (now (pivots .exit)) ⌝ }
+{
+    let all = unknown();
+    copy(words, 2, m, rows);
+    reduce(rows, 2, m, &all[..n], pivots)
+}
+
+// The rank of the given checks.
+fn rank_of(words: &[u64], n: usize, m: usize) -> u64
+    requires { ⌜ (length (now words) ≡ 4096) × (n ≤ 120) × (m ≤ 120) ⌝ }
+    ensures { λ r. ⌜ r ≡ rankOf (lent 8 (now (words .entry))) n m ⌝ }
+{
+    let mut rows = [0u64; 240];
+    let mut pivots = [0usize; 120];
+    let r = eliminate(words, n, m, &mut rows, &mut pivots);
+    r as u64
+}
+
+// Answers the rank: the number of parity bits.
+pub fn rank(words: &[u64], n: usize, m: usize, k: usize) -> Ranked
+    ensures { λ r. ⌜ rankReplyOf r ≡ rankReply (now (words .entry)) n m k ⌝ }
+{
+    let accepted = matrix::accept(words, n, m, k);
+    match accepted {
+        Acceptance::Refused(r) => Ranked::Refused(r),
+        Acceptance::Accepted => {
+            if k != 0 {
+                return Ranked::Refused(Refusal::AddedBits);
+            }
+            Ranked::Rank {
+                rank: rank_of(words, n, m),
+            }
+        }
+    }
+}
+
+// Encoding with the given checks, for a word of the right length.
+fn encode_given(words: &[u64], m: usize, message: &[u8], word: &mut [u8]) -> Encoded
+    requires { ⌜ (length (now words) ≡ 4096) × (m ≤ 120) × (length (now word) ≤ 120) ⌝ }
+    ensures { λ r. ⌜ encodeReplyOf r ≡ givenOutcome (now (words .entry)) m (now (message .entry)) (now (word .entry)) .reply ⌝ }
+    ensures { λ _. ⌜ now (word .exit) ≡ givenOutcome (now (words .entry)) m (now (message .entry)) (now (word .entry)) .after ⌝ }
+{
+    let mut rows = [0u64; 240];
+    let mut pivots = [0usize; 120];
+    let n = word.len();
+    let r = eliminate(words, n, m, &mut rows, &mut pivots);
+    if message.len() + r != n {
+        return Encoded::Refused(Refusal::WrongLength);
+    }
+    let at = first_above(message, 1);
+    if at < message.len() {
+        return Encoded::Refused(Refusal::WrongByte { place: at });
+    }
+    place(&pivots, r, message, word);
+    fill(&rows, &pivots, r, word);
+    Encoded::Written
+}
+
+// Writes the codeword of the message.
+pub fn encode(
+    words: &[u64],
+    n: usize,
+    m: usize,
+    k: usize,
+    message: &[u8],
+    word: &mut [u8],
+) -> Encoded
+    ensures { λ r. ⌜ encodeReplyOf r ≡ encodeOutcome (now (words .entry)) n m k (now (message .entry)) (now (word .entry)) .reply ⌝ }
+    ensures { λ _. ⌜ now (word .exit) ≡ encodeOutcome (now (words .entry)) n m k (now (message .entry)) (now (word .entry)) .after ⌝ }
+{
+    let accepted = matrix::accept(words, n, m, k);
+    match accepted {
+        Acceptance::Refused(r) => Encoded::Refused(r),
+        Acceptance::Accepted => {
+            if k != 0 {
+                return Encoded::Refused(Refusal::AddedBits);
+            }
+            if word.len() != n {
+                return Encoded::Refused(Refusal::WrongLength);
+            }
+            encode_given(words, m, message, word)
+        }
+    }
+}

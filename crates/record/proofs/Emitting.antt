@@ -1,0 +1,205 @@
+-- Writing a record's words one after another: those of a word's ones, of a check, of the checks. Assumes nothing.
+use mathlib.Core.Path.{_≡_, refl, sym, ap, _∙_}
+use mathlib.Core.Bool.{Bool, true, false, not, cond, _&&_, and-true, and-false, and-eq-true-iff}
+use mathlib.Core.List.{List, [], _∷_, _++_, append-nil, append-assoc}
+use Prim.Native.Nat.{ℕ, zero, suc, _+_, _*_, _-_, _^_, _≤_, _<_}
+use native.Mathlib.Nat.{add-zero, add-suc, zero-add, lt-of-le-of-lt}
+use native.Mathlib.Numerals.{add-one}
+use native.Mathlib.Decide.{ℕ-discrete, decLt}
+use native.Mathlib.Omega.{arith}
+use lib.Arith.{le-zero}
+use lib.Bits.{bitAnd, and-le-l}
+use lib.Count.{ones as onesOf}
+use lib.Dec.{eqb, ltb}
+use lib.ListN.{getD, length, set, drop, length-append}
+use lib.Seq.{sets, sets-eq, length-sets}
+use borrow.Author.Tests.{eq-eqb, ne-eqb, lt-ltb, le-ltb, ltb-false, not-true}
+use Rattle.parity.specs.Finite.{one, sum, count}
+use Rattle.parity.specs.Matrix.{Matrix, bitOf, lent}
+use Rattle.parity.specs.Record.{bitWords, checkWords, written}
+use Rattle.parity.proofs.Sums.{count-cong, count-mono}
+use Rattle.parity.proofs.Digits.{bit-zero}
+use Rattle.parity.proofs.Lent.{lent-word, count-add, ones-count}
+use Rattle.parity.proofs.Ones.{Lowest}
+use Rattle.parity.proofs.Rest.{rest-bit}
+use Rattle.parity.proofs.Writing.{length-check, checks-wider}
+use Rattle.parity.proofs.Accept.{Accepted}
+use Rattle.record.specs.Write.{wordOnes, checkOf, plainRecord, Wrote}
+
+-- the weight of a check with no bit at 128 or above, by its two words
+pub two-words : (ws : List ℕ) → ((i : ℕ) → getD ws i 0 < 2 ^ 64) → (c : ℕ)
+    → count 128 (lent 8 ws c) ≡ onesOf (getD ws (c * 8) 0) + onesOf (getD ws (c * 8 + 1) 0)
+two-words ws u c =
+    let a = count-cong 64 {p = lent 8 ws c} {q = bitOf (getD ws (c * 8) 0)} (λ j l. let e : c * 8 + 0 ≡ c * 8 = omega arith in let f : 0 * 64 + j ≡ j = omega arith in rw (e, f) at (lent-word 8 ws c 0 j (omega arith) l)) in
+    let b = count-cong 64 {p = λ j. lent 8 ws c (64 + j)} {q = bitOf (getD ws (c * 8 + 1) 0)} (λ j l. let f : 1 * 64 + j ≡ 64 + j = omega arith in rw f at (lent-word 8 ws c 1 j (omega arith) l)) in
+    omega (arith, count-add 64 64 (lent 8 ws c), ones-count 64 (getD ws (c * 8) 0) (u (c * 8)), ones-count 64 (getD ws (c * 8 + 1) 0) (u (c * 8 + 1)))
+
+-- stores, one list after another
+pub sets-append : (l : List ℕ) (p : ℕ) (vs us : List ℕ) → sets l p (vs ++ us) ≡ sets (sets l p vs) (p + length vs) us
+sets-append l p [] us = rw (add-zero p)
+sets-append l p (v ∷ vs) us = let e : p + suc (length vs) ≡ suc p + length vs = omega arith in rw e (sets-append (set l p v) (suc p) vs us)
+
+pub wrote-none : (old : List ℕ) (p : ℕ) → Wrote old old p [] p
+wrote-none old p = record { stored = refl; place = sym (add-zero p) }
+
+pub wrote-more : (old new newer : List ℕ) (p q r : ℕ) (vs us : List ℕ) → Wrote old new p vs q → Wrote new newer q us r → Wrote old newer p (vs ++ us) r
+wrote-more old new newer p q r vs us A B = record {
+  stored = B .stored ∙ rw (A .stored, A .place) (sym (sets-append old p vs us));
+  place = B .place ∙ rw (A .place, length-append vs us) (omega arith);
+}
+
+pub wrote-one : (old : List ℕ) (p v : ℕ) → Wrote old (set old p v) p (v ∷ []) (p + 1)
+wrote-one old p v = record { stored = refl; place = refl }
+
+pub wrote-length : (old new : List ℕ) (p r : ℕ) (ws : List ℕ) → Wrote old new p ws r → length new ≡ length old
+wrote-length old new p r ws A = rw (A .stored) (length-sets old p ws)
+
+-- the words of a word's ones
+length-one : (b : Bool) (w : ℕ) → length (cond b (w ∷ []) []) ≡ one b
+length-one true w = refl
+length-one false w = refl
+
+pub length-ones : (first x b : ℕ) → length (wordOnes first x b) ≡ count b (bitOf x)
+unfolding wordOnes count sum
+length-ones first x zero = refl
+length-ones first x (suc b) = length-append (wordOnes first x b) _ ∙ rw (length-one (bitOf x b)) (omega (arith, length-ones first x b))
+
+ones-no : (first x b : ℕ) → bitOf x b ≡ false → wordOnes first x (suc b) ≡ wordOnes first x b
+unfolding wordOnes
+ones-no first x b e = rw e (append-nil (wordOnes first x b))
+
+ones-yes : (first x b : ℕ) → bitOf x b ≡ true → wordOnes first x (suc b) ≡ wordOnes first x b ++ ((first + b) ∷ [])
+unfolding wordOnes
+ones-yes first x b e = rw e
+
+-- none from a on
+ones-end : (first x a b : ℕ) → a ≤ b → ((i : ℕ) → a ≤ i → i < b → bitOf x i ≡ false) → wordOnes first x b ≡ wordOnes first x a
+ones-end first x a zero k f = rw (le-zero k)
+ones-end first x a (suc b) k f =
+    elim (ℕ-discrete a (suc b)) [
+      | yes q ↦ rw q
+      | no d ↦ ones-no first x b (f b (omega arith) (omega arith)) ∙ ones-end first x a b (omega arith) (λ i l m. f i l (omega arith))
+    ]
+
+-- the ones of x below `to` are written, and `rest` has the others
+pub record Emitting (old new : List ℕ) (p first x rest at : ℕ) : Type 0 where
+  pub to : ℕ
+  pub top : to ≤ 64
+  pub fits : rest < 2 ^ 64
+  pub left : (i : ℕ) → i < 64 → bitOf rest i ≡ (bitOf x i && not (ltb i to))
+  pub wrote : Wrote old new p (wordOnes first x to) at
+
+pub emitting-none : (old : List ℕ) (p first x : ℕ) → x < 2 ^ 64 → Emitting old old p first x x p
+emitting-none old p first x k = record {
+  to = 0;
+  top = omega arith;
+  fits = k;
+  left = λ i l. rw (le-ltb i 0 (omega arith), and-true);
+  wrote = unfold wordOnes in wrote-none old p;
+}
+
+module _ (old new : List ℕ) (p first x rest at : ℕ) (E : Emitting old new p first x rest at) where
+  pub emitting-end : rest ≡ 0 → Wrote old new p (wordOnes first x 64) at
+  emitting-end z =
+      let none : (i : ℕ) → E .to ≤ i → i < 64 → bitOf x i ≡ false =
+      λ i k l. sym (and-true (bitOf x i)) ∙ sym (E .left i l ∙ rw (le-ltb i (E .to) k)) ∙ rw z (bit-zero i) in
+      rw (ones-end first x (E .to) 64 (E .top) none) (E .wrote)
+
+  module _ (t : ℕ) (L : Lowest 64 rest t) where
+    here : (bitOf x t && not (ltb t (E .to))) ≡ true
+    here = sym (E .left t (L .short)) ∙ L .here
+
+    above : E .to ≤ t
+    above = ltb-false t (E .to) (not-true (ltb t (E .to)) (and-eq-true-iff (bitOf x t) (not (ltb t (E .to))) .0 here .1))
+
+    between : (i : ℕ) → E .to ≤ i → i < t → bitOf x i ≡ false
+    between i k l = sym (and-true (bitOf x i)) ∙ sym (E .left i (omega (arith, L .short)) ∙ rw (le-ltb i (E .to) k)) ∙ L .none i l
+
+    next-word : wordOnes first x (suc t) ≡ wordOnes first x (E .to) ++ ((first + t) ∷ [])
+    next-word =
+        ones-yes first x t (and-eq-true-iff (bitOf x t) (not (ltb t (E .to))) .0 here .0)
+        ∙ rw (ones-end first x (E .to) t above between)
+
+    pub emitting-room : at + 1 ≤ p + length (wordOnes first x 64)
+    emitting-room =
+        let a = ap length next-word ∙ length-append (wordOnes first x (E .to)) ((first + t) ∷ []) in
+        omega (arith, E .wrote .place, length-ones first x (suc t), length-ones first x 64, count-mono (suc t) 64 (bitOf x) (omega (arith, L .short)))
+
+    pub emitting-next : Emitting old (set new at (first + t)) p first x (bitAnd rest (rest - 1)) (at + 1)
+    emitting-next = record {
+      to = suc t;
+      top = omega (arith, L .short);
+      fits = lt-of-le-of-lt (and-le-l rest (rest - 1)) (E .fits);
+      left = λ i l. rest-bit 64 rest t L i ∙ rw (E .left i l) (go i l);
+      wrote = rw next-word (wrote-more old new (set new at (first + t)) p at (at + 1) (wordOnes first x (E .to)) ((first + t) ∷ []) (E .wrote) (wrote-one new at (first + t)));
+    }
+      where
+        go : (i : ℕ) → i < 64 → (bitOf x i && not (ltb i (E .to)) && not (eqb i t)) ≡ (bitOf x i && not (ltb i (suc t)))
+        go i l =
+            elim (ℕ-discrete i t) [
+              | yes q ↦ rw (q, eq-eqb t t refl, lt-ltb t (suc t) (omega arith), and-false, and-false)
+              | no d ↦ rw (ne-eqb i t d, and-true) (elim (decLt i t) [
+                | no k ↦ rw (le-ltb i (E .to) (omega (arith, above)), le-ltb i (suc t) (omega arith))
+                | yes k ↦ rw (lt-ltb i (suc t) (omega arith), and-false) (elim (decLt i (E .to)) [
+                  | yes r ↦ rw (lt-ltb i (E .to) r, and-false)
+                  | no r ↦ rw (between i (omega arith) k)
+                ])
+              ])
+            ]
+
+-- the bits of a check, those of a word behind those of the words before
+bits-word : (s : ℕ → Bool) (x a b : ℕ) → ((i : ℕ) → i < b → s (a + i) ≡ bitOf x i) → bitWords s (a + b) ≡ bitWords s a ++ wordOnes (3 * 2 ^ 28 + a) x b
+unfolding bitWords wordOnes
+bits-word s x a zero f = rw (add-zero a) (sym (append-nil (bitWords s a)))
+bits-word s x a (suc b) f =
+    let e : 3 * 2 ^ 28 + (a + b) ≡ 3 * 2 ^ 28 + a + b = omega arith in
+    rw (add-suc a b, bits-word s x a b (λ i l. f i (omega arith)), f b (omega arith), e) (append-assoc (bitWords s a) (wordOnes (3 * 2 ^ 28 + a) x b) _)
+
+module _ (ws : List ℕ) (u : (i : ℕ) → getD ws i 0 < 2 ^ 64) (c : ℕ) where
+  pub check-parts : checkOf ws c ≡ (2 * 2 ^ 28 + (onesOf (getD ws (c * 8) 0) + onesOf (getD ws (c * 8 + 1) 0)))
+      ∷ wordOnes (3 * 2 ^ 28) (getD ws (c * 8) 0) 64 ++ wordOnes (3 * 2 ^ 28 + 64) (getD ws (c * 8 + 1) 0) 64
+  unfolding checkOf
+  check-parts = rw (two-words ws u c, bits-word (lent 8 ws c) (getD ws (c * 8 + 1) 0) 64 64 high, bits-word (lent 8 ws c) (getD ws (c * 8) 0) 0 64 low) (unfold bitWords in refl)
+    where
+      low : (i : ℕ) → i < 64 → lent 8 ws c (0 + i) ≡ bitOf (getD ws (c * 8) 0) i
+      low i l = let e : c * 8 + 0 ≡ c * 8 = omega arith in let f : 0 * 64 + i ≡ 0 + i = omega arith in rw (e, f) at (lent-word 8 ws c 0 i (omega arith) l)
+
+      high : (i : ℕ) → i < 64 → lent 8 ws c (64 + i) ≡ bitOf (getD ws (c * 8 + 1) 0) i
+      high i l = let f : 1 * 64 + i ≡ 64 + i = omega arith in rw f at (lent-word 8 ws c 1 i (omega arith) l)
+
+  pub check-length : length (checkOf ws c)
+      ≡ 1 + length (wordOnes (3 * 2 ^ 28) (getD ws (c * 8) 0) 64) + length (wordOnes (3 * 2 ^ 28 + 64) (getD ws (c * 8 + 1) 0) 64)
+  check-length = ap length check-parts ∙ omega (arith, length-append (wordOnes (3 * 2 ^ 28) (getD ws (c * 8) 0) 64) (wordOnes (3 * 2 ^ 28 + 64) (getD ws (c * 8 + 1) 0) 64))
+
+-- the checks
+pub checks-next : (ws : List ℕ) (c : ℕ) → checkWords (lent 8 ws) 128 (c + 1) ≡ checkWords (lent 8 ws) 128 c ++ checkOf ws c
+unfolding checkWords checkOf
+checks-next ws c = rw (add-one c)
+
+pub checks-mono : (h : Matrix) (n c m : ℕ) → c ≤ m → length (checkWords h n c) ≤ length (checkWords h n m)
+checks-mono h n c zero k = rw (le-zero k) (omega arith)
+checks-mono h n c (suc m) k =
+    elim (ℕ-discrete c (suc m)) [ yes q ↦ rw q (omega arith) | no d ↦ omega (arith, checks-mono h n c m (omega arith), length-check h n m) ]
+
+-- the whole record
+pub plain-length : (ws : List ℕ) (n m : ℕ) → length (plainRecord ws n m) ≡ length (checkWords (lent 8 ws) 128 m) + 2
+unfolding plainRecord
+plain-length ws n m = omega (arith, length-append (checkWords (lent 8 ws) 128 m) ((15 * 2 ^ 28) ∷ []))
+
+pub wrote-plain : (ws : List ℕ) (n m a b : ℕ) (old new : List ℕ) (q : ℕ) → a ≡ m → b ≡ n
+    → Wrote (set old 0 (2 ^ 28 + a * 256 + b)) new 1 (checkWords (lent 8 ws) 128 m) q
+    → Wrote old (set new q (15 * 2 ^ 28)) 0 (plainRecord ws n m) (q + 1)
+unfolding plainRecord
+wrote-plain ws n m a b old new q e f A =
+    rw (← e, ← f) (wrote-more old (set old 0 (2 ^ 28 + a * 256 + b)) (set new q (15 * 2 ^ 28)) 0 1 (q + 1) ((2 ^ 28 + a * 256 + b) ∷ []) _
+    (wrote-one old 0 (2 ^ 28 + a * 256 + b)) (wrote-more _ new _ 1 q (q + 1) (checkWords (lent 8 ws) 128 a) ((15 * 2 ^ 28) ∷ []) (rw (← e) at A) (wrote-one new q (15 * 2 ^ 28))))
+
+pub plain-written : (ws : List ℕ) (n m : ℕ) → Accepted ws n m 0 → plainRecord ws n m ≡ written (lent 8 ws) n m
+unfolding plainRecord written
+plain-written ws n m A =
+    let S = A .sound in
+    rw (checks-wider (lent 8 ws) n 128 m (omega (arith, S .n120)) (λ d b k. S .clean .bits d b (omega arith)))
+
+-- what stands afterwards, where the record is long enough
+pub wrote-first : (old new : List ℕ) (ws : List ℕ) (r : ℕ) → Wrote old new 0 ws r → length ws ≤ length old → new ≡ ws ++ drop (length ws) old
+wrote-first old new ws r A k = A .stored ∙ sets-eq ws old 0 (rw (zero-add (length ws)) k) ∙ rw (zero-add (length ws))

@@ -1,0 +1,30 @@
+-- What a word that was read as another kind is not. Assumes nothing.
+use mathlib.Core.Path.{_≡_}
+use mathlib.Core.Bool.{not, cond}
+use mathlib.Core.List.{List}
+use Prim.Native.Nat.{ℕ}
+use lib.Dec.{T, eqb}
+use types.Run.{OneOf, miss}
+use mir.Val.{hasKey}
+use denote.Enum.Declared.{tagOf}
+use borrow.Author.Tests.{ne-eqb}
+use Rattle.parity.specs.Record.{kindOf}
+use Rattle.record.specs.declared.words.Word.{Word}
+use Rattle.record.specs.declared.words.Word.the-variants.{Head, Open, Bit, End, Faulty}
+use Rattle.record.specs.Read.{Reads}
+use Rattle.record.proofs.words.Word.{the-type}
+
+-- the place of a kind's variant among those of `Word`
+abbrev pub variant : ℕ → ℕ
+variant k = cond (eqb k 1) 0 (cond (eqb k 2) 1 (cond (eqb k 3) 2 (cond (eqb k 15) 3 4)))
+
+read-variant : (w : ℕ) (r : Word) → Reads w r → tagOf the-type r ≡ variant (kindOf w)
+read-variant w (Head x) K = rw (K .kind)
+read-variant w (Open x) K = rw (K .kind)
+read-variant w (Bit x) K = rw (K .kind)
+read-variant w (End x) K = rw (K .kind)
+read-variant w Faulty K =
+    rw (ne-eqb (kindOf w) 1 (K .not-head), ne-eqb (kindOf w) 2 (K .not-open), ne-eqb (kindOf w) 3 (K .not-bit), ne-eqb (kindOf w) 15 (K .not-end))
+
+pub other-kind : (w : ℕ) (r : Word) (others : List ℕ) (k : ℕ) → Reads w r → OneOf others (tagOf the-type r) → T (not (hasKey others (variant k))) → kindOf w ≡ k → ⊥
+other-kind w r others k K o n e = miss others (variant k) n (rw (read-variant w r K, e) at o)

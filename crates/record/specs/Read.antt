@@ -1,0 +1,47 @@
+-- What the reader of records answers: the kind of a word, and the ones of a check. Assumes nothing.
+use mathlib.Core.Path.{_≡_}
+use mathlib.Core.Bool.{true, false}
+use mathlib.Core.List.{List}
+use Prim.Native.Nat.{ℕ, zero, suc, _+_, _-_, _≤_, _<_}
+use lib.ListN.{getD, drop}
+use Rattle.parity.specs.Matrix.{Matrix, put}
+use Rattle.parity.specs.Record.{kindOf, payload, bitWord, reading}
+use Rattle.record.specs.declared.words.Word.{Word}
+use Rattle.record.specs.declared.words.Word.the-variants.{Head, Open, Bit, End, Faulty}
+
+-- a word of none of the four kinds
+pub record Kindless (w : ℕ) : Type 0 where
+  pub not-head : kindOf w ≡ 1 → ⊥
+  pub not-open : kindOf w ≡ 2 → ⊥
+  pub not-bit : kindOf w ≡ 3 → ⊥
+  pub not-end : kindOf w ≡ 15 → ⊥
+
+-- a word of a kind, with its payload
+pub record Kind (k w x : ℕ) : Type 0 where
+  pub kind : kindOf w ≡ k
+  pub rest : payload w ≡ x
+
+-- what a word is read as
+abbrev pub Reads : ℕ → Word → Type 0
+Reads w (Head x) = Kind 1 w x
+Reads w (Open x) = Kind 2 w x
+Reads w (Bit x) = Kind 3 w x
+Reads w (End x) = Kind 15 w x
+Reads w Faulty = Kindless w
+
+-- the matrix with the payloads of j words from place `from` on put into check c
+unfoldable pub puts : List ℕ → ℕ → ℕ → ℕ → Matrix → Matrix
+puts source c from zero h = h
+puts source c from (suc j) h = put c (payload (getD source (from + j) 0)) true (puts source c from j h)
+
+-- The j words from place `from` on are rising bits below n, none of them at `low` or above: reading goes on behind them.
+pub record Rising (n : ℕ) (source : List ℕ) (from j low : ℕ) : Type 0 where
+  pub goes : (m c d : ℕ) (h : Matrix)
+      → reading n m (drop from source) from c (j + d) 0 h ≡ reading n m (drop (from + j) source) (from + j) c d low (puts source (c - 1) from j h)
+
+-- Of `count` words from place `from` on j are so, and the next one is not.
+pub record BitsRead (n : ℕ) (source : List ℕ) (from count j : ℕ) : Type 0 where
+  pub top : j ≤ count
+  pub low : ℕ
+  pub rising : Rising n source from j low
+  pub next : j < count → bitWord n low (getD source (from + j) 0) ≡ false

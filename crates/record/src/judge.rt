@@ -1,0 +1,126 @@
+// Judging a record: its n and m, or the place of its first faulty word.
+use crate::words::Word;
+use crate::words::read;
+ghost use Prim.Native.Nat.{_+_, _≤_};
+ghost use lib.ListN.{length};
+ghost use Rattle.record.specs.Read.{BitsRead};
+ghost use Rattle.record.specs.Judge.{CheckRead, Reached, Judges};
+
+// What comes of judging a record.
+pub enum Judged {
+    Right { n: usize, m: usize },
+    Stopped { place: usize },
+}
+
+// What comes of judging a check: the place behind it, or of its faulty word.
+pub enum Step {
+    Next(usize),
+    Stop(usize),
+}
+
+// How many of `count` words from place `from` on are bits below `n`, each above the one before.
+fn bits(source: &[u32], n: usize, from: usize, count: usize) -> usize
+    requires { ⌜ from + count ≤ length (now source) ⌝ }
+    ensures { λ r. ⌜ BitsRead n (now (source .entry)) from count r ⌝ }
+{
+    let mut low = 0;
+    for i in 0..count {
+        let Word::Bit(b) = read(source[from + i]) else {
+            return i;
+        };
+        if b < low {
+            return i;
+        }
+        if n <= b {
+            return i;
+        }
+        low = b + 1;
+    }
+    count
+}
+
+// Judges a check, whose kind 2 word is at place `p`.
+fn check(source: &[u32], n: usize, p: usize) -> Step
+    requires { ⌜ p ≤ length (now source) ⌝ }
+    ensures { λ r. ⌜ CheckRead n (now (source .entry)) p r ⌝ }
+{
+    if p == source.len() {
+        return Step::Stop(p);
+    }
+    let Word::Open(count) = read(source[p]) else {
+        return Step::Stop(p);
+    };
+    if n < count {
+        return Step::Stop(p);
+    }
+    let left = source.len() - p - 1;
+    let due = if count < left { count } else { left };
+    let right = bits(source, n, p + 1, due);
+    if right < count {
+        return Step::Stop(p + 1 + right);
+    }
+    Step::Next(p + 1 + right)
+}
+
+// Judges what is left at place `p`, behind the checks: the end word, and nothing else.
+fn last(source: &[u32], n: usize, m: usize, p: usize) -> Judged
+    requires { ⌜ Reached n m (now source) p m ⌝ }
+    ensures { λ r. ⌜ Judges (now (source .entry)) r ⌝ }
+{
+    if p == source.len() {
+        return Judged::Stopped { place: p };
+    }
+    let Word::End(x) = read(source[p]) else {
+        return Judged::Stopped { place: p };
+    };
+    if x != 0 {
+        return Judged::Stopped { place: p };
+    }
+    if p + 1 < source.len() {
+        return Judged::Stopped { place: p + 1 };
+    }
+    Judged::Right { n, m }
+}
+
+// Judges the checks and what is behind them.
+fn checks(source: &[u32], n: usize, m: usize) -> Judged
+    requires { ⌜ Reached n m (now source) 1 0 ⌝ }
+    ensures { λ r. ⌜ Judges (now (source .entry)) r ⌝ }
+{
+    let mut p = 1;
+    for c in 0..m {
+        match check(source, n, p) {
+            Step::Next(q) => {
+                p = q;
+            }
+            Step::Stop(q) => {
+                return Judged::Stopped { place: q };
+            }
+        }
+    }
+    last(source, n, m, p)
+}
+
+// Judges a record.
+pub fn judge(source: &[u32]) -> Judged
+    ensures { λ r. ⌜ Judges (now (source .entry)) r ⌝ }
+{
+    if source.len() == 0 {
+        return Judged::Stopped { place: 0 };
+    }
+    let Word::Head(x) = read(source[0]) else {
+        return Judged::Stopped { place: 0 };
+    };
+    let n = x % 256;
+    let m = x / 256;
+    if n < 1 {
+        return Judged::Stopped { place: 0 };
+    }
+    if 120 < n {
+        return Judged::Stopped { place: 0 };
+    }
+    if 120 < m {
+        return Judged::Stopped { place: 0 };
+    }
+    checks(source, n, m)
+}

@@ -1,0 +1,66 @@
+// Records: a matrix is loaded from one, and written as one.
+mod emit;
+mod fill;
+mod judge;
+mod words;
+
+use crate::emit::needed;
+use crate::emit::put_record;
+use crate::fill::fill;
+use crate::judge::Judged;
+use crate::judge::judge;
+use matrix::Acceptance;
+use matrix::accept;
+use parity::Refusal;
+ghost use mathlib.Core.Path.{_≡_};
+ghost use Rattle.parity.specs.Calls.{loadOutcome, writeOutcome};
+ghost use Rattle.record.specs.Replies.{loadReplyOf, writeReplyOf};
+
+// What loading answers.
+pub enum Loading {
+    Loaded { n: usize, m: usize },
+    Refused(Refusal),
+}
+
+// What writing answers.
+pub enum Writing {
+    Written { used: usize },
+    Refused(Refusal),
+}
+
+// Loads the matrix of a record into all 4,096 words.
+pub fn load(record: &[u32], words: &mut [u64]) -> Loading
+    ensures { λ r. ⌜ loadReplyOf r ≡ loadOutcome (now («record» .entry)) (now (words .entry)) .reply ⌝ }
+    ensures { λ r. ⌜ now (words .exit) ≡ loadOutcome (now («record» .entry)) (now (words .entry)) .after ⌝ }
+{
+    if words.len() != 4096 {
+        return Loading::Refused(Refusal::MatrixLength);
+    }
+    match judge(record) {
+        Judged::Stopped { place } => Loading::Refused(Refusal::FaultyWord { place }),
+        Judged::Right { n, m } => {
+            fill(record, words, m);
+            Loading::Loaded { n, m }
+        }
+    }
+}
+
+// Writes a matrix with k = 0 into the first words of a record.
+pub fn write(words: &[u64], n: usize, m: usize, k: usize, record: &mut [u32]) -> Writing
+    ensures { λ r. ⌜ writeReplyOf r ≡ writeOutcome (now (words .entry)) n m k (now («record» .entry)) .reply ⌝ }
+    ensures { λ r. ⌜ now («record» .exit) ≡ writeOutcome (now (words .entry)) n m k (now («record» .entry)) .after ⌝ }
+{
+    let acceptance = accept(words, n, m, k);
+    if let Acceptance::Refused(why) = acceptance {
+        return Writing::Refused(why);
+    }
+    if 0 < k {
+        return Writing::Refused(Refusal::AddedBits);
+    }
+    let used = needed(words, m);
+    if record.len() < used {
+        return Writing::Refused(Refusal::RecordTooShort { needed: used });
+    }
+    put_record(words, n, m, record);
+    Writing::Written { used }
+}

@@ -1,0 +1,332 @@
+// Records loaded and written: each line is a case and its reply.
+mod build;
+mod same;
+mod say;
+
+use crate::build::circulant;
+use crate::build::full;
+use crate::same::begins;
+use crate::same::left;
+use crate::same::same_words;
+use crate::say::loads;
+use crate::say::number;
+use crate::say::place;
+use crate::say::writes;
+use record::Loading;
+use record::Writing;
+ghost use mathlib.Core.Path.{_≡_};
+ghost use Prim.Native.Nat.{_<_, _≤_};
+ghost use lib.ListN.{length};
+
+// The records of cases A, C, E, F and I.
+const A: [u32; 17] = [
+    0x1000_0307,
+    0x2000_0004,
+    0x3000_0000,
+    0x3000_0003,
+    0x3000_0004,
+    0x3000_0006,
+    0x2000_0004,
+    0x3000_0001,
+    0x3000_0003,
+    0x3000_0005,
+    0x3000_0006,
+    0x2000_0004,
+    0x3000_0002,
+    0x3000_0004,
+    0x3000_0005,
+    0x3000_0006,
+    0xf000_0000,
+];
+
+const E: [u32; 10] = [
+    0x1000_0203,
+    0x2000_0003,
+    0x3000_0000,
+    0x3000_0001,
+    0x3000_0002,
+    0x2000_0003,
+    0x3000_0000,
+    0x3000_0001,
+    0x3000_0002,
+    0xf000_0000,
+];
+
+const F: [u32; 2] = [0x1000_0002, 0xf000_0000];
+
+const I: [u32; 7] = [
+    0x1000_0202,
+    0x2000_0001,
+    0x3000_0000,
+    0x2000_0002,
+    0x3000_0000,
+    0x3000_0001,
+    0xf000_0000,
+];
+
+const C: [u32; 16] = [
+    0x1000_0307,
+    0x2000_0004,
+    0x3000_0000,
+    0x3000_0001,
+    0x3000_0002,
+    0x3000_0003,
+    0x2000_0004,
+    0x3000_0000,
+    0x3000_0001,
+    0x3000_0004,
+    0x3000_0005,
+    0x2000_0003,
+    0x3000_0000,
+    0x3000_0002,
+    0x3000_0006,
+    0xf000_0000,
+];
+
+// Words that are wrong at most places: other kinds, counts above n, bits not below n, unnamed bits set.
+const WRONG: [u32; 14] = [
+    0,
+    0x1000_0307,
+    0x1000_0079,
+    0x1001_0007,
+    0x2000_0000,
+    0x2000_0008,
+    0x2000_0104,
+    0x3000_0000,
+    0x3000_0006,
+    0x3000_0007,
+    0x3800_0000,
+    0x4000_0000,
+    0xf000_0000,
+    0xf000_0001,
+];
+
+// Loads a record into words that are all ones.
+fn load_case(head: &[u8], source: &[u32]) {
+    let mut words = [0xffff_ffff_ffff_ffff; 4096];
+    io::write_all(1, head);
+    let r = record::load(source, &mut words);
+    loads(r);
+    if left(&words) {
+        io::write_all(1, b", words left");
+    }
+    io::write_all(1, b"\n");
+}
+
+// Loads a record, writes its matrix and says whether the record comes back.
+fn round_trip(head: &[u8], source: &[u32]) {
+    let mut words = [0xffff_ffff_ffff_ffff; 4096];
+    io::write_all(1, head);
+    let r = record::load(source, &mut words);
+    loads(r);
+    if let Loading::Loaded { n, m } = r {
+        write_back(source, &words, n, m);
+    }
+    io::write_all(1, b"\n");
+}
+
+// Writes a matrix and compares the record with the one that it came from.
+fn write_back(source: &[u32], words: &[u64], n: usize, m: usize) {
+    let mut target = [0xffff_ffffu32; 14523];
+    let w = record::write(words, n, m, 0, &mut target);
+    io::write_all(1, b", ");
+    writes(w);
+    if let Writing::Written { used } = w {
+        if used == source.len() {
+            if begins(source, &target) {
+                io::write_all(1, b", the same record");
+            }
+        }
+    }
+}
+
+// Writes a matrix, loads what was written and compares the words.
+fn write_case(head: &[u8], words: &[u64], n: usize, m: usize, k: usize) {
+    let mut target = [0xffff_ffffu32; 14523];
+    io::write_all(1, head);
+    let w = record::write(words, n, m, k, &mut target);
+    writes(w);
+    if let Writing::Written { used } = w {
+        load_back(&target, used, words);
+    }
+    if target[14522] == 0xffff_ffff {
+        io::write_all(1, b", the last word left");
+    }
+    io::write_all(1, b"\n");
+}
+
+// Loads the first `used` words of a record and compares the matrix's words with those that were written.
+fn load_back(target: &[u32], used: usize, words: &[u64]) {
+    let mut back = [0xffff_ffff_ffff_ffff; 4096];
+    if target.len() < used {
+        return;
+    }
+    io::write_all(1, b", ");
+    loads(record::load(&target[..used], &mut back));
+    if words.len() == 4096 {
+        if same_words(words, &back) {
+            io::write_all(1, b", the same words");
+        }
+    }
+}
+
+// The records of the bench's matrices with k = 0, and an empty record.
+fn bench() {
+    round_trip(b"A: ", &A);
+    round_trip(b"C: ", &C);
+    round_trip(b"E: ", &E);
+    round_trip(b"F: ", &F);
+    round_trip(b"I: ", &I);
+    let none: [u32; 0] = [];
+    round_trip(b"K: ", &none);
+}
+
+// First words at the ends of their ranges, and other lengths.
+fn firsts() {
+    load_case(b"n = 120: ", &[0x1000_0078, 0xf000_0000]);
+    load_case(b"n = 121: ", &[0x1000_0079, 0xf000_0000]);
+    load_case(b"n = 0: ", &[0x1000_0000, 0xf000_0000]);
+    load_case(b"m = 121: ", &[0x1000_7901, 0xf000_0000]);
+    load_case(b"only the first word: ", &[0x1000_0001]);
+    load_case(
+        b"n = 3, count 3, first bit 2: ",
+        &[
+            0x1000_0103,
+            0x2000_0003,
+            0x3000_0002,
+            0x3000_0002,
+            0xf000_0000,
+        ],
+    );
+    load_case(
+        b"equal bits: ",
+        &[
+            0x1000_0103,
+            0x2000_0002,
+            0x3000_0001,
+            0x3000_0001,
+            0xf000_0000,
+        ],
+    );
+    load_case(
+        b"a check too many: ",
+        &[0x1000_0102, 0x2000_0000, 0x2000_0000, 0xf000_0000],
+    );
+    load_case(
+        b"a check too few: ",
+        &[0x1000_0202, 0x2000_0000, 0xf000_0000],
+    );
+    load_case(
+        b"a word after the end: ",
+        &[0x1000_0002, 0xf000_0000, 0xf000_0000],
+    );
+}
+
+// The record of C with one word replaced.
+fn replaced(at: usize, word: u32)
+    requires { ⌜ at < 16 ⌝ }
+{
+    let mut words = [0u64; 4096];
+    let mut source = C;
+    source[at] = word;
+    place(record::load(&source, &mut words));
+}
+
+fn replaced_at(at: usize)
+    requires { ⌜ at < 16 ⌝ }
+{
+    let wrong = WRONG;
+    for f in 0..14 {
+        replaced(at, wrong[f]);
+    }
+}
+
+fn replaced_line(at: usize)
+    requires { ⌜ at < 16 ⌝ }
+{
+    number(b"C with another word at ", at as u64);
+    io::write_all(1, b":");
+    replaced_at(at);
+    io::write_all(1, b"\n");
+}
+
+fn all_replaced() {
+    for at in 0..16 {
+        replaced_line(at);
+    }
+}
+
+// The first words of a record.
+fn cut(source: &[u32], len: usize)
+    requires { ⌜ len ≤ length (now source) ⌝ }
+{
+    let mut words = [0u64; 4096];
+    place(record::load(&source[..len], &mut words));
+}
+
+fn all_cut(source: &[u32])
+    requires { ⌜ length (now source) ≡ 16 ⌝ }
+{
+    for len in 0..17 {
+        cut(source, len);
+    }
+}
+
+// 4,095 words of a matrix.
+fn lengths() {
+    let mut words = [0u64; 4095];
+    io::write_all(1, b"into 4,095 words: ");
+    loads(record::load(&[0u32; 1], &mut words));
+    io::write_all(1, b"\n");
+    write_case(b"of 4,095 words: ", &words, 1, 0, 0);
+}
+
+// Lent records that are one word short and exact.
+fn rooms(words: &[u64]) {
+    let mut short = [0u32; 14521];
+    io::write_all(1, b"one word short: ");
+    writes(record::write(words, 120, 120, 0, &mut short));
+    if short[0] == 0 {
+        io::write_all(1, b", the first word left");
+    }
+    let mut exact = [0u32; 14522];
+    io::write_all(1, b"\nexact: ");
+    writes(record::write(words, 120, 120, 0, &mut exact));
+    io::write_all(1, b"\n");
+    load_case(b"14,522 words: ", &exact);
+}
+
+// The full record with one word more.
+fn too_long(words: &[u64]) {
+    let mut target = [0xffff_ffffu32; 14523];
+    record::write(words, 120, 120, 0, &mut target);
+    load_case(b"14,523 words: ", &target);
+}
+
+// One word of a matrix set.
+fn with_word(head: &[u8], w: u64, n: usize, m: usize, k: usize) {
+    let mut words = [0u64; 4096];
+    words[0] = w;
+    write_case(head, &words, n, m, k);
+}
+
+fn main() {
+    bench();
+    let l = circulant();
+    write_case(b"L: ", &l, 23, 23, 0);
+    let all = full();
+    write_case(b"full: ", &all, 120, 120, 0);
+    rooms(&all);
+    too_long(&all);
+    firsts();
+    all_replaced();
+    io::write_all(1, b"C cut:");
+    all_cut(&C);
+    io::write_all(1, b"\n");
+    lengths();
+    with_word(b"n = 121 to write: ", 0, 121, 0, 0);
+    with_word(b"a one outside: ", 2, 1, 1, 0);
+    with_word(b"rule A broken: ", 1, 1, 0, 1);
+    with_word(b"k = 1: ", 7, 2, 0, 1);
+    with_word(b"n = 1, m = 1, empty: ", 0, 1, 1, 0);
+}

@@ -1,0 +1,410 @@
+//! Times each call of the library through the C interface against plain Rust of the same call, in the same run, and
+//! prints tables in Markdown. Both sides are compared on every input before they are timed.
+
+mod plain;
+
+#[allow(unused_imports)]
+use parity::ffi;
+use std::hint::black_box;
+use std::process::ExitCode;
+use std::time::Instant;
+
+const WORDS: usize = 4096;
+/// Each time is the best of so many runs, and a run takes about so many nanoseconds.
+const RUNS: usize = 15;
+const RUN_LENGTH: u64 = 1_500_000;
+
+#[derive(Clone, Copy, PartialEq, Debug)]
+enum Call {
+    Load,
+    Write,
+    Share,
+    Count,
+    Split,
+    Orthogonalise,
+    Verify,
+    Extend,
+    IsStopping,
+    Peel,
+    Rank,
+    Encode,
+}
+
+fn built_in(call: Call) -> bool {
+    match call {
+        Call::Load => cfg!(feature = "load"),
+        Call::Write => cfg!(feature = "write"),
+        Call::Share => cfg!(feature = "share"),
+        Call::Count => cfg!(feature = "count"),
+        Call::Split => cfg!(feature = "split"),
+        Call::Orthogonalise => cfg!(feature = "orthogonalise"),
+        Call::Verify => cfg!(feature = "verify"),
+        Call::Extend => cfg!(feature = "extend"),
+        Call::IsStopping => cfg!(feature = "is_stopping"),
+        Call::Peel => cfg!(feature = "peel"),
+        Call::Rank => cfg!(feature = "rank"),
+        Call::Encode => cfg!(feature = "encode"),
+    }
+}
+
+/// All that a call is lent and passed.
+#[derive(Clone, PartialEq, Debug)]
+struct Job {
+    call: Call,
+    words: Vec<u64>,
+    n: usize,
+    m: usize,
+    k: usize,
+    u: usize,
+    v: usize,
+    record: Vec<u32>,
+    input: Vec<u8>,
+    word: Vec<u8>,
+    values: [u64; 3],
+}
+
+fn in_plain(job: &mut Job) -> u32 {
+    let (n, m, k, values) = (job.n, job.m, job.k, &mut job.values);
+    match job.call {
+        Call::Load => plain::load(&job.record, &mut job.words, values),
+        Call::Write => plain::write(&job.words, n, m, k, &mut job.record, values),
+        Call::Share => plain::share(&job.words, n, m, k, job.u, job.v, values),
+        Call::Count => plain::count(&job.words, n, m, k, values),
+        Call::Split => plain::split(&mut job.words, n, m, k, job.u, job.v, values),
+        Call::Orthogonalise => plain::orthogonalise(&mut job.words, n, m, k, values),
+        Call::Verify => plain::verify(&job.words, n, m, k, &job.input, values),
+        Call::Extend => plain::extend(&job.words, n, m, k, &job.input, &mut job.word, values),
+        Call::IsStopping => plain::is_stopping(&job.words, n, m, k, &job.input, values),
+        Call::Peel => plain::peel(&job.words, n, m, k, &mut job.word, values),
+        Call::Rank => plain::rank(&job.words, n, m, k, values),
+        Call::Encode => plain::encode(&job.words, n, m, k, &job.input, &mut job.word, values),
+    }
+}
+
+#[allow(unused_unsafe, unused_variables, unreachable_code)]
+fn in_library(job: &mut Job) -> u32 {
+    let (n, m, k, u, v) = (job.n, job.m, job.k, job.u, job.v);
+    let (words, words_len) = (job.words.as_mut_ptr(), job.words.len());
+    let (record, record_len) = (job.record.as_mut_ptr(), job.record.len());
+    let (input, input_len) = (job.input.as_ptr(), job.input.len());
+    let (word, word_len) = (job.word.as_mut_ptr(), job.word.len());
+    let (values, values_len) = (job.values.as_mut_ptr(), job.values.len());
+    // Every pointer and length is that of a live vector, and no two overlap.
+    unsafe {
+        match job.call {
+            #[cfg(feature = "load")]
+            Call::Load => ffi::parity_load(record, record_len, words, words_len, values, values_len),
+            #[cfg(feature = "write")]
+            Call::Write => ffi::parity_write(words, words_len, n, m, k, record, record_len, values, values_len),
+            #[cfg(feature = "share")]
+            Call::Share => ffi::parity_share(words, words_len, n, m, k, u, v, values, values_len),
+            #[cfg(feature = "count")]
+            Call::Count => ffi::parity_count(words, words_len, n, m, k, values, values_len),
+            #[cfg(feature = "split")]
+            Call::Split => ffi::parity_split(words, words_len, n, m, k, u, v, values, values_len),
+            #[cfg(feature = "orthogonalise")]
+            Call::Orthogonalise => ffi::parity_orthogonalise(words, words_len, n, m, k, values, values_len),
+            #[cfg(feature = "verify")]
+            Call::Verify => ffi::parity_verify(words, words_len, n, m, k, input, input_len, values, values_len),
+            #[cfg(feature = "extend")]
+            Call::Extend => {
+                ffi::parity_extend(words, words_len, n, m, k, input, input_len, word, word_len, values, values_len)
+            }
+            #[cfg(feature = "is_stopping")]
+            Call::IsStopping => {
+                ffi::parity_is_stopping(words, words_len, n, m, k, input, input_len, values, values_len)
+            }
+            #[cfg(feature = "peel")]
+            Call::Peel => ffi::parity_peel(words, words_len, n, m, k, word, word_len, values, values_len),
+            #[cfg(feature = "rank")]
+            Call::Rank => ffi::parity_rank(words, words_len, n, m, k, values, values_len),
+            #[cfg(feature = "encode")]
+            Call::Encode => {
+                ffi::parity_encode(words, words_len, n, m, k, input, input_len, word, word_len, values, values_len)
+            }
+            #[allow(unreachable_patterns)]
+            _ => panic!("{:?} was not built in", job.call),
+        }
+    }
+}
+
+/// The nanoseconds of `times` calls. What a call writes is put back before the next one: a matrix outside the time,
+/// a word of at most 512 bytes inside it.
+fn timed(run: fn(&mut Job) -> u32, job: &Job, scratch: &mut Job, times: u64, clock: u64) -> u64 {
+    if matches!(job.call, Call::Split | Call::Orthogonalise) {
+        let mut sum = 0;
+        for _ in 0..times {
+            scratch.words.copy_from_slice(&job.words);
+            let start = Instant::now();
+            black_box(run(black_box(scratch)));
+            sum += (start.elapsed().as_nanos() as u64).saturating_sub(clock);
+        }
+        return sum;
+    }
+    let start = Instant::now();
+    for _ in 0..times {
+        if job.call == Call::Peel {
+            scratch.word.copy_from_slice(&job.word);
+        }
+        black_box(run(black_box(scratch)));
+    }
+    start.elapsed().as_nanos() as u64
+}
+
+/// What reading the clock twice takes.
+fn clock() -> u64 {
+    (0..1000).map(|_| Instant::now().elapsed().as_nanos() as u64).min().unwrap()
+}
+
+/// The best nanoseconds of one call: the library's, if it is built in, and plain Rust's.
+fn measure(job: &Job) -> Result<(Option<u64>, u64), String> {
+    let library = built_in(job.call);
+    let mut expected = job.clone();
+    let number = in_plain(&mut expected);
+    if library {
+        let mut found = job.clone();
+        let got = in_library(&mut found);
+        if got != number || found != expected {
+            return Err(format!(
+                "{:?} with n {} m {} k {} differs: library {got} {:?}, plain {number} {:?}",
+                job.call, job.n, job.m, job.k, found.values, expected.values
+            ));
+        }
+    }
+    let clock = clock();
+    let mut scratch = job.clone();
+    let once = timed(in_plain, job, &mut scratch, 3, clock) / 3;
+    let times = (RUN_LENGTH / once.max(1)).clamp(3, 10_000);
+    let (mut best_library, mut best_plain) = (u64::MAX, u64::MAX);
+    for _ in 0..RUNS {
+        best_plain = best_plain.min(timed(in_plain, job, &mut scratch, times, clock));
+        if library {
+            best_library = best_library.min(timed(in_library, job, &mut scratch, times, clock));
+        }
+    }
+    Ok((library.then_some(best_library / times), best_plain / times))
+}
+
+struct Random(u64);
+
+impl Random {
+    fn below(&mut self, end: usize) -> usize {
+        self.0 ^= self.0 << 13;
+        self.0 ^= self.0 >> 7;
+        self.0 ^= self.0 << 17;
+        (self.0.wrapping_mul(0x2545_F491_4F6C_DD1D) >> 33) as usize % end
+    }
+}
+
+/// A matrix with a name.
+#[derive(Clone)]
+struct Case {
+    name: &'static str,
+    words: Vec<u64>,
+    n: usize,
+    m: usize,
+    k: usize,
+}
+
+impl Case {
+    fn given(name: &'static str, n: usize, checks: &[Vec<usize>]) -> Case {
+        let mut words = vec![0; WORDS];
+        for (c, bits) in checks.iter().enumerate() {
+            for b in bits {
+                words[8 * c + b / 64] |= 1 << (b % 64);
+            }
+        }
+        Case { name, words, n, m: checks.len(), k: 0 }
+    }
+
+    fn orthogonalised(&self) -> Case {
+        let mut case = self.clone();
+        let mut values = [0; 3];
+        plain::orthogonalise(&mut case.words, case.n, case.m, case.k, &mut values);
+        case.k = values[2] as usize;
+        case
+    }
+
+    fn job(&self, call: Call) -> Job {
+        Job {
+            call,
+            words: self.words.clone(),
+            n: self.n,
+            m: self.m,
+            k: self.k,
+            u: 0,
+            v: 1,
+            record: Vec::new(),
+            input: Vec::new(),
+            word: Vec::new(),
+            values: [0; 3],
+        }
+    }
+
+    /// The pair with the largest share, the first if there are several.
+    fn pair(&self) -> (usize, usize) {
+        let mut best = (0, 1);
+        let mut most = 0;
+        for u in 0..self.n + self.k {
+            for v in u + 1..self.n + self.k {
+                let mut share = [0];
+                plain::share(&self.words, self.n, self.m, self.k, u, v, &mut share);
+                if share[0] > most {
+                    most = share[0];
+                    best = (u, v);
+                }
+            }
+            if u > 16 && self.k > 0 {
+                break;
+            }
+        }
+        best
+    }
+}
+
+fn cases(r: &mut Random) -> Vec<Case> {
+    let dense: Vec<Vec<usize>> = (0..120).map(|_| (0..120).filter(|_| r.below(2) == 0).collect()).collect();
+    let l: Vec<Vec<usize>> =
+        (0..23).map(|c| [0, 1, 2, 3, 4, 7, 10, 12].iter().map(|e| (c + e) % 23).collect()).collect();
+    let hamming: Vec<Vec<usize>> = (0..5).map(|c| (0..31).filter(|b| (b + 1) >> c & 1 == 1).collect()).collect();
+    let mut sparse = vec![Vec::new(); 60];
+    for layer in 0..3 {
+        let mut order: Vec<usize> = (0..120).collect();
+        for i in (1..120).rev() {
+            order.swap(i, r.below(i + 1));
+        }
+        for (i, b) in order.into_iter().enumerate() {
+            sparse[20 * layer + i / 6].push(b);
+        }
+    }
+    vec![
+        Case::given("dense 120 x 120", 120, &dense),
+        Case::given("case L", 23, &l),
+        Case::given("Hamming 31", 31, &hamming),
+        Case::given("sparse 60 x 120", 120, &sparse),
+    ]
+}
+
+/// A codeword of the given matrix, and the same extended.
+fn codeword(r: &mut Random, given: &Case, extended: &Case) -> (Vec<u8>, Vec<u8>) {
+    let mut values = [0; 3];
+    plain::rank(&given.words, given.n, given.m, 0, &mut values);
+    let message: Vec<u8> = (0..given.n - values[0] as usize).map(|_| r.below(2) as u8).collect();
+    let mut sent = vec![0; given.n];
+    plain::encode(&given.words, given.n, given.m, 0, &message, &mut sent, &mut values);
+    let mut word = vec![0; extended.n + extended.k];
+    plain::extend(&extended.words, extended.n, extended.m, extended.k, &sent, &mut word, &mut values);
+    (message, word)
+}
+
+/// The rows of a table for one matrix: the name of each, and its call.
+fn jobs(r: &mut Random, given: &Case, case: &Case) -> Vec<(String, Job)> {
+    let (message, word) = codeword(r, given, case);
+    let mut rows = Vec::new();
+    let mut row = |name: &str, job: Job| rows.push((name.to_string(), job));
+    let (u, v) = case.pair();
+    let mut job = case.job(Call::Share);
+    (job.u, job.v) = (u, v);
+    row("share", job.clone());
+    row("count", case.job(Call::Count));
+    job.call = Call::Split;
+    row("split", job);
+    row("orthogonalise", case.job(Call::Orthogonalise));
+    let mut job = case.job(Call::Verify);
+    job.input = word.clone();
+    row("verify", job);
+    let mut job = case.job(Call::Extend);
+    job.input = word[..case.n].to_vec();
+    job.word = vec![0; case.n + case.k];
+    row("extend", job);
+    let mut job = case.job(Call::IsStopping);
+    job.input = vec![1; case.n + case.k];
+    row("is_stopping", job);
+    for part in [10, 30, 45] {
+        let mut job = case.job(Call::Peel);
+        job.word = word.clone();
+        // So many of 100 sent bits are erased, and all added ones.
+        job.word[case.n..].fill(2);
+        for _ in 0..case.n * part / 100 {
+            let mut b = r.below(case.n);
+            while job.word[b] == 2 {
+                b = r.below(case.n);
+            }
+            job.word[b] = 2;
+        }
+        row(&format!("peel {part} %"), job);
+    }
+    if case.k == 0 {
+        let mut values = [0; 3];
+        let mut job = case.job(Call::Write);
+        plain::write(&case.words, case.n, case.m, 0, &mut [], &mut values);
+        job.record = vec![0; values[0] as usize];
+        in_plain(&mut job);
+        row("write", job.clone());
+        job.call = Call::Load;
+        row("load", job);
+        row("rank", case.job(Call::Rank));
+        let mut job = case.job(Call::Encode);
+        job.input = message;
+        job.word = vec![0; case.n];
+        row("encode", job);
+    }
+    rows
+}
+
+fn thousands(x: u64) -> String {
+    let digits = x.to_string();
+    let mut text = String::new();
+    for (i, digit) in digits.chars().enumerate() {
+        if i > 0 && (digits.len() - i) % 3 == 0 {
+            text.push(',');
+        }
+        text.push(digit);
+    }
+    text
+}
+
+fn table(r: &mut Random, given: &[Case], cases: &[Case]) -> Result<(), String> {
+    let heads: Vec<String> = cases.iter().map(|case| format!("{}, k={}", case.name, case.k)).collect();
+    println!("| call | {} |", heads.join(" | "));
+    println!("|---|{}", "--:|".repeat(cases.len()));
+    let columns: Vec<Vec<(String, Job)>> = given.iter().zip(cases).map(|(given, case)| jobs(r, given, case)).collect();
+    for row in 0..columns[0].len() {
+        let mut line = format!("| {} |", columns[0][row].0);
+        for column in &columns {
+            let cell = match measure(&column[row].1)? {
+                (Some(library), plain) => {
+                    let ratio = library as f64 / plain.max(1) as f64;
+                    format!(" {} / {} = {ratio:.1} |", thousands(library), thousands(plain))
+                }
+                (None, plain) => format!(" - / {} |", thousands(plain)),
+            };
+            line += &cell;
+        }
+        println!("{line}");
+    }
+    println!();
+    Ok(())
+}
+
+fn main() -> ExitCode {
+    let r = &mut Random(0x9E37_79B9_7F4A_7C15);
+    let given = cases(r);
+    let extended: Vec<Case> = given.iter().map(Case::orthogonalised).collect();
+    println!(
+        "Nanoseconds of one call, library / plain Rust = ratio; the best of {RUNS} runs. Acceptance is part of each.\n"
+    );
+    println!("Given matrices:\n");
+    let mut result = table(r, &given, &given);
+    if result.is_ok() {
+        println!("Orthogonalised:\n");
+        result = table(r, &given, &extended);
+    }
+    match result {
+        Ok(()) => ExitCode::SUCCESS,
+        Err(difference) => {
+            println!("\nDIFFERENCE: {difference}");
+            ExitCode::FAILURE
+        }
+    }
+}

@@ -1,0 +1,27 @@
+// Mends a word: reads a record and a word from standard input, and writes the report or the refusal to standard output.
+use receiver::Mended;
+ghost use mathlib.Core.Path.{_≡_};
+ghost use lib.ListN.{length};
+
+// Room for the longest input that is not refused, and one byte more, to know that more came.
+fn input_room() -> [u8; 65537]
+    ensures { λ r. ⌜ 65537 ≡ length r ⌝ }
+{
+    [0u8; 65537]
+}
+
+// Room for every output.
+fn output_room() -> [u8; 4096]
+    ensures { λ r. ⌜ 4096 ≡ length r ⌝ }
+{
+    [0u8; 4096]
+}
+
+fn main() {
+    let mut input = input_room();
+    let read = io::read_full(0, &mut input);
+    let mut output = output_room();
+    if let Mended::Written(size) = receiver::mend(&input[..read], &mut output) {
+        io::write_all(1, &output[..size]);
+    }
+}

@@ -1,0 +1,154 @@
+-- Laws of the stages: what a refusal and an answer lead to. Assumes nothing.
+use Prim.Native.Nat.{ℕ, _+_, _-_, _≤_}
+use mathlib.Core.Path.{_≡_, _∙_, refl, sym, ap}
+use mathlib.Core.Bool.{Bool, true, false, cond, _&&_}
+use mathlib.Core.List.{List, [], _∷_, _++_, append-assoc}
+use native.Mathlib.Omega.{arith}
+use native.Mathlib.Decide.{ℕ-discrete, decLt}
+use borrow.Author.Tests.{ne-eqb}
+use lib.ListN.{length, getD, take, drop, replicate, length-append, length-replicate, replicate-append-replicate, List·getD-eq-default}
+use lib.Seq.{take-at, drop-at, take-append-add}
+use Rattle.parity.specs.Finite.{one, anySet, listFrom}
+use Rattle.parity.specs.Matrix.{Matrix, lent, pack, cause}
+use Rattle.parity.specs.Cycles.{Orthogonalised, orthogonal}
+use Rattle.parity.specs.Words.{isOne, residue, erased, solves, peeled}
+use Rattle.parity.specs.Causes.{Reply, answer, refusal, refusalOf, Outcome}
+use Rattle.parity.specs.Calls.{byteOf, loadOutcome, orthogonalisedReply, orthogonaliseOutcome, peelReply, peelOutcome}
+use Rattle.parity.specs.Mend.{refusedLine, report, unlessRefused}
+use Rattle.parity.specs.declared.Refusal.{Refusal}
+use Rattle.parity.proofs.Packing.{length-listFrom, at-listFrom}
+use Rattle.parity.proofs.Accept.{accepts, accepting-answers, accepting-refuses}
+use Rattle.parity.proofs.Replies.{orthogonalises, orthogonal-accepted}
+use Rattle.parity.proofs.Refused.{refused-number}
+use Rattle.parity.specs.declared.Refusal.the-variants.{WrongLength}
+use Rattle.receiver.specs.Placed.{placed}
+use Rattle.receiver.specs.Lines.{Bytes}
+use Rattle.receiver.specs.Stages.{peelText, orthogonaliseText, loadInto, loadText}
+
+-- a refusal's line
+unless : (r : Refusal) (reply : Reply) (text : List ℕ) → refusalOf r ≡ reply → refusedLine (refusalOf r .number) ≡ unlessRefused reply text
+unfolding unlessRefused
+unless r reply text e = rw (← e, ne-eqb (refusalOf r .number) 0 (refused-number r))
+
+-- loading
+module _ (ws source sent : List ℕ) where
+  pub load-refused : (r : Refusal) → refusalOf r ≡ loadOutcome source ws .reply → refusedLine (refusalOf r .number) ≡ loadInto ws source sent
+  unfolding loadInto
+  load-refused r e = unless r _ _ e
+
+  pub load-passes : (n m : ℕ) → answer (n ∷ m ∷ []) ≡ loadOutcome source ws .reply
+      → orthogonaliseText (loadOutcome source ws .after) n m sent ≡ loadInto ws source sent
+  unfolding loadInto unlessRefused
+  load-passes n m e = rw (← e)
+
+  pub load-zero : ws ≡ replicate 4096 0 → loadInto ws source sent ≡ loadText source sent
+  unfolding loadText
+  load-zero e = ap (λ (l : List ℕ). loadInto l source sent) e
+
+-- orthogonalising: its reply carries k, whether it finishes or not
+carried : (finished : Bool) (vs : List ℕ) → cond finished (answer vs) (refusal 9 vs) .values ≡ vs
+carried true vs = refl
+carried false vs = refl
+
+last : (x : Orthogonalised) → getD (orthogonalisedReply x .values) 2 0 ≡ x .k
+unfolding orthogonalisedReply
+last x = rw carried
+
+refused : (ws : List ℕ) (n m : ℕ) → (cause ws n m 0 ≡ 0 → ⊥) → orthogonaliseOutcome ws n m 0 .reply ≡ refusal (cause ws n m 0) []
+unfolding orthogonaliseOutcome
+refused ws n m q = accepting-refuses ws n m 0 _ q
+
+module _ (ws : List ℕ) (n m : ℕ) where
+  pub orthogonalise-refused : (sent : List ℕ) (r : Refusal) → refusalOf r ≡ orthogonaliseOutcome ws n m 0 .reply
+      → refusedLine (refusalOf r .number) ≡ orthogonaliseText ws n m sent
+  unfolding orthogonaliseText
+  orthogonalise-refused sent r e = unless r _ _ e
+
+  module _ (splits total k : ℕ) (e : answer (splits ∷ total ∷ k ∷ []) ≡ orthogonaliseOutcome ws n m 0 .reply) where
+    pub orthogonalise-passes : (sent : List ℕ)
+        → peelText (orthogonaliseOutcome ws n m 0 .after) n m k splits total (sent ++ replicate k 2) ≡ orthogonaliseText ws n m sent
+    unfolding orthogonaliseText unlessRefused
+    orthogonalise-passes sent = rw (← e)
+
+    -- what it leaves is accepted
+    pub orthogonalise-accepted : cause (orthogonaliseOutcome ws n m 0 .after) n m k ≡ 0
+    orthogonalise-accepted =
+        elim (ℕ-discrete (cause ws n m 0) 0) [
+          | yes q ↦
+              let A = accepts ws n m 0 .0 q in
+              let x = orthogonal 393 (lent 8 ws) n m 0 0 0 in
+              let f = orthogonalises ws n m 0 A in
+              let l : k ≡ x .k = ap (λ (r : Reply). getD (r .values) 2 0) (e ∙ ap (λ (y : Outcome). y .reply) f) ∙ last x in
+              rw (f, l) (accepts (pack 8 (x .matrix)) n m (x .k) .1 (orthogonal-accepted ws n m 0 A))
+          | no q ↦ absurd (q (sym (ap (λ (r : Reply). r .number) (e ∙ refused ws n m q))))
+        ]
+
+-- peeling: its bytes are at most 2
+cond-most : (a b : Bool) → cond a 2 (one b) ≤ 2
+cond-most true b = omega arith
+cond-most false true = omega arith
+cond-most false false = omega arith
+
+peeled-most : (h : Matrix) (N M : ℕ) (w : ℕ → ℕ) (b : ℕ) → peeled h N M w b ≤ 2
+unfolding peeled
+peeled-most h N M w b =
+    let r = residue h N M (erased w) in
+    cond-most (r b) (anySet N (λ y. solves h N M (erased w) r (isOne w) y && y b))
+
+listFrom-most : (N top : ℕ) (f : ℕ → ℕ) → ((b : ℕ) → f b ≤ top) → Bytes top (listFrom 0 N f)
+listFrom-most N top f h = record {
+  most = λ b.
+      elim (decLt b N) [
+        | yes l ↦ rw (at-listFrom 0 N f b l) (h (0 + b))
+        | no l ↦ rw (List·getD-eq-default (listFrom 0 N f) 0 {n = b} (rw (length-listFrom 0 N f) (omega arith))) (omega arith)
+      ];
+}
+
+-- peeling
+short : (ws : List ℕ) (n m k : ℕ) (w : List ℕ) → cause ws n m k ≡ 0 → (length w ≡ n + k → ⊥) → peelOutcome ws n m k w .reply ≡ refusal 10 []
+unfolding peelOutcome peelReply
+short ws n m k w q d = rw (accepting-answers ws n m k _ q, ne-eqb (length w) (n + k) d)
+
+module _ (ws : List ℕ) (n m k splits total : ℕ) (w : List ℕ) where
+  pub peel-refused : (r : Refusal) → refusalOf r ≡ peelOutcome ws n m k w .reply → refusedLine (refusalOf r .number) ≡ peelText ws n m k splits total w
+  unfolding peelText
+  peel-refused r e = unless r _ _ e
+
+  module _ (recovered left : ℕ) (e : answer (recovered ∷ left ∷ []) ≡ peelOutcome ws n m k w .reply) where
+    pub peel-passes : report n splits total (peelOutcome ws n m k w .after) ≡ peelText ws n m k splits total w
+    unfolding peelText unlessRefused
+    peel-passes = rw (← e)
+
+    -- its bytes are at most 2
+    pub peel-bytes : Bytes 2 (peelOutcome ws n m k w .after)
+    unfolding peelOutcome
+    peel-bytes = rw (← e) (listFrom-most (n + k) 2 (peeled (lent 8 ws) (n + k) (m + k) (byteOf w)) (peeled-most (lent 8 ws) (n + k) (m + k) (byteOf w)))
+
+-- a word of another length
+pub peel-short : (ws : List ℕ) (n m k splits total : ℕ) (sent : List ℕ) → cause ws n m k ≡ 0 → (length sent ≡ n → ⊥)
+    → refusedLine 10 ≡ peelText ws n m k splits total (sent ++ replicate k 2)
+peel-short ws n m k splits total sent q d =
+    let w = sent ++ replicate k 2 in
+    let l : length w ≡ n + k → ⊥ = λ e. d (omega (arith, length-append sent (replicate k 2), length-replicate {A = ℕ} k 2)) in
+    peel-refused ws n m k splits total w WrongLength (sym (short ws n m k w q l))
+
+-- the sent bits and then added ones that are erased
+replicate-part : (a b c N v : ℕ) → a + b + c ≡ N → take b (drop a (replicate N v)) ≡ replicate b v
+replicate-part a b c N v e =
+    let x = replicate a v in
+    let y = replicate b v in
+    let z = replicate c v in
+    let all : replicate N v ≡ x ++ (y ++ z) =
+    rw (← e, ← replicate-append-replicate (a + b) c v, ← replicate-append-replicate a b v) (append-assoc x y z) in
+    rw (all, drop-at x (y ++ z) a (length-replicate a v)) (take-at y z b (length-replicate b v))
+
+pub length-erased : (w : List ℕ) (N : ℕ) → w ≡ replicate N 2 → length w ≡ N
+length-erased w N z = rw z (length-replicate N 2)
+
+pub erased-rest : (sent old new : List ℕ) (n k N : ℕ) → length sent ≡ n → n + k ≤ N → old ≡ replicate N 2 → new ≡ placed 0 sent old
+    → take (n + k) new ≡ sent ++ replicate k 2
+unfolding placed
+erased-rest sent old new n k N e h z p =
+    let j = 0 + length sent in
+    let l : n + k ≡ length sent + k = omega arith in
+    rw (p, z, l) (take-append-add sent (drop j (replicate N 2)) k ∙ ap (λ (t : List ℕ). sent ++ t) (replicate-part j k (N - (n + k)) N 2 (omega arith)))

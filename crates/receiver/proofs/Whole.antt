@@ -1,0 +1,76 @@
+-- Laws of the whole: an input that is refused or not, and a text copied to an output. Assumes nothing.
+use Prim.Native.Nat.{ℕ, _+_, _*_, _-_, _≤_, _<_}
+use mathlib.Core.Path.{_≡_, _∙_, refl}
+use mathlib.Core.Bool.{true, false, _||_}
+use mathlib.Core.List.{List}
+use native.Mathlib.Omega.{arith}
+use native.Mathlib.Decide.{decLt}
+use borrow.Author.Tests.{lt-ltb, le-ltb, ltb-false}
+use lib.Dec.{ltb}
+use lib.ListN.{length, take, drop, length-drop}
+use lib.Seq.{take-at, take-all}
+use Rattle.parity.specs.Mend.{wordAt, wrongInput, recordIn, wordIn, refusedLine, mend}
+use Rattle.parity.proofs.Bools.{or-false-both}
+use Rattle.receiver.specs.Placed.{placed, Placed}
+use Rattle.receiver.specs.declared.Mended.the-variants.{Written, TooShort}
+use Rattle.receiver.specs.Answers.{mendedAnswer, mendedOutput}
+use Rattle.receiver.specs.Stages.{wordsIn, Size, peelText, orthogonaliseText, loadInto, loadText}
+
+pub wrong-mend : (input : List ℕ) → wrongInput input ≡ true → refusedLine 14 ≡ mend input
+unfolding mend
+wrong-mend input e = rw e
+
+pub right-mend : (input : List ℕ) → wrongInput input ≡ false
+    → loadText (wordsIn input (wordAt input 0)) (drop (4 + 4 * wordAt input 0) input) ≡ mend input
+unfolding mend recordIn wordIn wordsIn loadText loadInto orthogonaliseText peelText
+right-mend input e = rw e
+
+-- an input that is not refused holds its record words
+pub right-size : (input : List ℕ) → wrongInput input ≡ false → Size input (wordAt input 0)
+unfolding wrongInput
+right-size input e =
+    let n = length input in
+    let (f, c) = or-false-both (ltb n 4 || ltb 65536 n) (ltb n (4 + 4 * wordAt input 0)) e in
+    let (a, b) = or-false-both (ltb n 4) (ltb 65536 n) f in
+    record {
+      count = refl;
+      held = ltb-false n (4 + 4 * wordAt input 0) c;
+      most = omega (arith, ltb-false 65536 n b, ltb-false n (4 + 4 * wordAt input 0) c);
+    }
+
+-- every byte from a place on
+pub every-rest : (s : ℕ) (l : List ℕ) → take (length l - s) (drop s l) ≡ drop s l
+every-rest s l = take-all (length l - s) (drop s l) (omega (arith, length-drop s l))
+
+-- the text at the start of a buffer
+pub first : {old text new : List ℕ} {r : ℕ} → Placed old 0 text new r → take r new ≡ text
+unfolding placed
+first {old} {text} {new} {r} f = rw (f .made) (take-at text (drop (0 + length text) old) r (omega (arith, f .next)))
+
+-- an output without room is left, and one with room begins with the text
+module _ (text out : List ℕ) (r : ℕ) (e : r ≡ length text) where
+  pub no-room : length out < r → (TooShort r ≡ mendedAnswer text out) × (out ≡ mendedOutput text out)
+  unfolding mendedAnswer mendedOutput
+  no-room h = let l = lt-ltb (length out) (length text) (omega arith) in (rw (l, e), rw l)
+
+  pub room : r ≤ length out → (s new : List ℕ) (q : ℕ) → s ≡ text → Placed out 0 s new q → (Written r ≡ mendedAnswer text out) × (new ≡ mendedOutput text out)
+  unfolding mendedAnswer mendedOutput placed
+  room h s new q p f =
+      let l = le-ltb (length out) (length text) (omega arith) in
+      let z : 0 + length text ≡ length text = omega arith in
+      (rw (l, e), rw l (f .made ∙ rw (p, z)))
+
+-- what is written is in the output
+pub written-in : (text out : List ℕ) (r : ℕ) → Written r ≡ mendedAnswer text out → r ≤ length out
+unfolding mendedAnswer
+written-in text out r e =
+    elim (decLt (length out) (length text)) [
+      | yes l ↦
+          let f : Written r ≡ TooShort (length text) = rw (lt-ltb (length out) (length text) l) at e in
+          let z : _≡_ {A = ℕ} 0 1 = cc in
+          absurd (omega arith)
+      | no l ↦
+          let f : Written r ≡ Written (length text) = rw (le-ltb (length out) (length text) (omega arith)) at e in
+          let z : r ≡ length text = cc in
+          omega arith
+    ]

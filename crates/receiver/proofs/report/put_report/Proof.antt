@@ -1,0 +1,42 @@
+-- `receiver::report::put_report` meets its contract: its three lines, one after another. Assumes nothing.
+use borrow.Author.Needs.{needs}
+use native.Mathlib.Omega.{arith}
+use Rattle.receiver.proofs.Pieces.{after}
+use Rattle.receiver.proofs.Lines.{same-text, splits-line-most, residue-line-most, three-lines}
+use Rattle.receiver.proofs.report.put_report.Statement.{statement}
+use Rattle.receiver.proofs.report.put_report.Tie as tie
+
+put-splits-line-requires : tie.Need-put-splits-line-requires
+put-splits-line-requires c κs = search needs
+
+put-residue-line-requires : tie.Need-put-residue-line-requires
+put-residue-line-requires c κs =
+    let a = c .before .before .before .before .before .before .before .args in
+    omega (arith, splits-line-most (a .splits) (a .sum) (omega arith) (omega arith))
+
+put-word-line-requires : tie.Need-put-word-line-requires
+put-word-line-requires c κs =
+    let a = c .before .before .before .before .before .before .before .before .before .before .before .args in (
+      omega (arith, splits-line-most (a .splits) (a .sum) (omega arith) (omega arith), residue-line-most (a .word .now) (a .n) (omega arith)),
+      (search needs, search needs),
+    )
+
+same-length : tie.Need-same-length
+same-length c = search needs
+
+returns : tie.Need-returns
+returns c =
+    let a = c .before .before .before .before .before .before .before .before .before .before .before .before .before .before .args in
+    same-text
+    (three-lines (a .n) (a .splits) (a .sum) (a .word .now))
+    (after (after (c .before .before .before .before .before .before .before .before .before .before .put-splits-line .ensures) (c .before .before .before .before .before .before .put-residue-line .ensures)) (c .before .before .put-word-line .ensures))
+
+pub put-report-spec : {M : Type 1} → statement M
+put-report-spec =
+    tie.close
+    (tie.spec
+    put-splits-line-requires
+    put-residue-line-requires
+    put-word-line-requires
+    same-length
+    returns)

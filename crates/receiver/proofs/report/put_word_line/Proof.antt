@@ -1,0 +1,40 @@
+-- `receiver::report::put_word_line` meets its contract: its three parts, one after another. Assumes nothing.
+use borrow.Author.Needs.{needs}
+use native.Mathlib.Omega.{arith}
+use Rattle.receiver.specs.Lines.{wordLine}
+use Rattle.receiver.proofs.Pieces.{after}
+use Rattle.receiver.proofs.Lines.{word-length}
+use Rattle.receiver.proofs.report.put_word_line.Statement.{statement}
+use Rattle.receiver.proofs.report.put_word_line.Tie as tie
+
+slice-aggregate-put-bytes : tie.Need-slice-aggregate-put-bytes
+slice-aggregate-put-bytes c = search needs
+
+put-bytes-requires : tie.Need-put-bytes-requires
+put-bytes-requires c κs = search needs
+
+put-characters-requires : tie.Need-put-characters-requires
+put-characters-requires c κs = search needs
+
+put-byte-requires : tie.Need-put-byte-requires
+put-byte-requires c κs =
+    let a = c .before .before .before .before .before .before .before .before .before .before .before .before .args in
+    omega (arith, word-length (a .word .now) (a .n))
+
+same-length : tie.Need-same-length
+same-length c = search needs
+
+returns : tie.Need-returns
+unfolding wordLine
+returns c = after (after (c .before .before .before .before .before .before .before .before .before .before .put-bytes .ensures) (c .before .before .before .before .before .before .put-characters .ensures)) (c .before .before .put-byte .ensures)
+
+pub put-word-line-spec : {M : Type 1} → statement M
+put-word-line-spec =
+    tie.close
+    (tie.spec
+    slice-aggregate-put-bytes
+    put-bytes-requires
+    put-characters-requires
+    put-byte-requires
+    same-length
+    returns)

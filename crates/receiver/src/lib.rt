@@ -1,0 +1,70 @@
+// What the receiver does with a record and a word: a function from the input's bytes to the output's.
+mod input;
+mod report;
+mod stages;
+mod text;
+
+use crate::input::is_wrong;
+use crate::input::read_words;
+use crate::input::size;
+use crate::report::put_refused;
+use crate::stages::load;
+use crate::text::put_bytes;
+use parity::Refusal;
+use parity::number;
+ghost use mathlib.Core.Path.{_≡_};
+ghost use Prim.Native.Nat.{_≤_};
+ghost use lib.ListN.{length};
+ghost use Rattle.parity.specs.Mend.{mend as mendText};
+ghost use Rattle.receiver.specs.Placed.{Placed};
+ghost use Rattle.receiver.specs.Answers.{mendedAnswer, mendedOutput};
+
+// How many bytes of the output are written, or how many it would need.
+pub enum Mended {
+    Written(usize),
+    TooShort { needed: usize },
+}
+
+// The most record words that an input holds.
+fn no_words() -> [u32; 16384]
+    ensures { λ r. ⌜ length r ≡ 16384 ⌝ }
+{
+    [0u32; 16384]
+}
+
+// Room for every text.
+fn no_text() -> [u8; 4096]
+    ensures { λ r. ⌜ length r ≡ 4096 ⌝ }
+{
+    [0u8; 4096]
+}
+
+// Puts the whole text of an input.
+fn put_text(out: &mut [u8], input: &[u8]) -> usize
+    requires { ⌜ 4096 ≤ length (now out) ⌝ }
+    ensures { λ r. ⌜ Placed (now (out .entry)) 0 (mendText (now (input .entry))) (now (out .exit)) r ⌝ }
+{
+    if is_wrong(input) {
+        return put_refused(out, number(Refusal::ProgramInput));
+    }
+    let w = size(input);
+    let start = 4 + 4 * w;
+    let mut words = no_words();
+    read_words(input, w, &mut words);
+    load(out, &words[..w], &input[start..])
+}
+
+// Mends: reads a record and a word, loads, orthogonalises, sets the added bits to 2 and peels, and writes the report or the refusal
+// at the start of the output, if it has room.
+pub fn mend(input: &[u8], output: &mut [u8]) -> Mended
+    ensures { λ r. ⌜ r ≡ mendedAnswer (mendText (now (input .entry))) (now (output .entry)) ⌝ }
+    ensures { λ r. ⌜ now (output .exit) ≡ mendedOutput (mendText (now (input .entry))) (now (output .entry)) ⌝ }
+{
+    let mut text = no_text();
+    let needed = put_text(&mut text, input);
+    if output.len() < needed {
+        return Mended::TooShort { needed };
+    }
+    put_bytes(output, 0, &text[..needed]);
+    Mended::Written(needed)
+}

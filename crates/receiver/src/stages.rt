@@ -1,0 +1,107 @@
+// The stages: loading, orthogonalising and peeling. Each puts the output from there on.
+use crate::report::put_refused;
+use crate::report::put_report;
+use crate::text::put_bytes;
+use parity::Refusal;
+use parity::number;
+use peel::Peeled;
+use record::Loading;
+use split::Orthogonalising;
+ghost use mathlib.Core.Path.{_≡_};
+ghost use mathlib.Core.List.{_++_};
+ghost use Prim.Native.Nat.{_≤_};
+ghost use lib.ListN.{length, replicate};
+ghost use Rattle.parity.specs.Matrix.{cause};
+ghost use Rattle.receiver.specs.Placed.{Placed};
+ghost use Rattle.receiver.specs.Stages.{peelText, orthogonaliseText, loadText};
+
+// As many erased bits as a word can have.
+fn erased_word() -> [u8; 512]
+    ensures { λ r. ⌜ r ≡ replicate 512 2 ⌝ }
+{
+    [2u8; 512]
+}
+
+// Words of an empty matrix.
+fn empty_words() -> [u64; 4096]
+    ensures { λ r. ⌜ r ≡ replicate 4096 0 ⌝ }
+{
+    [0u64; 4096]
+}
+
+// Peels a word of n + k bytes.
+fn peel_word(
+    out: &mut [u8],
+    words: &[u64],
+    n: usize,
+    m: usize,
+    k: usize,
+    splits: u64,
+    sum: u64,
+    word: &mut [u8],
+) -> usize
+    requires { ⌜ (4096 ≤ length (now out)) × (n ≤ 120) × (n ≤ length (now word)) ⌝ }
+    ensures { λ r. ⌜ Placed (now (out .entry)) 0 (peelText (now (words .entry)) n m k splits sum (now (word .entry))) (now (out .exit)) r ⌝ }
+{
+    match peel::peel(words, n, m, k, word) {
+        Peeled::Refused(r) => put_refused(out, number(r)),
+        Peeled::Made {
+            recovered: _,
+            left: _,
+        } => put_report(out, splits, sum, word, n),
+    }
+}
+
+// Sets the added bits to 2 and peels.
+fn peel_sent(
+    out: &mut [u8],
+    words: &[u64],
+    n: usize,
+    m: usize,
+    k: usize,
+    splits: u64,
+    sum: u64,
+    sent: &[u8],
+) -> usize
+    requires { ⌜ (4096 ≤ length (now out)) × (cause (now words) n m k ≡ 0) ⌝ }
+    ensures { λ r. ⌜ Placed (now (out .entry)) 0 (peelText (now (words .entry)) n m k splits sum (now (sent .entry) ++ replicate k 2)) (now (out .exit)) r ⌝ }
+{
+    if sent.len() != n {
+        return put_refused(out, number(Refusal::WrongLength));
+    }
+    let mut word = erased_word();
+    put_bytes(&mut word, 0, sent);
+    peel_word(out, words, n, m, k, splits, sum, &mut word[..n + k])
+}
+
+// Orthogonalises the matrix, and goes on.
+fn orthogonalise(out: &mut [u8], words: &mut [u64], n: usize, m: usize, sent: &[u8]) -> usize
+    requires { ⌜ 4096 ≤ length (now out) ⌝ }
+    ensures { λ r. ⌜ Placed (now (out .entry)) 0 (orthogonaliseText (now (words .entry)) n m (now (sent .entry))) (now (out .exit)) r ⌝ }
+{
+    match split::orthogonalise(words, n, m, 0) {
+        Orthogonalising::Refused(r) => put_refused(out, number(r)),
+        Orthogonalising::Finished { splits, sum, k } => peel_sent(
+            out,
+            words,
+            n,
+            m,
+            k,
+            splits,
+            sum,
+            sent,
+        ),
+    }
+}
+
+// Loads the record, and goes on.
+pub fn load(out: &mut [u8], source: &[u32], sent: &[u8]) -> usize
+    requires { ⌜ 4096 ≤ length (now out) ⌝ }
+    ensures { λ r. ⌜ Placed (now (out .entry)) 0 (loadText (now (source .entry)) (now (sent .entry))) (now (out .exit)) r ⌝ }
+{
+    let mut words = empty_words();
+    match record::load(source, &mut words) {
+        Loading::Refused(r) => put_refused(out, number(r)),
+        Loading::Loaded { n, m } => orthogonalise(out, &mut words, n, m, sent),
+    }
+}

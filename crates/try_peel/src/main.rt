@@ -1,0 +1,339 @@
+// Peeling, verifying and testing sets on document 01's cases and on bad input. A line has the case, what the call answers, and after
+// peeling the word, with ? for erased and x for a byte above 2.
+use parity::Refusal;
+use peel::Peeled;
+use word::Stopping;
+use word::Verified;
+ghost use mathlib.Core.Path.{_≡_};
+ghost use Prim.Native.Nat.{_<_, _≤_};
+ghost use lib.ListN.{length};
+
+fn end_line() {
+    io::write_all(1, b"\n");
+}
+
+fn refused(r: Refusal) {
+    io::write_all(1, b"REFUSED ");
+    io::print_decimal(1, parity::number(r));
+    match r {
+        Refusal::WrongByte { place: p } => {
+            io::write_all(1, b" at ");
+            io::print_decimal(1, p as u64);
+        }
+        _ => {}
+    }
+}
+
+fn symbol(x: u8) -> u8 {
+    match x {
+        0 => b'0',
+        1 => b'1',
+        2 => b'?',
+        _ => b'x',
+    }
+}
+
+fn show(word: &[u8]) {
+    io::write_all(1, b" ");
+    let mut i: usize = 0;
+    while i < word.len() {
+        let mut one = [0u8; 1];
+        one[0] = symbol(word[i]);
+        io::write_all(1, &one);
+        i += 1;
+    }
+}
+
+fn peel_line(head: &[u8], words: &[u64], n: usize, m: usize, k: usize, word: &mut [u8]) {
+    io::write_all(1, head);
+    let answer = peel::peel(words, n, m, k, word);
+    match answer {
+        Peeled::Made {
+            recovered: a,
+            left: b,
+        } => {
+            io::write_all(1, b"recovered ");
+            io::print_decimal(1, a);
+            io::write_all(1, b" left ");
+            io::print_decimal(1, b);
+        }
+        Peeled::Refused(r) => refused(r),
+    }
+    show(word);
+    end_line();
+}
+
+fn verify_line(head: &[u8], words: &[u64], n: usize, m: usize, k: usize, word: &[u8]) {
+    io::write_all(1, head);
+    let answer = word::verify(words, n, m, k, word);
+    match answer {
+        Verified::Yes => {
+            io::write_all(1, b"yes");
+        }
+        Verified::No => {
+            io::write_all(1, b"no");
+        }
+        Verified::Refused(r) => refused(r),
+    }
+    end_line();
+}
+
+fn stopping_line(head: &[u8], words: &[u64], n: usize, m: usize, k: usize, set: &[u8]) {
+    io::write_all(1, head);
+    let answer = word::is_stopping(words, n, m, k, set);
+    match answer {
+        Stopping::Yes => {
+            io::write_all(1, b"yes");
+        }
+        Stopping::No => {
+            io::write_all(1, b"no");
+        }
+        Stopping::Refused(r) => refused(r),
+    }
+    end_line();
+}
+
+// Peels a word, and verifies what was left.
+fn peel_and_verify(
+    head: &[u8],
+    again: &[u8],
+    words: &[u64],
+    n: usize,
+    m: usize,
+    k: usize,
+    word: &mut [u8],
+) {
+    peel_line(head, words, n, m, k, word);
+    verify_line(again, words, n, m, k, word);
+}
+
+fn c_words(words: &[u64]) {
+    let mut w = [2, 2, 2, 1, 1, 1, 1];
+    peel_and_verify(b"C: ", b"C, what is left: ", words, 7, 3, 0, &mut w);
+    let mut one = [2, 0, 1, 1, 1, 1, 1];
+    peel_and_verify(b"C, bit 0: ", b"C, its word: ", words, 7, 3, 0, &mut one);
+    let mut all = [2, 2, 2, 2, 2, 2, 2];
+    peel_line(b"C, all erased: ", words, 7, 3, 0, &mut all);
+    let mut none = [0, 0, 1, 1, 1, 1, 1];
+    peel_line(b"C, none erased: ", words, 7, 3, 0, &mut none);
+    let mut part = [2, 2, 2, 2, 1, 1, 2];
+    peel_line(b"C, five erased: ", words, 7, 3, 0, &mut part);
+}
+
+fn c_contradictions(words: &[u64]) {
+    let mut odd = [1, 0, 0, 0, 0, 0, 0];
+    peel_and_verify(
+        b"C, an odd check: ",
+        b"C, an odd word: ",
+        words,
+        7,
+        3,
+        0,
+        &mut odd,
+    );
+    let mut later = [2, 0, 0, 2, 0, 0, 1];
+    peel_line(b"C, odd after bit 0: ", words, 7, 3, 0, &mut later);
+}
+
+fn c_sets(words: &[u64]) {
+    let stops = [1, 1, 1, 0, 0, 0, 0];
+    stopping_line(b"C, {0,1,2}: ", words, 7, 3, 0, &stops);
+    let lone = [0, 0, 0, 0, 0, 0, 1];
+    stopping_line(b"C, {6} in the last check: ", words, 7, 3, 0, &lone);
+    let empty = [0, 0, 0, 0, 0, 0, 0];
+    stopping_line(b"C, {}: ", words, 7, 3, 0, &empty);
+    verify_line(b"C, the zero word: ", words, 7, 3, 0, &empty);
+    let two = [0, 0, 2, 0, 3, 0, 0];
+    stopping_line(b"C, a set with 2 and 3: ", words, 7, 3, 0, &two);
+    verify_line(b"C, bytes 2 and 3: ", words, 7, 3, 0, &two);
+}
+
+fn case_c() {
+    let mut words = [0u64; 4096];
+    words[0] = 0b1111;
+    words[8] = 0b110011;
+    words[16] = 0b1000101;
+    c_words(&words);
+    c_contradictions(&words);
+    c_sets(&words);
+}
+
+fn case_d() {
+    let mut words = [0u64; 4096];
+    words[0] = 0b10001100;
+    words[8] = 0b10110000;
+    words[16] = 0b1000101;
+    words[24] = 0b10000011;
+    let mut w = [2, 2, 2, 1, 1, 1, 1, 2];
+    peel_and_verify(b"D: ", b"D, its word: ", &words, 7, 3, 1, &mut w);
+    d_bytes(&words);
+}
+
+fn d_bytes(words: &[u64]) {
+    let mut high = [2, 2, 2, 1, 1, 1, 1, 3];
+    peel_line(b"D, a last byte 3: ", words, 7, 3, 1, &mut high);
+    let mut low = [255, 2, 2, 1, 1, 1, 1, 2];
+    peel_line(b"D, a first byte 255: ", words, 7, 3, 1, &mut low);
+    let mut several = [2, 2, 2, 3, 255, 1, 1, 255];
+    peel_line(b"D, three wrong bytes: ", words, 7, 3, 1, &mut several);
+    let mut seven = [2, 2, 2, 1, 1, 1, 1];
+    peel_line(b"D with k = 0: ", words, 7, 3, 0, &mut seven);
+    let mut one = [2];
+    peel_line(b"D with n = 0: ", words, 0, 3, 1, &mut one);
+}
+
+fn e_lengths(words: &[u64]) {
+    let mut none: [u8; 0] = [];
+    peel_line(b"E, no bytes: ", words, 3, 2, 2, &mut none);
+    let mut sent = [2, 1, 3];
+    peel_and_verify(
+        b"E, n bytes: ",
+        b"E, verifying n bytes: ",
+        words,
+        3,
+        2,
+        2,
+        &mut sent,
+    );
+    let mut short = [2, 1, 0, 0];
+    peel_line(b"E, n+k-1 bytes: ", words, 3, 2, 2, &mut short);
+    let mut long = [2, 1, 0, 2, 2, 2];
+    peel_line(b"E, n+k+1 bytes: ", words, 3, 2, 2, &mut long);
+    let mut w = [2, 1, 1, 2, 2];
+    peel_and_verify(b"E, n+k bytes: ", b"E, its word: ", words, 3, 2, 2, &mut w);
+}
+
+// E orthogonalised: {4} {4} {0,1,3} {2,3,4}.
+fn case_e() {
+    let mut words = [0u64; 4096];
+    words[0] = 0b10000;
+    words[8] = 0b10000;
+    words[16] = 0b1011;
+    words[24] = 0b11100;
+    e_lengths(&words);
+    let set = [0, 0, 1, 1, 0, 2];
+    stopping_line(b"E, a set of n+k+1 bytes: ", &words, 3, 2, 2, &set);
+    let few = [0u64; 4095];
+    let mut w = [2, 1, 3];
+    peel_line(b"4,095 words: ", &few, 3, 2, 2, &mut w);
+}
+
+fn case_f() {
+    let words = [0u64; 4096];
+    let mut f = [2, 2];
+    peel_and_verify(b"F: ", b"F, what is left: ", &words, 2, 0, 0, &mut f);
+    let mut free = [2, 0, 1];
+    peel_line(b"two checks without bits: ", &words, 3, 2, 0, &mut free);
+}
+
+fn case_i() {
+    let mut words = [0u64; 4096];
+    words[0] = 0b1;
+    words[8] = 0b11;
+    let mut i = [2, 1];
+    peel_line(b"I: ", &words, 2, 2, 0, &mut i);
+    let mut j = [2, 2];
+    peel_line(b"I, both erased: ", &words, 2, 2, 0, &mut j);
+}
+
+// A codeword of L.
+const CODEWORD: [u8; 23] = [
+    1,
+    0,
+    1,
+    1,
+    0,
+    0,
+    1,
+    0,
+    1,
+    1,
+    0,
+    1,
+    1,
+    0,
+    1,
+    0,
+    0,
+    0,
+    1,
+    0,
+    1,
+    1,
+    0,
+];
+
+// L: check c contains bit (c + e) mod 23 for e in 0, 1, 2, 3, 4, 7, 10, 12.
+fn fill_l(words: &mut [u64])
+    requires { ⌜ length (now words) ≡ 4096 ⌝ }
+{
+    let mut x: u64 = 0b1010010011111;
+    for c in 0..23 {
+        words[c * 8] = x;
+        x = ((x << 1) | (x >> 22)) & 0x7fffff;
+    }
+}
+
+// Whether the codeword comes back with bits a and b erased.
+fn comes_back(words: &[u64], a: usize, b: usize) -> bool
+    requires { ⌜ (a < 23) × (b < 23) ⌝ }
+{
+    let mut w = CODEWORD;
+    w[a] = 2;
+    w[b] = 2;
+    let answer = peel::peel(words, 23, 23, 0, &mut w);
+    match answer {
+        Peeled::Made {
+            recovered: _,
+            left: l,
+        } => l == 0 && check::same(&w, &CODEWORD),
+        Peeled::Refused(_) => false,
+    }
+}
+
+// With how many bits from a on the codeword comes back.
+fn pairs_back(words: &[u64], a: usize) -> u64
+    requires { ⌜ a < 23 ⌝ }
+    ensures { λ r. ⌜ r ≤ 23 ⌝ }
+{
+    let mut count: u64 = 0;
+    for b in a..23 {
+        if comes_back(words, a, b) {
+            count += 1;
+        }
+    }
+    count
+}
+
+// A line for each bit: with it alone, and with each bit above it, erased.
+fn l_pairs(words: &[u64]) {
+    for a in 0..23 {
+        io::write_all(1, b"L, bit ");
+        io::print_decimal(1, a as u64);
+        io::write_all(1, b" alone and with each above: ");
+        io::print_decimal(1, pairs_back(words, a));
+        io::write_all(1, b" of ");
+        io::print_decimal(1, (23 - a) as u64);
+        end_line();
+    }
+}
+
+fn case_l() {
+    let mut words = [0u64; 4096];
+    fill_l(&mut words);
+    verify_line(b"L, a codeword: ", &words, 23, 23, 0, &CODEWORD);
+    let mut w = CODEWORD;
+    w[22] = 2;
+    w[5] = 2;
+    peel_line(b"L, bits 5 and 22: ", &words, 23, 23, 0, &mut w);
+    l_pairs(&words);
+}
+
+fn main() {
+    case_c();
+    case_d();
+    case_e();
+    case_f();
+    case_i();
+    case_l();
+}

@@ -1,0 +1,246 @@
+/* Parity checks for lossy sample streams: the C interface.
+ *
+ * Link with libcapi.a (`rt staticlib capi` writes target/staticlib/libcapi.a).
+ *
+ * THE MATRIX. There are n sent bits (1 to 120), m given checks (0 to 120) and
+ * k added bits (0 to 392), each with one added check. Bits are numbered from 0:
+ * the sent bits 0 to n-1, then the added bits n to n+k-1. Checks are numbered
+ * from 0: the given checks, then the added ones. The matrix is lent as exactly
+ * PARITY_WORDS words of 64 bits: check c has words 8c to 8c+7, and bit b of the
+ * code is bit b mod 64 of the (b div 64)th of them, bit 0 being the lowest.
+ *
+ * Rule A, for added check m+j (0 <= j < k): it contains exactly three bits,
+ * namely n+j and two bits below n+j, and any two of these three share no other
+ * check.
+ *
+ * SLICES. A slice is a pointer to its first element and then its number of
+ * elements. A pointer is never NULL and is aligned for its elements, also when
+ * the number is 0. A slice that a call may write (no `const`) overlaps no other
+ * slice of the same call. A slice may have any length and n, m, k, u and v any
+ * value: what does not fit is refused.
+ *
+ * RESULTS. Every call returns 0 for an answer, or the number of the refusal. The
+ * values that the answer or the refusal carries fill the first elements of
+ * `values` as far as it reaches; its other elements are left as they were. A
+ * length of 3 holds the values of every call.
+ *
+ * REFUSALS. A call refuses for the first of its causes that holds, in the order
+ * 1, 2, 3, 4, 13, then the rest by number. A refusal leaves every lent element
+ * as it was, except for `values` and for PARITY_FULL of parity_orthogonalise.
+ */
+#ifndef PARITY_H
+#define PARITY_H
+
+#include <stddef.h>
+#include <stdint.h>
+
+#ifdef __cplusplus
+extern "C" {
+#endif
+
+/* The number of words of every matrix slice. */
+#define PARITY_WORDS 4096
+/* The largest number of sent bits, of given checks and of added bits. */
+#define PARITY_SENT_MOST 120
+#define PARITY_CHECKS_MOST 120
+#define PARITY_ADDED_MOST 392
+/* The most words that parity_write uses. */
+#define PARITY_RECORD_MOST 14522
+
+/* An answer. */
+#define PARITY_ANSWER 0
+/* The matrix slice is not PARITY_WORDS words. */
+#define PARITY_MATRIX_LENGTH 1
+/* n, m or k is outside its range. */
+#define PARITY_RANGE 2
+/* A one at bit n+k or above, or at check m+k or above. */
+#define PARITY_ONE_OUTSIDE 3
+/* Rule A is broken. */
+#define PARITY_RULE_A 4
+/* Faulty record word; values: its place from 0. */
+#define PARITY_FAULTY_WORD 5
+/* The lent record is too short to write; values: the words needed. */
+#define PARITY_RECORD_SHORT 6
+/* u = v, or either at n+k or above. */
+#define PARITY_PAIR 7
+/* The share is below two; values: the share. */
+#define PARITY_SHARE 8
+/* k = 392 and a pair with share two or more is to be split; values: none from
+ * parity_split; the splits made, the sum and k from parity_orthogonalise. */
+#define PARITY_FULL 9
+/* A word, message or set of wrong length. */
+#define PARITY_LENGTH 10
+/* A byte outside the values named; values: its lowest place from 0. */
+#define PARITY_BYTE 11
+/* Contradiction in peeling. */
+#define PARITY_CONTRADICTION 12
+/* k is above 0 in writing, rank or encoding. */
+#define PARITY_EXTENDED 13
+
+/* Loads a record into a matrix with k = 0.
+ *
+ * record: read. Words of 32 bits; bits 28 to 31 are a word's kind and unnamed
+ *   bits are zero. Kind 1, only first: bits 8-15 m, bits 0-7 n. Kind 2, opens
+ *   the next check: bits 0-7 its number of ones, 0 to n. Kind 3, that many after
+ *   it: bits 0-7 a bit number below n, rising within the check. Kind 15, after
+ *   m checks, is the last word.
+ * words: all PARITY_WORDS are written.
+ * Values of the answer: n, m.
+ * Refusals: 1; 5 with the place of the first faulty word, where a missing word
+ *   is faulty at the place where it should be and a word after the last one is
+ *   faulty.
+ */
+uint32_t parity_load(const uint32_t *record, size_t record_len,
+                     uint64_t *words, size_t words_len,
+                     uint64_t *values, size_t values_len);
+
+/* Writes a matrix with k = 0 as a record.
+ *
+ * words: read.
+ * record: its first elements are written, the others are left.
+ * Values of the answer: the number of words used, at most PARITY_RECORD_MOST.
+ * Refusals: 1, 2, 3, 4, 13; 6 with the number of words needed.
+ */
+uint32_t parity_write(const uint64_t *words, size_t words_len,
+                      size_t n, size_t m, size_t k,
+                      uint32_t *record, size_t record_len,
+                      uint64_t *values, size_t values_len);
+
+/* The share of two different bits: the number of checks that contain both.
+ *
+ * words: read.
+ * u, v: bits below n+k, in either order.
+ * Values of the answer: the share.
+ * Refusals: 1, 2, 3, 4, 7.
+ */
+uint32_t parity_share(const uint64_t *words, size_t words_len,
+                      size_t n, size_t m, size_t k,
+                      size_t u, size_t v,
+                      uint64_t *values, size_t values_len);
+
+/* The cycle count: the sum, over all pairs of the n+k bits, of
+ * share * (share-1) / 2.
+ *
+ * words: read.
+ * Values of the answer: the cycle count.
+ * Refusals: 1, 2, 3, 4.
+ */
+uint32_t parity_count(const uint64_t *words, size_t words_len,
+                      size_t n, size_t m, size_t k,
+                      uint64_t *values, size_t values_len);
+
+/* Splits a pair with share two or more: in every check that contains both, u and
+ * v are removed and the new bit n+k is put in; then check m+k is added, which
+ * contains u, v and n+k; k grows by one.
+ *
+ * words: read, and written by an answer.
+ * u, v: bits below n+k, in either order.
+ * Values of the answer: the share that the pair had, the new k.
+ * Refusals: 1, 2, 3, 4, 7; 8 with the share; 9.
+ */
+uint32_t parity_split(uint64_t *words, size_t words_len,
+                      size_t n, size_t m, size_t k,
+                      size_t u, size_t v,
+                      uint64_t *values, size_t values_len);
+
+/* Splits until no pair has share two or more, taking each time the largest
+ * share, then the smallest lower bit, then the smallest higher bit.
+ *
+ * words: read, and written by an answer and by refusal 9.
+ * Values of the answer: the number of splits made, the sum of s(s-1)/2 over
+ *   their shares s, k.
+ * Refusals: 1, 2, 3, 4; 9 with the same three values, and then the matrix stands
+ *   after the splits made.
+ */
+uint32_t parity_orthogonalise(uint64_t *words, size_t words_len,
+                              size_t n, size_t m, size_t k,
+                              uint64_t *values, size_t values_len);
+
+/* Whether a word is a codeword: it has no 2 and gives each check an even number
+ * of ones.
+ *
+ * words: read.
+ * word: read. n+k bytes of 0, 1 or 2 (erased).
+ * Values of the answer: 1 for yes, 0 for no.
+ * Refusals: 1, 2, 3, 4, 10; 11 with the place in `word`.
+ */
+uint32_t parity_verify(const uint64_t *words, size_t words_len,
+                       size_t n, size_t m, size_t k,
+                       const uint8_t *word, size_t word_len,
+                       uint64_t *values, size_t values_len);
+
+/* Extends the sent bits by the added ones: each added bit is the sum modulo 2 of
+ * the two lower bits of its added check.
+ *
+ * words: read.
+ * sent: read. n bytes of 0 or 1; they need not be a codeword.
+ * word: n+k bytes, all written by an answer: the sent bits, then the added ones.
+ * Values of the answer: none.
+ * Refusals: 1, 2, 3, 4; 10 for either slice; 11 with the place in `sent`.
+ */
+uint32_t parity_extend(const uint64_t *words, size_t words_len,
+                       size_t n, size_t m, size_t k,
+                       const uint8_t *sent, size_t sent_len,
+                       uint8_t *word, size_t word_len,
+                       uint64_t *values, size_t values_len);
+
+/* Whether a set of bits is a stopping set: no check contains exactly one of
+ * them. The empty set is one.
+ *
+ * words: read.
+ * set: read. n+k bytes, 1 for a bit of the set and 0 for another.
+ * Values of the answer: 1 for yes, 0 for no.
+ * Refusals: 1, 2, 3, 4, 10; 11 with the place in `set`.
+ */
+uint32_t parity_is_stopping(const uint64_t *words, size_t words_len,
+                            size_t n, size_t m, size_t k,
+                            const uint8_t *set, size_t set_len,
+                            uint64_t *values, size_t values_len);
+
+/* Solves, as long as one exists, a check with exactly one erased bit. What is
+ * left is the residue, the union of all stopping sets inside the erased bits.
+ *
+ * words: read.
+ * word: n+k bytes of 0, 1 or 2 (erased). An answer writes the recovered bits;
+ *   the residue keeps 2.
+ * Values of the answer: the number of bits recovered, the number of bits left
+ *   erased, both of all n+k bits.
+ * Refusals: 1, 2, 3, 4, 10; 11 with the place in `word`; 12 if no values of the
+ *   erased bits outside the residue make every check without a residue bit even.
+ */
+uint32_t parity_peel(const uint64_t *words, size_t words_len,
+                     size_t n, size_t m, size_t k,
+                     uint8_t *word, size_t word_len,
+                     uint64_t *values, size_t values_len);
+
+/* The rank r of a matrix with k = 0: the number of its parity bits. A bit is a
+ * parity bit if its column is not a sum modulo 2 of some columns of lower bits.
+ *
+ * words: read.
+ * Values of the answer: r.
+ * Refusals: 1, 2, 3, 4, 13.
+ */
+uint32_t parity_rank(const uint64_t *words, size_t words_len,
+                     size_t n, size_t m, size_t k,
+                     uint64_t *values, size_t values_len);
+
+/* Encodes a message with a matrix with k = 0: the one codeword whose bits other
+ * than parity bits, rising, hold the message.
+ *
+ * words: read.
+ * message: read. n-r bytes of 0 or 1, for the rank r.
+ * word: n bytes, all written by an answer.
+ * Values of the answer: none.
+ * Refusals: 1, 2, 3, 4, 13; 10 for either slice; 11 with the place in `message`.
+ */
+uint32_t parity_encode(const uint64_t *words, size_t words_len,
+                       size_t n, size_t m, size_t k,
+                       const uint8_t *message, size_t message_len,
+                       uint8_t *word, size_t word_len,
+                       uint64_t *values, size_t values_len);
+
+#ifdef __cplusplus
+}
+#endif
+
+#endif

@@ -1,0 +1,303 @@
+//! The model by itself: document 01's bench cases, and its quick methods against the definitions tried out in full.
+
+use crate::elimination;
+use crate::generate;
+use crate::model::{self, call, Kind, Lent, Matrix, Reply, WORDS};
+use crate::random::Random;
+
+pub fn a() -> Matrix {
+    Matrix::given(7, &[vec![0, 3, 4, 6], vec![1, 3, 5, 6], vec![2, 4, 5, 6]])
+}
+
+pub fn c() -> Matrix {
+    Matrix::given(7, &[vec![0, 1, 2, 3], vec![0, 1, 4, 5], vec![0, 2, 6]])
+}
+
+pub fn e() -> Matrix {
+    Matrix::given(3, &[vec![0, 1, 2], vec![0, 1, 2]])
+}
+
+/// The first `checks` checks of case L; all of them are case L.
+pub fn l(checks: usize) -> Matrix {
+    let list: Vec<Vec<usize>> =
+        (0..checks).map(|c| [0, 1, 2, 3, 4, 7, 10, 12].iter().map(|e| (c + e) % 23).collect()).collect();
+    Matrix::given(23, &list)
+}
+
+pub const RECORD_C: [u32; 16] = [
+    0x1000_0307,
+    0x2000_0004,
+    0x3000_0000,
+    0x3000_0001,
+    0x3000_0002,
+    0x3000_0003,
+    0x2000_0004,
+    0x3000_0000,
+    0x3000_0001,
+    0x3000_0004,
+    0x3000_0005,
+    0x2000_0003,
+    0x3000_0000,
+    0x3000_0002,
+    0x3000_0006,
+    0xF000_0000,
+];
+
+/// A call that lends this matrix, with nothing else.
+pub fn lend(kind: Kind, matrix: &Matrix) -> Lent {
+    Lent {
+        kind,
+        words: matrix.pack(),
+        n: matrix.n,
+        m: matrix.m,
+        k: matrix.k,
+        u: 0,
+        v: 0,
+        record: Vec::new(),
+        input: Vec::new(),
+        word: Vec::new(),
+    }
+}
+
+fn ones_in(matrix: &Matrix) -> usize {
+    model::ones(&matrix.pack()).len()
+}
+
+fn check_lists(matrix: &Matrix) -> Vec<Vec<usize>> {
+    (0..matrix.checks()).map(|c| matrix.ones_of(c)).collect()
+}
+
+struct Tally(usize);
+
+impl Tally {
+    fn same<T: PartialEq + std::fmt::Debug>(&mut self, what: &str, found: T, due: T) -> Result<(), String> {
+        self.0 += 1;
+        if found == due {
+            return Ok(());
+        }
+        Err(format!("the model by itself, {what}: found {found:?}, due {due:?}"))
+    }
+}
+
+fn reply(number: u32, values: &[u64]) -> Reply {
+    Reply { number, values: values.to_vec() }
+}
+
+/// Cases A to L and the other facts that document 01 and the article name.
+fn bench(t: &mut Tally) -> Result<(), String> {
+    let mut lent = lend(Kind::Count, &a());
+    t.same("A, count", call(&mut lent), reply(0, &[3]))?;
+    lent.kind = Kind::Orthogonalise;
+    t.same("B, splits and sum", call(&mut lent), reply(0, &[1, 1, 1]))?;
+    let b = Matrix::read(&lent.words, 7, 3, 1);
+    t.same("B, checks", check_lists(&b), vec![vec![0, 4, 7], vec![1, 5, 7], vec![2, 4, 5, 6], vec![3, 6, 7]])?;
+    t.same("B, count", b.cycles(), 0)?;
+
+    let mut lent = lend(Kind::Peel, &c());
+    lent.word = vec![2, 2, 2, 1, 1, 1, 1];
+    t.same("C, peel", call(&mut lent), reply(0, &[0, 3]))?;
+    t.same("C, word", lent.word.clone(), vec![2, 2, 2, 1, 1, 1, 1])?;
+    t.same("C, count", c().cycles(), 2)?;
+    lent.kind = Kind::Orthogonalise;
+    t.same("D, splits and sum", call(&mut lent), reply(0, &[1, 1, 1]))?;
+    let d = Matrix::read(&lent.words, 7, 3, 1);
+    t.same("D, checks", check_lists(&d), vec![vec![2, 3, 7], vec![4, 5, 7], vec![0, 2, 6], vec![0, 1, 7]])?;
+    lent.kind = Kind::Peel;
+    lent.k = 1;
+    lent.word.push(2);
+    t.same("D, peel", call(&mut lent), reply(0, &[4, 0]))?;
+    t.same("D, word", lent.word, vec![0, 0, 1, 1, 1, 1, 1, 0])?;
+
+    let mut lent = lend(Kind::Count, &e());
+    t.same("E, count", call(&mut lent), reply(0, &[3]))?;
+    lent.kind = Kind::Orthogonalise;
+    t.same("E, splits and sum", call(&mut lent), reply(0, &[2, 2, 2]))?;
+    lent.kind = Kind::Count;
+    lent.k = 2;
+    t.same("E, count afterwards", call(&mut lent), reply(0, &[0]))?;
+
+    let mut lent = lend(Kind::Peel, &Matrix::zero(2, 0, 0));
+    lent.word = vec![2, 2];
+    t.same("F", call(&mut lent), reply(0, &[0, 2]))?;
+    t.same("F, word", lent.word, vec![2, 2])?;
+
+    let mut lent = lend(Kind::Split, &c());
+    lent.v = 3;
+    t.same("G", call(&mut lent), reply(8, &[1]))?;
+    (lent.u, lent.v) = (4, 4);
+    t.same("H", call(&mut lent), reply(7, &[]))?;
+    t.same("G and H, words", lent.words, c().pack())?;
+
+    let mut lent = lend(Kind::Peel, &Matrix::given(2, &[vec![0], vec![0, 1]]));
+    lent.word = vec![2, 1];
+    t.same("I", call(&mut lent), reply(12, &[]))?;
+    t.same("I, word", lent.word, vec![2, 1])?;
+
+    let mut lent = lend(Kind::Rank, &a());
+    t.same("J, rank", call(&mut lent), reply(0, &[3]))?;
+    lent.kind = Kind::Encode;
+    lent.input = vec![1, 0, 0, 0];
+    lent.word = vec![9; 7];
+    t.same("J, encode", call(&mut lent), reply(0, &[]))?;
+    t.same("J, codeword", lent.word, vec![1, 1, 0, 1, 0, 0, 0])?;
+
+    let mut lent = lend(Kind::Load, &Matrix::zero(1, 0, 0));
+    lent.words = vec![5; WORDS];
+    t.same("K", call(&mut lent), reply(5, &[0]))?;
+    t.same("K, words", lent.words.clone(), vec![5; WORDS])?;
+
+    t.same("L, ones", ones_in(&l(23)), 184)?;
+    t.same("L, count", l(23).cycles(), 598)?;
+    t.same("L, rank", l(23).rank(), 11)?;
+    t.same("11 checks of L, ones", ones_in(&l(11)), 88)?;
+    t.same("11 checks of L, count", l(11).cycles(), 190)?;
+    t.same("11 checks of L, rank", l(11).rank(), 11)?;
+
+    for (first, due) in
+        [(0x1000_0078, reply(0, &[120, 0])), (0x1000_0079, reply(5, &[0])), (0x1000_0000, reply(5, &[0]))]
+    {
+        lent.record = vec![first, 0xF000_0000];
+        t.same("n = 120 loads, n = 121 does not", call(&mut lent), due)?;
+    }
+    lent.record = RECORD_C.to_vec();
+    t.same("the record of C", call(&mut lent), reply(0, &[7, 3]))?;
+    t.same("the record of C, words", &lent.words, &c().pack())?;
+    t.same("C written", model::record(&c()), RECORD_C.to_vec())?;
+    let full: Vec<Vec<usize>> = vec![(0..120).collect(); 120];
+    t.same("the longest record", model::record(&Matrix::given(120, &full)).len(), 14_522)?;
+    // The first record word that breaks the form, one example for each way.
+    let faulty: [(&[u32], u64); 12] = [
+        (&[0x1000_0003], 1),
+        (&[0x1000_0103, 0x2000_0004], 1),
+        (&[0x1000_0103, 0x2000_0003, 0x3000_0002, 0x3000_0001], 3),
+        (&[0x1000_0103, 0x2000_0003, 0x3000_0002], 3),
+        (&[0x1000_0103, 0x2000_0001, 0x3000_0003], 2),
+        (&[0x1000_0103, 0x2000_0100], 1),
+        (&[0x1000_0103, 0xF000_0000], 1),
+        (&[0x1000_0003, 0xF000_0000, 0xF000_0000], 2),
+        (&[0x1000_0003, 0xF000_0001], 1),
+        (&[0x1000_0003, 0x2000_0000], 1),
+        (&[0x1000_7903, 0xF000_0000], 0),
+        (&[0x1001_0003, 0xF000_0000], 0),
+    ];
+    for (record, place) in faulty {
+        lent.record = record.to_vec();
+        t.same("a faulty record", call(&mut lent), reply(5, &[place]))?;
+    }
+
+    let tight = generate::triples(&mut Random::new(1), 9, 6, 391);
+    t.same("k = 391 is accepted", model::accept(&tight.pack(), 9, 6, 391).is_ok(), true)?;
+    let (u, v) = tight.pairs()[0];
+    let mut lent = lend(Kind::Split, &tight);
+    (lent.u, lent.v) = (u, v);
+    t.same("a split at k = 391", call(&mut lent), reply(0, &[tight.share(u, v), 392]))?;
+    lent.k = 392;
+    let (u, v) = Matrix::read(&lent.words, 9, 6, 392).pairs()[0];
+    (lent.u, lent.v) = (u, v);
+    t.same("a split at k = 392", call(&mut lent), reply(9, &[]))?;
+    lent.kind = Kind::Orthogonalise;
+    t.same("orthogonalise at k = 392", call(&mut lent), reply(9, &[0, 0, 392]))?;
+
+    let most = generate::most_ones();
+    t.same("the most ones", ones_in(&most), 59_136)?;
+    t.same("the most four-cycles", most.cycles(), 831_117_420)?;
+    t.same("the most ones, accepted", model::accept(&most.pack(), 120, 120, 392).is_ok(), true)?;
+
+    let mut input = vec![0, 0, 0, 16];
+    RECORD_C.iter().for_each(|word| input.extend(word.to_be_bytes()));
+    input.extend([2, 2, 2, 1, 1, 1, 1]);
+    t.same("mend", model::mend(&input), b"SPLITS 1 SUM 1\nRESIDUE\nWORD 0011111\n".to_vec())?;
+    t.same("mend, 4 bytes of 0", model::mend(&[0; 4]), b"REFUSED 5\n".to_vec())?;
+    t.same("mend, 3 bytes", model::mend(&[0; 3]), b"REFUSED 14\n".to_vec())?;
+    t.same("mend, count too large", model::mend(&[255; 9]), b"REFUSED 14\n".to_vec())?;
+    input.push(0);
+    t.same("mend, word too long", model::mend(&input), b"REFUSED 10\n".to_vec())
+}
+
+/// The quick methods of the model against the definitions, on small random matrices.
+fn methods(t: &mut Tally) -> Result<(), String> {
+    let mut r = Random::new(2);
+    for _ in 0..3000 {
+        let matrix = generate::small(&mut r);
+        let bits = matrix.bits();
+        let accepted = model::accept(&matrix.pack(), matrix.n, matrix.m, matrix.k);
+        t.same("a generated matrix is accepted", accepted.as_ref(), Ok(&matrix))?;
+        let table = matrix.shares();
+        let mut cycles = 0;
+        for u in 0..bits {
+            for v in u + 1..bits {
+                let share = matrix.share(u, v);
+                t.same("a share", table[u][v] as u64, share)?;
+                cycles += (0..share).sum::<u64>();
+            }
+        }
+        t.same("the cycle count", matrix.cycles(), cycles)?;
+
+        let part = r.below(900);
+        let mut word: Vec<u8> = r.bits(bits);
+        let mut left = 9;
+        for byte in &mut word {
+            if left > 0 && r.chance(part) {
+                *byte = 2;
+                left -= 1;
+            }
+        }
+        if r.chance(700) {
+            let basis = elimination::basis(&matrix);
+            let code = elimination::combine(&basis, bits, || r.chance(500));
+            t.same("a combination is a codeword", matrix.is_codeword(&code), true)?;
+            (0..bits).filter(|&b| word[b] != 2).collect::<Vec<_>>().iter().for_each(|&b| word[b] = code[b]);
+        }
+        let erased: Vec<bool> = word.iter().map(|&byte| byte == 2).collect();
+        let residue = matrix.residue_by_sets(&erased);
+        t.same("the residue", matrix.residue_by_scans(&erased), residue.clone())?;
+        let peeled = matrix.peel_by_values(&word);
+        t.same("peeling", &matrix.peel_by_scans(&word), &peeled)?;
+        if let Some(peeled) = &peeled {
+            t.same("what is left", peeled.iter().map(|&byte| byte == 2).collect(), residue)?;
+        }
+        // The values outside the residue, by elimination in the checks without residue bits.
+        let mut checked = matrix.clone();
+        for row in &mut checked.rows {
+            if (0..bits).any(|b| row[b] && peeled.as_ref().is_some_and(|peeled| peeled[b] == 2)) {
+                row.fill(false);
+            }
+        }
+        if peeled.is_some() {
+            t.same("peeling and elimination", &elimination::decode(&checked, &word), &peeled)?;
+        }
+        // Elimination, against all values of the erased bits.
+        let places: Vec<usize> = (0..bits).filter(|&b| word[b] == 2).collect();
+        let mut agreeing: Option<Vec<u8>> = None;
+        for number in 0..1usize << places.len() {
+            let mut tried = word.clone();
+            places.iter().enumerate().for_each(|(i, &b)| tried[b] = (number >> i & 1) as u8);
+            if matrix.is_codeword(&tried) {
+                let known = agreeing.get_or_insert(tried.clone());
+                (0..bits).filter(|&b| tried[b] != known[b]).collect::<Vec<_>>().iter().for_each(|&b| known[b] = 2);
+            }
+        }
+        t.same("elimination", elimination::decode(&matrix, &word), agreeing)?;
+
+        if matrix.k == 0 && matrix.n <= 8 {
+            let parity = matrix.parity_bits();
+            t.same("the parity bits", &parity, &matrix.parity_bits_by_sums())?;
+            t.same("the rank", matrix.rank(), elimination::rank(&matrix))?;
+            let message = r.bits(matrix.n - matrix.rank());
+            t.same("encoding", matrix.encode(&message), matrix.encode_by_words(&message))?;
+        }
+        if matrix.k == 0 {
+            t.same("load after write", &model::load(&model::record(&matrix)), &Ok(matrix.clone()))?;
+        }
+        t.same("read after pack", &Matrix::read(&matrix.pack(), matrix.n, matrix.m, matrix.k), &matrix)?;
+    }
+    Ok(())
+}
+
+/// The number of comparisons.
+pub fn run() -> Result<usize, String> {
+    let mut tally = Tally(0);
+    bench(&mut tally)?;
+    methods(&mut tally)?;
+    Ok(tally.0)
+}

@@ -1,0 +1,66 @@
+//! One call compared: the library's number, values and every lent element against the model's.
+
+use crate::library;
+use crate::model::{self, Lent, Reply};
+use crate::random::Random;
+use std::env;
+use std::ffi::OsString;
+use std::fs;
+use std::sync::OnceLock;
+
+/// The whole input of a call, so that it can be made again.
+pub fn describe(lent: &Lent) -> String {
+    let mut text = format!("call {}\n", lent.kind.name());
+    text += &format!("n {} m {} k {} u {} v {}\n", lent.n, lent.m, lent.k, lent.u, lent.v);
+    text += &format!("matrix slice of {} words; those that are not 0, by place:\n", lent.words.len());
+    for (place, word) in lent.words.iter().enumerate().filter(|(_, word)| **word != 0) {
+        text += &format!("  {place}: {word:#018x}\n");
+    }
+    text += &format!("record of {} words: {:08x?}\n", lent.record.len(), lent.record);
+    text += &format!("bytes read, {}: {:?}\n", lent.input.len(), lent.input);
+    text += &format!("bytes written, {}: {:?}\n", lent.word.len(), lent.word);
+    text
+}
+
+fn first_difference<T: PartialEq + std::fmt::Debug>(what: &str, library: &[T], model: &[T]) -> Option<String> {
+    let place = library.iter().zip(model).position(|(x, y)| x != y)?;
+    Some(format!("{what}, place {place}: library {:?}, model {:?}\n", library[place], model[place]))
+}
+
+/// Keeps the input of the call that comes next in the file that OUTSIDE_LAST names, for a library that ends the program.
+fn keep(lent: &Lent) {
+    static LAST: OnceLock<Option<OsString>> = OnceLock::new();
+    if let Some(path) = LAST.get_or_init(|| env::var_os("OUTSIDE_LAST")) {
+        fs::write(path, describe(lent)).expect("the file that OUTSIDE_LAST names");
+    }
+}
+
+/// Makes the call on both sides, with `values` of 0 to 5 words, and gives the model's reply and what is lent afterwards.
+pub fn compare(lent: &Lent, r: &mut Random) -> Result<(Reply, Lent), String> {
+    let mut due = lent.clone();
+    let reply = model::call(&mut due);
+    let before: Vec<u64> = (0..r.below(6)).map(|_| r.next()).collect();
+    let mut values = before.clone();
+    let mut found = lent.clone();
+    keep(lent);
+    let number = library::call(&mut found, &mut values);
+    let mut due_values = before.clone();
+    for (place, value) in due_values.iter_mut().zip(&reply.values) {
+        *place = *value;
+    }
+    if number == Ok(reply.number) && values == due_values && found == due {
+        return Ok((reply, due));
+    }
+    let mut text = format!("DIFFERENCE\n{}", describe(lent));
+    text += &format!("values lent: {before:x?}\n");
+    text += &format!("library: number {number:?}, values afterwards {values:?}\n");
+    text += &format!("model: number {}, values {:?}\n", reply.number, reply.values);
+    let places = [
+        first_difference("matrix word", &found.words, &due.words),
+        first_difference("record word", &found.record, &due.record),
+        first_difference("byte read", &found.input, &due.input),
+        first_difference("byte written", &found.word, &due.word),
+    ];
+    text.extend(places.into_iter().flatten());
+    Err(text)
+}

@@ -1,0 +1,153 @@
+//! Tests of the library from outside. `outside` runs all parts; `outside model`, `calls`, `demand3`, `codes`, `mend`
+//! run the parts named, and the name of a call, as `outside peel`, runs that kind of call alone. Ends with a status that
+//! is not 0 at the first difference, with the whole input that shows it. OUTSIDE_LAST=FILE keeps the input of the last
+//! call in FILE.
+
+#![allow(clippy::needless_range_loop)]
+
+mod cases;
+mod elimination;
+mod generate;
+mod model;
+mod random;
+
+#[cfg_attr(not(feature = "all"), allow(dead_code))]
+mod calls;
+#[cfg_attr(not(feature = "all"), allow(dead_code))]
+mod compare;
+#[cfg_attr(not(feature = "all"), allow(dead_code, unused_imports))]
+mod library;
+mod mend;
+
+#[cfg(all(feature = "orthogonalise", feature = "peel"))]
+mod codes;
+#[cfg(all(
+    feature = "split",
+    feature = "orthogonalise",
+    feature = "count",
+    feature = "extend",
+    feature = "verify",
+    feature = "peel"
+))]
+mod demand3;
+
+use model::{Kind, KINDS};
+use std::process::ExitCode;
+use std::time::Instant;
+
+const PARTS: [&str; 5] = ["model", "calls", "demand3", "codes", "mend"];
+
+/// What became of a part: its number of comparisons and a note, or why it was skipped.
+enum Outcome {
+    Same(usize, String),
+    Skipped(String),
+}
+
+fn same(result: Result<usize, String>) -> Result<Outcome, String> {
+    result.map(|number| Outcome::Same(number, String::new()))
+}
+
+#[cfg(all(
+    feature = "split",
+    feature = "orthogonalise",
+    feature = "count",
+    feature = "extend",
+    feature = "verify",
+    feature = "peel"
+))]
+fn demand3() -> Result<Outcome, String> {
+    same(demand3::run())
+}
+
+#[cfg(not(all(
+    feature = "split",
+    feature = "orthogonalise",
+    feature = "count",
+    feature = "extend",
+    feature = "verify",
+    feature = "peel"
+)))]
+fn demand3() -> Result<Outcome, String> {
+    Ok(Outcome::Skipped("needs the features split, orthogonalise, count, extend, verify and peel".to_string()))
+}
+
+#[cfg(all(feature = "orthogonalise", feature = "peel"))]
+fn codes() -> Result<Outcome, String> {
+    same(codes::run())
+}
+
+#[cfg(not(all(feature = "orthogonalise", feature = "peel")))]
+fn codes() -> Result<Outcome, String> {
+    Ok(Outcome::Skipped("needs the features orthogonalise and peel".to_string()))
+}
+
+fn mend() -> Result<Outcome, String> {
+    match mend::program() {
+        Some(path) => mend::run(&path).map(|(number, note)| Outcome::Same(number, note)),
+        None => {
+            let how = "the program is missing: run `rt check mend` in the root of the repository, or set PARITY_MEND to its path";
+            Ok(Outcome::Skipped(how.to_string()))
+        }
+    }
+}
+
+fn run(part: &str, kinds: &[Kind]) -> Result<Outcome, String> {
+    match part {
+        "model" => same(cases::run()),
+        "calls" => match calls::run(kinds)? {
+            0 => Ok(Outcome::Skipped("no call is built in".to_string())),
+            number => Ok(Outcome::Same(number, String::new())),
+        },
+        "demand3" => demand3(),
+        "codes" => codes(),
+        _ => mend(),
+    }
+}
+
+fn main() -> ExitCode {
+    let mut named: Vec<String> = std::env::args().skip(1).collect();
+    let kinds: Vec<Kind> = KINDS.into_iter().filter(|kind| named.iter().any(|name| name == kind.name())).collect();
+    let before = named.len();
+    named.retain(|name| PARTS.contains(&name.as_str()));
+    if named.len() + kinds.len() < before {
+        let calls: Vec<&str> = KINDS.iter().map(|kind| kind.name()).collect();
+        eprintln!("the parts are {}, and the calls {}", PARTS.join(", "), calls.join(", "));
+        return ExitCode::from(2);
+    }
+    if !kinds.is_empty() {
+        named.push("calls".to_string());
+    }
+    let whole = Instant::now();
+    let mut complete = true;
+    for part in PARTS {
+        if !named.is_empty() && !named.iter().any(|name| name == part) {
+            continue;
+        }
+        let start = Instant::now();
+        match run(part, &kinds) {
+            Ok(Outcome::Same(number, note)) => {
+                let note = if note.is_empty() { note } else { format!(" ({note})") };
+                println!("{part}: {number} comparisons, no difference{note}, {:.1} s", start.elapsed().as_secs_f64());
+            }
+            Ok(Outcome::Skipped(why)) => {
+                println!("{part}: SKIPPED, {why}");
+                complete = false;
+            }
+            Err(difference) => {
+                println!("{difference}");
+                println!("{part}: FAILED after {:.1} s", start.elapsed().as_secs_f64());
+                return ExitCode::FAILURE;
+            }
+        }
+    }
+    println!(
+        "outside: {}, {:.1} s",
+        if complete { "passed" } else { "not all parts ran" },
+        whole.elapsed().as_secs_f64()
+    );
+    if complete {
+        ExitCode::SUCCESS
+    } else {
+        ExitCode::FAILURE
+    }
+}

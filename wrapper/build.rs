@@ -1,0 +1,45 @@
+//! Finds libcapi.a, which `rt staticlib capi` writes, and has it linked.
+
+use std::env;
+use std::path::PathBuf;
+use std::process::exit;
+
+const CALLS: [&str; 12] = [
+    "LOAD",
+    "WRITE",
+    "SHARE",
+    "COUNT",
+    "SPLIT",
+    "ORTHOGONALISE",
+    "VERIFY",
+    "EXTEND",
+    "IS_STOPPING",
+    "PEEL",
+    "RANK",
+    "ENCODE",
+];
+
+fn main() {
+    println!("cargo:rerun-if-changed=build.rs");
+    println!("cargo:rerun-if-env-changed=PARITY_STATICLIB");
+    // With no call chosen nothing is linked.
+    if CALLS.iter().all(|call| env::var_os(format!("CARGO_FEATURE_{call}")).is_none()) {
+        return;
+    }
+    let folder = match env::var_os("PARITY_STATICLIB") {
+        Some(named) => PathBuf::from(named),
+        None => PathBuf::from(env::var_os("CARGO_MANIFEST_DIR").unwrap()).join("../target/staticlib"),
+    };
+    let archive = folder.join("libcapi.a");
+    println!("cargo:rerun-if-changed={}", archive.display());
+    if !archive.is_file() {
+        eprintln!();
+        eprintln!("libcapi.a is missing: looked for {}", archive.display());
+        eprintln!("Run `rt staticlib capi` in the root of the repository,");
+        eprintln!("or set PARITY_STATICLIB to the folder that holds libcapi.a.");
+        exit(1);
+    }
+    let folder = folder.canonicalize().unwrap();
+    println!("cargo:rustc-link-search=native={}", folder.display());
+    println!("cargo:rustc-link-lib=static=capi");
+}

@@ -1,0 +1,88 @@
+//! The declarations of `include/parity.h`. A slice is a pointer and then its length.
+
+#![allow(clippy::too_many_arguments)]
+
+#[rustfmt::skip]
+extern "C" {
+    pub fn parity_load(
+        record: *const u32, record_len: usize,
+        words: *mut u64, words_len: usize,
+        values: *mut u64, values_len: usize,
+    ) -> u32;
+
+    pub fn parity_write(
+        words: *const u64, words_len: usize,
+        n: usize, m: usize, k: usize,
+        record: *mut u32, record_len: usize,
+        values: *mut u64, values_len: usize,
+    ) -> u32;
+
+    pub fn parity_share(
+        words: *const u64, words_len: usize,
+        n: usize, m: usize, k: usize,
+        u: usize, v: usize,
+        values: *mut u64, values_len: usize,
+    ) -> u32;
+
+    pub fn parity_count(
+        words: *const u64, words_len: usize,
+        n: usize, m: usize, k: usize,
+        values: *mut u64, values_len: usize,
+    ) -> u32;
+
+    pub fn parity_split(
+        words: *mut u64, words_len: usize,
+        n: usize, m: usize, k: usize,
+        u: usize, v: usize,
+        values: *mut u64, values_len: usize,
+    ) -> u32;
+
+    pub fn parity_orthogonalise(
+        words: *mut u64, words_len: usize,
+        n: usize, m: usize, k: usize,
+        values: *mut u64, values_len: usize,
+    ) -> u32;
+
+    pub fn parity_verify(
+        words: *const u64, words_len: usize,
+        n: usize, m: usize, k: usize,
+        word: *const u8, word_len: usize,
+        values: *mut u64, values_len: usize,
+    ) -> u32;
+
+    pub fn parity_extend(
+        words: *const u64, words_len: usize,
+        n: usize, m: usize, k: usize,
+        sent: *const u8, sent_len: usize,
+        word: *mut u8, word_len: usize,
+        values: *mut u64, values_len: usize,
+    ) -> u32;
+
+    pub fn parity_is_stopping(
+        words: *const u64, words_len: usize,
+        n: usize, m: usize, k: usize,
+        set: *const u8, set_len: usize,
+        values: *mut u64, values_len: usize,
+    ) -> u32;
+
+    pub fn parity_peel(
+        words: *const u64, words_len: usize,
+        n: usize, m: usize, k: usize,
+        word: *mut u8, word_len: usize,
+        values: *mut u64, values_len: usize,
+    ) -> u32;
+
+    pub fn parity_rank(
+        words: *const u64, words_len: usize,
+        n: usize, m: usize, k: usize,
+        values: *mut u64, values_len: usize,
+    ) -> u32;
+
+    pub fn parity_encode(
+        words: *const u64, words_len: usize,
+        n: usize, m: usize, k: usize,
+        message: *const u8, message_len: usize,
+        word: *mut u8, word_len: usize,
+        values: *mut u64, values_len: usize,
+    ) -> u32;
+}

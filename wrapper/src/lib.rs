@@ -1,0 +1,340 @@
+//! Parity checks for lossy sample streams: slices in, Rust enums out.
+//!
+//! The matrix is lent as exactly [`WORDS`] words of 64 bits, with n, m and k beside it. `include/parity.h` says how
+//! a check's bits stand in them. Slices may have any length and numbers any value: what does not fit is refused.
+
+#![allow(clippy::too_many_arguments)]
+
+pub mod ffi;
+
+/// The number of words of a matrix.
+pub const WORDS: usize = 4096;
+
+/// The most words that [`write`] uses.
+pub const RECORD_MOST: usize = 14_522;
+
+/// Why a call was refused, with the values that the refusal carries.
+#[derive(Clone, Copy, PartialEq, Eq, Debug)]
+pub enum Refusal {
+    /// 1: the matrix slice is not 4,096 words.
+    MatrixLength,
+    /// 2: n, m or k is outside its range.
+    Range,
+    /// 3: a one at bit n+k or above, or at check m+k or above.
+    OneOutside,
+    /// 4: rule A is broken.
+    RuleA,
+    /// 5: a faulty record word.
+    FaultyWord { place: usize },
+    /// 6: the lent record is too short.
+    RecordShort { needed: usize },
+    /// 7: u = v, or either at n+k or above.
+    Pair,
+    /// 8: the share is below two.
+    Share { share: u64 },
+    /// 9 of a split: k is 392.
+    Full,
+    /// 9 of an orthogonalise: k is 392 and a pair is left. The matrix stands after the splits made.
+    FullAfter { splits: u64, sum: u64, k: usize },
+    /// 10: a word, message or set of wrong length.
+    Length,
+    /// 11: a byte outside the values named.
+    Byte { place: usize },
+    /// 12: contradiction in peeling.
+    Contradiction,
+    /// 13: k is above 0.
+    Extended,
+}
+
+impl Refusal {
+    /// The cause's number.
+    pub fn number(&self) -> u32 {
+        match self {
+            Refusal::MatrixLength => 1,
+            Refusal::Range => 2,
+            Refusal::OneOutside => 3,
+            Refusal::RuleA => 4,
+            Refusal::FaultyWord { .. } => 5,
+            Refusal::RecordShort { .. } => 6,
+            Refusal::Pair => 7,
+            Refusal::Share { .. } => 8,
+            Refusal::Full | Refusal::FullAfter { .. } => 9,
+            Refusal::Length => 10,
+            Refusal::Byte { .. } => 11,
+            Refusal::Contradiction => 12,
+            Refusal::Extended => 13,
+        }
+    }
+}
+
+impl std::fmt::Display for Refusal {
+    fn fmt(&self, f: &mut std::fmt::Formatter<'_>) -> std::fmt::Result {
+        write!(f, "refusal {}: ", self.number())?;
+        match self {
+            Refusal::MatrixLength => write!(f, "the matrix slice is not 4,096 words"),
+            Refusal::Range => write!(f, "n, m or k is outside its range"),
+            Refusal::OneOutside => write!(f, "a one at bit n+k or above, or at check m+k or above"),
+            Refusal::RuleA => write!(f, "rule A is broken"),
+            Refusal::FaultyWord { place } => write!(f, "faulty record word at place {place}"),
+            Refusal::RecordShort { needed } => write!(f, "the lent record is too short, {needed} words are needed"),
+            Refusal::Pair => write!(f, "u = v, or either at n+k or above"),
+            Refusal::Share { share } => write!(f, "the share is {share}, below two"),
+            Refusal::Full => write!(f, "k is 392"),
+            Refusal::FullAfter { splits, sum, k } => {
+                write!(f, "k is {k} and a pair is left, after {splits} splits with sum {sum}")
+            }
+            Refusal::Length => write!(f, "a word, message or set of wrong length"),
+            Refusal::Byte { place } => write!(f, "a byte outside the values named at place {place}"),
+            Refusal::Contradiction => write!(f, "contradiction in peeling"),
+            Refusal::Extended => write!(f, "k is above 0"),
+        }
+    }
+}
+
+impl std::error::Error for Refusal {}
+
+/// The answer of [`load`].
+#[derive(Clone, Copy, PartialEq, Eq, Debug)]
+pub struct Loaded {
+    pub n: usize,
+    pub m: usize,
+}
+
+/// The answer of [`split`]: the share that the pair had, and the new k.
+#[derive(Clone, Copy, PartialEq, Eq, Debug)]
+pub struct Split {
+    pub share: u64,
+    pub k: usize,
+}
+
+/// The answer of [`orthogonalise`]: the splits made, the sum of s(s-1)/2 over their shares, and k.
+#[derive(Clone, Copy, PartialEq, Eq, Debug)]
+pub struct Orthogonalised {
+    pub splits: u64,
+    pub sum: u64,
+    pub k: usize,
+}
+
+/// The answer of [`peel`], of all n+k bits.
+#[derive(Clone, Copy, PartialEq, Eq, Debug)]
+pub struct Peeled {
+    pub recovered: usize,
+    pub left: usize,
+}
+
+/// The values that a call carries: at most three.
+type Values = [u64; 3];
+
+/// Turns a call's number into its answer or its refusal.
+#[allow(dead_code)]
+fn reply(number: u32, values: Values) -> Result<Values, Refusal> {
+    Err(match number {
+        0 => return Ok(values),
+        1 => Refusal::MatrixLength,
+        2 => Refusal::Range,
+        3 => Refusal::OneOutside,
+        4 => Refusal::RuleA,
+        5 => Refusal::FaultyWord { place: values[0] as usize },
+        6 => Refusal::RecordShort { needed: values[0] as usize },
+        7 => Refusal::Pair,
+        8 => Refusal::Share { share: values[0] },
+        9 => Refusal::Full,
+        10 => Refusal::Length,
+        11 => Refusal::Byte { place: values[0] as usize },
+        12 => Refusal::Contradiction,
+        13 => Refusal::Extended,
+        other => panic!("the library returned {other}, which is no refusal"),
+    })
+}
+
+/// Loads a record into a matrix with k = 0; writes all words.
+#[cfg(feature = "load")]
+pub fn load(record: &[u32], words: &mut [u64]) -> Result<Loaded, Refusal> {
+    let mut values: Values = [0; 3];
+    // The pointers and lengths are those of live slices, and the written ones are borrowed alone; so in each call below.
+    let number = unsafe {
+        ffi::parity_load(
+            record.as_ptr(),
+            record.len(),
+            words.as_mut_ptr(),
+            words.len(),
+            values.as_mut_ptr(),
+            values.len(),
+        )
+    };
+    reply(number, values).map(|v| Loaded { n: v[0] as usize, m: v[1] as usize })
+}
+
+/// Writes a matrix with k = 0 as a record; answers the number of words used, and leaves the others.
+#[cfg(feature = "write")]
+pub fn write(words: &[u64], n: usize, m: usize, k: usize, record: &mut [u32]) -> Result<usize, Refusal> {
+    let mut values: Values = [0; 3];
+    let number = unsafe {
+        ffi::parity_write(
+            words.as_ptr(),
+            words.len(),
+            n,
+            m,
+            k,
+            record.as_mut_ptr(),
+            record.len(),
+            values.as_mut_ptr(),
+            values.len(),
+        )
+    };
+    reply(number, values).map(|v| v[0] as usize)
+}
+
+/// The number of checks that contain both bits.
+#[cfg(feature = "share")]
+pub fn share(words: &[u64], n: usize, m: usize, k: usize, u: usize, v: usize) -> Result<u64, Refusal> {
+    let mut values: Values = [0; 3];
+    let number =
+        unsafe { ffi::parity_share(words.as_ptr(), words.len(), n, m, k, u, v, values.as_mut_ptr(), values.len()) };
+    reply(number, values).map(|v| v[0])
+}
+
+/// The number of four-cycles.
+#[cfg(feature = "count")]
+pub fn count(words: &[u64], n: usize, m: usize, k: usize) -> Result<u64, Refusal> {
+    let mut values: Values = [0; 3];
+    let number = unsafe { ffi::parity_count(words.as_ptr(), words.len(), n, m, k, values.as_mut_ptr(), values.len()) };
+    reply(number, values).map(|v| v[0])
+}
+
+/// Splits a pair of bits with share two or more.
+#[cfg(feature = "split")]
+pub fn split(words: &mut [u64], n: usize, m: usize, k: usize, u: usize, v: usize) -> Result<Split, Refusal> {
+    let mut values: Values = [0; 3];
+    let number =
+        unsafe { ffi::parity_split(words.as_mut_ptr(), words.len(), n, m, k, u, v, values.as_mut_ptr(), values.len()) };
+    reply(number, values).map(|v| Split { share: v[0], k: v[1] as usize })
+}
+
+/// Splits until no pair has share two or more, or is refused with [`Refusal::FullAfter`].
+#[cfg(feature = "orthogonalise")]
+pub fn orthogonalise(words: &mut [u64], n: usize, m: usize, k: usize) -> Result<Orthogonalised, Refusal> {
+    let mut values: Values = [0; 3];
+    let number = unsafe {
+        ffi::parity_orthogonalise(words.as_mut_ptr(), words.len(), n, m, k, values.as_mut_ptr(), values.len())
+    };
+    let [splits, sum, last] = values;
+    let k = last as usize;
+    match reply(number, values) {
+        Ok(_) => Ok(Orthogonalised { splits, sum, k }),
+        Err(Refusal::Full) => Err(Refusal::FullAfter { splits, sum, k }),
+        Err(other) => Err(other),
+    }
+}
+
+/// Whether the word of n+k bytes is a codeword.
+#[cfg(feature = "verify")]
+pub fn verify(words: &[u64], n: usize, m: usize, k: usize, word: &[u8]) -> Result<bool, Refusal> {
+    let mut values: Values = [0; 3];
+    let number = unsafe {
+        ffi::parity_verify(
+            words.as_ptr(),
+            words.len(),
+            n,
+            m,
+            k,
+            word.as_ptr(),
+            word.len(),
+            values.as_mut_ptr(),
+            values.len(),
+        )
+    };
+    reply(number, values).map(|v| v[0] == 1)
+}
+
+/// Writes the n sent bits and then the k added ones into the word of n+k bytes.
+#[cfg(feature = "extend")]
+pub fn extend(words: &[u64], n: usize, m: usize, k: usize, sent: &[u8], word: &mut [u8]) -> Result<(), Refusal> {
+    let mut values: Values = [0; 3];
+    let number = unsafe {
+        ffi::parity_extend(
+            words.as_ptr(),
+            words.len(),
+            n,
+            m,
+            k,
+            sent.as_ptr(),
+            sent.len(),
+            word.as_mut_ptr(),
+            word.len(),
+            values.as_mut_ptr(),
+            values.len(),
+        )
+    };
+    reply(number, values).map(|_| ())
+}
+
+/// Whether no check contains exactly one bit of the set, given as n+k bytes.
+#[cfg(feature = "is_stopping")]
+pub fn is_stopping(words: &[u64], n: usize, m: usize, k: usize, set: &[u8]) -> Result<bool, Refusal> {
+    let mut values: Values = [0; 3];
+    let number = unsafe {
+        ffi::parity_is_stopping(
+            words.as_ptr(),
+            words.len(),
+            n,
+            m,
+            k,
+            set.as_ptr(),
+            set.len(),
+            values.as_mut_ptr(),
+            values.len(),
+        )
+    };
+    reply(number, values).map(|v| v[0] == 1)
+}
+
+/// Recovers the erased bits (2) of the word of n+k bytes, as far as checks with one erased bit reach.
+#[cfg(feature = "peel")]
+pub fn peel(words: &[u64], n: usize, m: usize, k: usize, word: &mut [u8]) -> Result<Peeled, Refusal> {
+    let mut values: Values = [0; 3];
+    let number = unsafe {
+        ffi::parity_peel(
+            words.as_ptr(),
+            words.len(),
+            n,
+            m,
+            k,
+            word.as_mut_ptr(),
+            word.len(),
+            values.as_mut_ptr(),
+            values.len(),
+        )
+    };
+    reply(number, values).map(|v| Peeled { recovered: v[0] as usize, left: v[1] as usize })
+}
+
+/// The number of parity bits of a matrix with k = 0.
+#[cfg(feature = "rank")]
+pub fn rank(words: &[u64], n: usize, m: usize, k: usize) -> Result<usize, Refusal> {
+    let mut values: Values = [0; 3];
+    let number = unsafe { ffi::parity_rank(words.as_ptr(), words.len(), n, m, k, values.as_mut_ptr(), values.len()) };
+    reply(number, values).map(|v| v[0] as usize)
+}
+
+/// Writes the codeword of n bytes that holds the message of n - rank bytes.
+#[cfg(feature = "encode")]
+pub fn encode(words: &[u64], n: usize, m: usize, k: usize, message: &[u8], word: &mut [u8]) -> Result<(), Refusal> {
+    let mut values: Values = [0; 3];
+    let number = unsafe {
+        ffi::parity_encode(
+            words.as_ptr(),
+            words.len(),
+            n,
+            m,
+            k,
+            message.as_ptr(),
+            message.len(),
+            word.as_mut_ptr(),
+            word.len(),
+            values.as_mut_ptr(),
+            values.len(),
+        )
+    };
+    reply(number, values).map(|_| ())
+}

@@ -1,0 +1,139 @@
+//! Cases A to K of document 01, through the wrapper.
+#![cfg(feature = "all")]
+
+use parity::{Loaded, Orthogonalised, Peeled, Refusal, Split, WORDS};
+
+fn matrix(checks: &[&[usize]]) -> Vec<u64> {
+    let mut words = vec![0; WORDS];
+    for (c, bits) in checks.iter().enumerate() {
+        for b in bits.iter() {
+            words[8 * c + b / 64] |= 1 << (b % 64);
+        }
+    }
+    words
+}
+
+fn a() -> Vec<u64> {
+    matrix(&[&[0, 3, 4, 6], &[1, 3, 5, 6], &[2, 4, 5, 6]])
+}
+
+fn c() -> Vec<u64> {
+    matrix(&[&[0, 1, 2, 3], &[0, 1, 4, 5], &[0, 2, 6]])
+}
+
+const RECORD_C: [u32; 16] = [
+    0x1000_0307,
+    0x2000_0004,
+    0x3000_0000,
+    0x3000_0001,
+    0x3000_0002,
+    0x3000_0003,
+    0x2000_0004,
+    0x3000_0000,
+    0x3000_0001,
+    0x3000_0004,
+    0x3000_0005,
+    0x2000_0003,
+    0x3000_0000,
+    0x3000_0002,
+    0x3000_0006,
+    0xF000_0000,
+];
+
+#[test]
+fn a_and_b() {
+    let mut words = a();
+    assert_eq!(parity::count(&words, 7, 3, 0), Ok(3));
+    assert_eq!(parity::orthogonalise(&mut words, 7, 3, 0), Ok(Orthogonalised { splits: 1, sum: 1, k: 1 }));
+    assert_eq!(words, matrix(&[&[0, 4, 7], &[1, 5, 7], &[2, 4, 5, 6], &[3, 6, 7]]));
+    assert_eq!(parity::count(&words, 7, 3, 1), Ok(0));
+    let mut by_hand = a();
+    assert_eq!(parity::split(&mut by_hand, 7, 3, 0, 6, 3), Ok(Split { share: 2, k: 1 }));
+    assert_eq!(by_hand, words);
+}
+
+#[test]
+fn c_and_d() {
+    let mut words = c();
+    assert_eq!(parity::count(&words, 7, 3, 0), Ok(2));
+    let mut word = [2, 2, 2, 1, 1, 1, 1];
+    assert_eq!(parity::peel(&words, 7, 3, 0, &mut word), Ok(Peeled { recovered: 0, left: 3 }));
+    assert_eq!(word, [2, 2, 2, 1, 1, 1, 1]);
+    assert_eq!(parity::is_stopping(&words, 7, 3, 0, &[1, 1, 1, 0, 0, 0, 0]), Ok(true));
+    assert_eq!(parity::is_stopping(&words, 7, 3, 0, &[1, 0, 0, 0, 0, 0, 0]), Ok(false));
+    assert!(parity::orthogonalise(&mut words, 7, 3, 0).is_ok());
+    assert_eq!(words, matrix(&[&[2, 3, 7], &[4, 5, 7], &[0, 2, 6], &[0, 1, 7]]));
+    let mut word = [2, 2, 2, 1, 1, 1, 1, 2];
+    assert_eq!(parity::peel(&words, 7, 3, 1, &mut word), Ok(Peeled { recovered: 4, left: 0 }));
+    assert_eq!(word, [0, 0, 1, 1, 1, 1, 1, 0]);
+    assert_eq!(parity::verify(&words, 7, 3, 1, &word), Ok(true));
+    let mut extended = [9; 8];
+    assert_eq!(parity::extend(&words, 7, 3, 1, &word[..7], &mut extended), Ok(()));
+    assert_eq!(extended, word);
+    assert_eq!(parity::rank(&words, 7, 3, 1), Err(Refusal::Extended));
+}
+
+#[test]
+fn e() {
+    let mut words = matrix(&[&[0, 1, 2], &[0, 1, 2]]);
+    assert_eq!(parity::count(&words, 3, 2, 0), Ok(3));
+    assert_eq!(parity::orthogonalise(&mut words, 3, 2, 0), Ok(Orthogonalised { splits: 2, sum: 2, k: 2 }));
+    assert_eq!(parity::count(&words, 3, 2, 2), Ok(0));
+}
+
+#[test]
+fn f() {
+    let mut word = [2, 2];
+    assert_eq!(parity::peel(&matrix(&[]), 2, 0, 0, &mut word), Ok(Peeled { recovered: 0, left: 2 }));
+    assert_eq!(word, [2, 2]);
+}
+
+#[test]
+fn g_and_h() {
+    let mut words = c();
+    assert_eq!(parity::share(&words, 7, 3, 0, 0, 3), Ok(1));
+    assert_eq!(parity::split(&mut words, 7, 3, 0, 0, 3), Err(Refusal::Share { share: 1 }));
+    assert_eq!(parity::split(&mut words, 7, 3, 0, 4, 4), Err(Refusal::Pair));
+    assert_eq!(words, c());
+}
+
+#[test]
+fn i() {
+    let mut word = [2, 1];
+    let words = matrix(&[&[0], &[0, 1]]);
+    assert_eq!(parity::peel(&words, 2, 2, 0, &mut word), Err(Refusal::Contradiction));
+    assert_eq!(word, [2, 1]);
+}
+
+#[test]
+fn j() {
+    assert_eq!(parity::rank(&a(), 7, 3, 0), Ok(3));
+    let mut word = [9; 7];
+    assert_eq!(parity::encode(&a(), 7, 3, 0, &[1, 0, 0, 0], &mut word), Ok(()));
+    assert_eq!(word, [1, 1, 0, 1, 0, 0, 0]);
+}
+
+#[test]
+fn k() {
+    let mut words = vec![7; WORDS];
+    assert_eq!(parity::load(&[], &mut words), Err(Refusal::FaultyWord { place: 0 }));
+    assert_eq!(words, vec![7; WORDS]);
+    assert_eq!(parity::load(&RECORD_C, &mut words), Ok(Loaded { n: 7, m: 3 }));
+    assert_eq!(words, c());
+    let mut record = [0; 20];
+    assert_eq!(parity::write(&words, 7, 3, 0, &mut record), Ok(16));
+    assert_eq!(record[..16], RECORD_C);
+    assert_eq!(parity::write(&words, 7, 3, 0, &mut record[..15]), Err(Refusal::RecordShort { needed: 16 }));
+}
+
+#[test]
+fn refusals() {
+    let words = c();
+    assert_eq!(parity::count(&words[1..], 7, 3, 0), Err(Refusal::MatrixLength));
+    assert_eq!(parity::count(&words, 121, 3, 0), Err(Refusal::Range));
+    assert_eq!(parity::count(&words, 7, 2, 0), Err(Refusal::OneOutside));
+    assert_eq!(parity::count(&words, 7, 3, 1), Err(Refusal::RuleA));
+    assert_eq!(parity::verify(&words, 7, 3, 0, &[0; 6]), Err(Refusal::Length));
+    assert_eq!(parity::verify(&words, 7, 3, 0, &[0, 0, 0, 4, 0, 3, 0]), Err(Refusal::Byte { place: 3 }));
+    assert_eq!(Refusal::Byte { place: 3 }.number(), 11);
+}

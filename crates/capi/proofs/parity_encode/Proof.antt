@@ -1,0 +1,24 @@
+-- `capi::parity_encode` meets its contract. Assumes nothing.
+use borrow.Author.Needs.{needs}
+use Rattle.capi.proofs.Passing.{same}
+use Rattle.capi.proofs.parity_encode.Statement.{statement}
+use Rattle.capi.proofs.parity_encode.Tie as tie
+
+encode-requires : tie.Need-encode-requires
+encode-requires c κs = search needs
+
+encoded-requires : tie.Need-encoded-requires
+encoded-requires c κs = search needs
+
+same-length : tie.Need-same-length
+same-length c = search needs
+
+same-length-2 : tie.Need-same-length-2
+same-length-2 c = search needs
+
+returns : tie.Need-returns
+returns c = (same (c .before .before .before .before .before .before .encode .ensures .0) (c .before .before .encoded .ensures), c .before .before .before .before .before .before .encode .ensures .1)
+
+pub parity-encode-spec : {M : Type 1} → statement M
+parity-encode-spec =
+    tie.close (tie.spec encode-requires encoded-requires same-length same-length-2 returns)

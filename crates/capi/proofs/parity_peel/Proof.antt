@@ -1,0 +1,24 @@
+-- `capi::parity_peel` meets its contract. Assumes nothing.
+use borrow.Author.Needs.{needs}
+use Rattle.capi.proofs.Passing.{same}
+use Rattle.capi.proofs.parity_peel.Statement.{statement}
+use Rattle.capi.proofs.parity_peel.Tie as tie
+
+peel-requires : tie.Need-peel-requires
+peel-requires c κs = search needs
+
+peeled-requires : tie.Need-peeled-requires
+peeled-requires c κs = search needs
+
+same-length : tie.Need-same-length
+same-length c = search needs
+
+same-length-2 : tie.Need-same-length-2
+same-length-2 c = search needs
+
+returns : tie.Need-returns
+returns c = (same (c .before .before .before .before .before .before .peel .ensures .0) (c .before .before .peeled .ensures), c .before .before .before .before .before .before .peel .ensures .1)
+
+pub parity-peel-spec : {M : Type 1} → statement M
+parity-peel-spec =
+    tie.close (tie.spec peel-requires peeled-requires same-length same-length-2 returns)

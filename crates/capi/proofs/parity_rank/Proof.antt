@@ -1,0 +1,20 @@
+-- `capi::parity_rank` meets its contract. Assumes nothing.
+use borrow.Author.Needs.{needs}
+use Rattle.capi.proofs.Passing.{same}
+use Rattle.capi.proofs.parity_rank.Statement.{statement}
+use Rattle.capi.proofs.parity_rank.Tie as tie
+
+rank-requires : tie.Need-rank-requires
+rank-requires c κs = search needs
+
+ranked-requires : tie.Need-ranked-requires
+ranked-requires c κs = search needs
+
+same-length : tie.Need-same-length
+same-length c = search needs
+
+returns : tie.Need-returns
+returns c = same (c .before .before .before .before .rank .ensures) (c .before .before .ranked .ensures)
+
+pub parity-rank-spec : {M : Type 1} → statement M
+parity-rank-spec = tie.close (tie.spec rank-requires ranked-requires same-length returns)

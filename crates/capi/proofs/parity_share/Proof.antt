@@ -1,0 +1,20 @@
+-- `capi::parity_share` meets its contract. Assumes nothing.
+use borrow.Author.Needs.{needs}
+use Rattle.capi.proofs.Passing.{same}
+use Rattle.capi.proofs.parity_share.Statement.{statement}
+use Rattle.capi.proofs.parity_share.Tie as tie
+
+share-requires : tie.Need-share-requires
+share-requires c κs = search needs
+
+sharing-requires : tie.Need-sharing-requires
+sharing-requires c κs = search needs
+
+same-length : tie.Need-same-length
+same-length c = search needs
+
+returns : tie.Need-returns
+returns c = same (c .before .before .before .before .share .ensures) (c .before .before .sharing .ensures)
+
+pub parity-share-spec : {M : Type 1} → statement M
+parity-share-spec = tie.close (tie.spec share-requires sharing-requires same-length returns)

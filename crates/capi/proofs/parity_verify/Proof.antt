@@ -1,0 +1,20 @@
+-- `capi::parity_verify` meets its contract. Assumes nothing.
+use borrow.Author.Needs.{needs}
+use Rattle.capi.proofs.Passing.{same}
+use Rattle.capi.proofs.parity_verify.Statement.{statement}
+use Rattle.capi.proofs.parity_verify.Tie as tie
+
+verify-requires : tie.Need-verify-requires
+verify-requires c κs = search needs
+
+verified-requires : tie.Need-verified-requires
+verified-requires c κs = search needs
+
+same-length : tie.Need-same-length
+same-length c = search needs
+
+returns : tie.Need-returns
+returns c = same (c .before .before .before .before .verify .ensures) (c .before .before .verified .ensures)
+
+pub parity-verify-spec : {M : Type 1} → statement M
+parity-verify-spec = tie.close (tie.spec verify-requires verified-requires same-length returns)

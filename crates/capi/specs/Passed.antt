@@ -1,0 +1,14 @@
+-- How a reply reaches a caller in C: its number is returned, and its values are put into a lent list of any length. Assumes nothing.
+use mathlib.Core.Path.{_≡_}
+use mathlib.Core.List.{List, _++_}
+use Prim.Native.Nat.{ℕ}
+use lib.ListN.{length, take, drop}
+use Rattle.parity.specs.Causes.{Reply}
+
+-- the values fill the first elements as far as the list reaches; its other elements are left
+unfoldable pub filled : List ℕ → List ℕ → List ℕ
+filled vs old = take (length old) vs ++ drop (length vs) old
+
+pub record Passed (reply : Reply) (old new : List ℕ) (returned : ℕ) : Type 0 where
+  pub number : returned ≡ reply .number
+  pub values : new ≡ filled (reply .values) old

@@ -1,0 +1,202 @@
+// The calls for C: a slice is a pointer and then its length. Each returns 0 for an answer, or the refusal's number, and puts the values
+// that it carries at the front of `values`, as far as it reaches.
+mod carry;
+mod pass;
+
+use parity::Bit;
+ghost use mathlib.Core.Path.{_≡_};
+ghost use Rattle.parity.specs.Calls.{loadOutcome, writeOutcome, shareReply, countReply, splitOutcome, orthogonaliseOutcome, verifyReply, extendOutcome, isStoppingReply, peelOutcome, rankReply, encodeOutcome};
+ghost use Rattle.capi.specs.Passed.{Passed};
+
+// Carries n and m.
+#[no_mangle]
+pub extern "C" fn parity_load(record: &[u32], words: &mut [u64], values: &mut [u64]) -> u32
+    ensures { λ r. ⌜ Passed (loadOutcome (now («record» .entry)) (now (words .entry)) .reply) (now (values .entry)) (now (values .exit)) r ⌝ }
+    ensures { λ r. ⌜ now (words .exit) ≡ loadOutcome (now («record» .entry)) (now (words .entry)) .after ⌝ }
+{
+    let loading = record::load(record, words);
+    pass::loading(loading, values)
+}
+
+// Carries the number of words used.
+#[no_mangle]
+pub extern "C" fn parity_write(
+    words: &[u64],
+    n: usize,
+    m: usize,
+    k: usize,
+    record: &mut [u32],
+    values: &mut [u64],
+) -> u32
+    ensures { λ r. ⌜ Passed (writeOutcome (now (words .entry)) n m k (now («record» .entry)) .reply) (now (values .entry)) (now (values .exit)) r ⌝ }
+    ensures { λ r. ⌜ now («record» .exit) ≡ writeOutcome (now (words .entry)) n m k (now («record» .entry)) .after ⌝ }
+{
+    let writing = record::write(words, n, m, k, record);
+    pass::writing(writing, values)
+}
+
+// Carries the share.
+#[no_mangle]
+pub extern "C" fn parity_share(
+    words: &[u64],
+    n: usize,
+    m: usize,
+    k: usize,
+    u: usize,
+    v: usize,
+    values: &mut [u64],
+) -> u32
+    ensures { λ r. ⌜ Passed (shareReply (now (words .entry)) n m k u v) (now (values .entry)) (now (values .exit)) r ⌝ }
+{
+    let sharing = cycles::share(words, n, m, k, Bit(u), Bit(v));
+    pass::sharing(sharing, values)
+}
+
+// Carries the cycle count.
+#[no_mangle]
+pub extern "C" fn parity_count(
+    words: &[u64],
+    n: usize,
+    m: usize,
+    k: usize,
+    values: &mut [u64],
+) -> u32
+    ensures { λ r. ⌜ Passed (countReply (now (words .entry)) n m k) (now (values .entry)) (now (values .exit)) r ⌝ }
+{
+    let counting = cycles::count(words, n, m, k);
+    pass::counting(counting, values)
+}
+
+// Carries the share and the new k.
+#[no_mangle]
+pub extern "C" fn parity_split(
+    words: &mut [u64],
+    n: usize,
+    m: usize,
+    k: usize,
+    u: usize,
+    v: usize,
+    values: &mut [u64],
+) -> u32
+    ensures { λ r. ⌜ Passed (splitOutcome (now (words .entry)) n m k u v .reply) (now (values .entry)) (now (values .exit)) r ⌝ }
+    ensures { λ r. ⌜ now (words .exit) ≡ splitOutcome (now (words .entry)) n m k u v .after ⌝ }
+{
+    let splitting = split::split(words, n, m, k, Bit(u), Bit(v));
+    pass::splitting(splitting, values)
+}
+
+// Carries the number of splits, their sum and k, also when refused 9.
+#[no_mangle]
+pub extern "C" fn parity_orthogonalise(
+    words: &mut [u64],
+    n: usize,
+    m: usize,
+    k: usize,
+    values: &mut [u64],
+) -> u32
+    ensures { λ r. ⌜ Passed (orthogonaliseOutcome (now (words .entry)) n m k .reply) (now (values .entry)) (now (values .exit)) r ⌝ }
+    ensures { λ r. ⌜ now (words .exit) ≡ orthogonaliseOutcome (now (words .entry)) n m k .after ⌝ }
+{
+    let orthogonalising = split::orthogonalise(words, n, m, k);
+    pass::orthogonalising(orthogonalising, values)
+}
+
+// Carries 1 for yes, 0 for no.
+#[no_mangle]
+pub extern "C" fn parity_verify(
+    words: &[u64],
+    n: usize,
+    m: usize,
+    k: usize,
+    word: &[u8],
+    values: &mut [u64],
+) -> u32
+    ensures { λ r. ⌜ Passed (verifyReply (now (words .entry)) n m k (now (word .entry))) (now (values .entry)) (now (values .exit)) r ⌝ }
+{
+    let verified = word::verify(words, n, m, k, word);
+    pass::verified(verified, values)
+}
+
+// Carries nothing.
+#[no_mangle]
+pub extern "C" fn parity_extend(
+    words: &[u64],
+    n: usize,
+    m: usize,
+    k: usize,
+    sent: &[u8],
+    word: &mut [u8],
+    values: &mut [u64],
+) -> u32
+    ensures { λ r. ⌜ Passed (extendOutcome (now (words .entry)) n m k (now (sent .entry)) (now (word .entry)) .reply) (now (values .entry)) (now (values .exit)) r ⌝ }
+    ensures { λ r. ⌜ now (word .exit) ≡ extendOutcome (now (words .entry)) n m k (now (sent .entry)) (now (word .entry)) .after ⌝ }
+{
+    let extension = word::extending::extend(words, n, m, k, sent, word);
+    pass::extension(extension, values)
+}
+
+// Carries 1 for yes, 0 for no.
+#[no_mangle]
+pub extern "C" fn parity_is_stopping(
+    words: &[u64],
+    n: usize,
+    m: usize,
+    k: usize,
+    set: &[u8],
+    values: &mut [u64],
+) -> u32
+    ensures { λ r. ⌜ Passed (isStoppingReply (now (words .entry)) n m k (now (set .entry))) (now (values .entry)) (now (values .exit)) r ⌝ }
+{
+    let stopping = word::is_stopping(words, n, m, k, set);
+    pass::stopping(stopping, values)
+}
+
+// Carries how many bits were recovered and how many are left.
+#[no_mangle]
+pub extern "C" fn parity_peel(
+    words: &[u64],
+    n: usize,
+    m: usize,
+    k: usize,
+    word: &mut [u8],
+    values: &mut [u64],
+) -> u32
+    ensures { λ r. ⌜ Passed (peelOutcome (now (words .entry)) n m k (now (word .entry)) .reply) (now (values .entry)) (now (values .exit)) r ⌝ }
+    ensures { λ r. ⌜ now (word .exit) ≡ peelOutcome (now (words .entry)) n m k (now (word .entry)) .after ⌝ }
+{
+    let peeled = peel::peel(words, n, m, k, word);
+    pass::peeled(peeled, values)
+}
+
+// Carries the rank.
+#[no_mangle]
+pub extern "C" fn parity_rank(
+    words: &[u64],
+    n: usize,
+    m: usize,
+    k: usize,
+    values: &mut [u64],
+) -> u32
+    ensures { λ r. ⌜ Passed (rankReply (now (words .entry)) n m k) (now (values .entry)) (now (values .exit)) r ⌝ }
+{
+    let ranked = encode::rank(words, n, m, k);
+    pass::ranked(ranked, values)
+}
+
+// Carries nothing.
+#[no_mangle]
+pub extern "C" fn parity_encode(
+    words: &[u64],
+    n: usize,
+    m: usize,
+    k: usize,
+    message: &[u8],
+    word: &mut [u8],
+    values: &mut [u64],
+) -> u32
+    ensures { λ r. ⌜ Passed (encodeOutcome (now (words .entry)) n m k (now (message .entry)) (now (word .entry)) .reply) (now (values .entry)) (now (values .exit)) r ⌝ }
+    ensures { λ r. ⌜ now (word .exit) ≡ encodeOutcome (now (words .entry)) n m k (now (message .entry)) (now (word .entry)) .after ⌝ }
+{
+    let encoded = encode::encode(words, n, m, k, message, word);
+    pass::encoded(encoded, values)
+}

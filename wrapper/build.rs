@@ -4,28 +4,9 @@ use std::env;
 use std::path::PathBuf;
 use std::process::exit;
 
-const CALLS: [&str; 12] = [
-    "LOAD",
-    "WRITE",
-    "SHARE",
-    "COUNT",
-    "SPLIT",
-    "ORTHOGONALISE",
-    "VERIFY",
-    "EXTEND",
-    "IS_STOPPING",
-    "PEEL",
-    "RANK",
-    "ENCODE",
-];
-
 fn main() {
     println!("cargo:rerun-if-changed=build.rs");
     println!("cargo:rerun-if-env-changed=PARITY_STATICLIB");
-    // With no call chosen nothing is linked.
-    if CALLS.iter().all(|call| env::var_os(format!("CARGO_FEATURE_{call}")).is_none()) {
-        return;
-    }
     let folder = match env::var_os("PARITY_STATICLIB") {
         Some(named) => PathBuf::from(named),
         None => PathBuf::from(env::var_os("CARGO_MANIFEST_DIR").unwrap()).join("../target/staticlib"),

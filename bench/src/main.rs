@@ -3,7 +3,6 @@
 
 mod plain;
 
-#[allow(unused_imports)]
 use parity::ffi;
 use std::hint::black_box;
 use std::process::ExitCode;
@@ -28,23 +27,6 @@ enum Call {
     Peel,
     Rank,
     Encode,
-}
-
-fn built_in(call: Call) -> bool {
-    match call {
-        Call::Load => cfg!(feature = "load"),
-        Call::Write => cfg!(feature = "write"),
-        Call::Share => cfg!(feature = "share"),
-        Call::Count => cfg!(feature = "count"),
-        Call::Split => cfg!(feature = "split"),
-        Call::Orthogonalise => cfg!(feature = "orthogonalise"),
-        Call::Verify => cfg!(feature = "verify"),
-        Call::Extend => cfg!(feature = "extend"),
-        Call::IsStopping => cfg!(feature = "is_stopping"),
-        Call::Peel => cfg!(feature = "peel"),
-        Call::Rank => cfg!(feature = "rank"),
-        Call::Encode => cfg!(feature = "encode"),
-    }
 }
 
 /// All that a call is lent and passed.
@@ -81,7 +63,6 @@ fn in_plain(job: &mut Job) -> u32 {
     }
 }
 
-#[allow(unused_unsafe, unused_variables, unreachable_code)]
 fn in_library(job: &mut Job) -> u32 {
     let (n, m, k, u, v) = (job.n, job.m, job.k, job.u, job.v);
     let (words, words_len) = (job.words.as_mut_ptr(), job.words.len());
@@ -92,38 +73,24 @@ fn in_library(job: &mut Job) -> u32 {
     // Every pointer and length is that of a live vector, and no two overlap.
     unsafe {
         match job.call {
-            #[cfg(feature = "load")]
             Call::Load => ffi::parity_load(record, record_len, words, words_len, values, values_len),
-            #[cfg(feature = "write")]
             Call::Write => ffi::parity_write(words, words_len, n, m, k, record, record_len, values, values_len),
-            #[cfg(feature = "share")]
             Call::Share => ffi::parity_share(words, words_len, n, m, k, u, v, values, values_len),
-            #[cfg(feature = "count")]
             Call::Count => ffi::parity_count(words, words_len, n, m, k, values, values_len),
-            #[cfg(feature = "split")]
             Call::Split => ffi::parity_split(words, words_len, n, m, k, u, v, values, values_len),
-            #[cfg(feature = "orthogonalise")]
             Call::Orthogonalise => ffi::parity_orthogonalise(words, words_len, n, m, k, values, values_len),
-            #[cfg(feature = "verify")]
             Call::Verify => ffi::parity_verify(words, words_len, n, m, k, input, input_len, values, values_len),
-            #[cfg(feature = "extend")]
             Call::Extend => {
                 ffi::parity_extend(words, words_len, n, m, k, input, input_len, word, word_len, values, values_len)
             }
-            #[cfg(feature = "is_stopping")]
             Call::IsStopping => {
                 ffi::parity_is_stopping(words, words_len, n, m, k, input, input_len, values, values_len)
             }
-            #[cfg(feature = "peel")]
             Call::Peel => ffi::parity_peel(words, words_len, n, m, k, word, word_len, values, values_len),
-            #[cfg(feature = "rank")]
             Call::Rank => ffi::parity_rank(words, words_len, n, m, k, values, values_len),
-            #[cfg(feature = "encode")]
             Call::Encode => {
                 ffi::parity_encode(words, words_len, n, m, k, input, input_len, word, word_len, values, values_len)
             }
-            #[allow(unreachable_patterns)]
-            _ => panic!("{:?} was not built in", job.call),
         }
     }
 }
@@ -156,20 +123,17 @@ fn clock() -> u64 {
     (0..1000).map(|_| Instant::now().elapsed().as_nanos() as u64).min().unwrap()
 }
 
-/// The best nanoseconds of one call: the library's, if it is built in, and plain Rust's.
-fn measure(job: &Job) -> Result<(Option<u64>, u64), String> {
-    let library = built_in(job.call);
+/// The best nanoseconds of one call: the library's and plain Rust's.
+fn measure(job: &Job) -> Result<(u64, u64), String> {
     let mut expected = job.clone();
     let number = in_plain(&mut expected);
-    if library {
-        let mut found = job.clone();
-        let got = in_library(&mut found);
-        if got != number || found != expected {
-            return Err(format!(
-                "{:?} with n {} m {} k {} differs: library {got} {:?}, plain {number} {:?}",
-                job.call, job.n, job.m, job.k, found.values, expected.values
-            ));
-        }
+    let mut found = job.clone();
+    let got = in_library(&mut found);
+    if got != number || found != expected {
+        return Err(format!(
+            "{:?} with n {} m {} k {} differs: library {got} {:?}, plain {number} {:?}",
+            job.call, job.n, job.m, job.k, found.values, expected.values
+        ));
     }
     let clock = clock();
     let mut scratch = job.clone();
@@ -178,11 +142,9 @@ fn measure(job: &Job) -> Result<(Option<u64>, u64), String> {
     let (mut best_library, mut best_plain) = (u64::MAX, u64::MAX);
     for _ in 0..RUNS {
         best_plain = best_plain.min(timed(in_plain, job, &mut scratch, times, clock));
-        if library {
-            best_library = best_library.min(timed(in_library, job, &mut scratch, times, clock));
-        }
+        best_library = best_library.min(timed(in_library, job, &mut scratch, times, clock));
     }
-    Ok((library.then_some(best_library / times), best_plain / times))
+    Ok((best_library / times, best_plain / times))
 }
 
 struct Random(u64);
@@ -302,9 +264,11 @@ fn jobs(r: &mut Random, given: &Case, case: &Case) -> Vec<(String, Job)> {
     let (message, word) = codeword(r, given, case);
     let mut rows = Vec::new();
     let mut row = |name: &str, job: Job| rows.push((name.to_string(), job));
-    let (u, v) = case.pair();
     let mut job = case.job(Call::Share);
-    (job.u, job.v) = (u, v);
+    // A bit and itself are refused 7 after acceptance, and nothing else is done.
+    (job.u, job.v) = (0, 0);
+    row("accept", job.clone());
+    (job.u, job.v) = case.pair();
     row("share", job.clone());
     row("count", case.job(Call::Count));
     job.call = Call::Split;
@@ -372,14 +336,9 @@ fn table(r: &mut Random, given: &[Case], cases: &[Case]) -> Result<(), String> {
     for row in 0..columns[0].len() {
         let mut line = format!("| {} |", columns[0][row].0);
         for column in &columns {
-            let cell = match measure(&column[row].1)? {
-                (Some(library), plain) => {
-                    let ratio = library as f64 / plain.max(1) as f64;
-                    format!(" {} / {} = {ratio:.1} |", thousands(library), thousands(plain))
-                }
-                (None, plain) => format!(" - / {} |", thousands(plain)),
-            };
-            line += &cell;
+            let (library, plain) = measure(&column[row].1)?;
+            let ratio = library as f64 / plain.max(1) as f64;
+            line += &format!(" {} / {} = {ratio:.1} |", thousands(library), thousands(plain));
         }
         println!("{line}");
     }

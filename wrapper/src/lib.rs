@@ -126,7 +126,6 @@ pub struct Peeled {
 type Values = [u64; 3];
 
 /// Turns a call's number into its answer or its refusal.
-#[allow(dead_code)]
 fn reply(number: u32, values: Values) -> Result<Values, Refusal> {
     Err(match number {
         0 => return Ok(values),
@@ -148,7 +147,6 @@ fn reply(number: u32, values: Values) -> Result<Values, Refusal> {
 }
 
 /// Loads a record into a matrix with k = 0; writes all words.
-#[cfg(feature = "load")]
 pub fn load(record: &[u32], words: &mut [u64]) -> Result<Loaded, Refusal> {
     let mut values: Values = [0; 3];
     // The pointers and lengths are those of live slices, and the written ones are borrowed alone; so in each call below.
@@ -166,7 +164,6 @@ pub fn load(record: &[u32], words: &mut [u64]) -> Result<Loaded, Refusal> {
 }
 
 /// Writes a matrix with k = 0 as a record; answers the number of words used, and leaves the others.
-#[cfg(feature = "write")]
 pub fn write(words: &[u64], n: usize, m: usize, k: usize, record: &mut [u32]) -> Result<usize, Refusal> {
     let mut values: Values = [0; 3];
     let number = unsafe {
@@ -186,7 +183,6 @@ pub fn write(words: &[u64], n: usize, m: usize, k: usize, record: &mut [u32]) ->
 }
 
 /// The number of checks that contain both bits.
-#[cfg(feature = "share")]
 pub fn share(words: &[u64], n: usize, m: usize, k: usize, u: usize, v: usize) -> Result<u64, Refusal> {
     let mut values: Values = [0; 3];
     let number =
@@ -195,7 +191,6 @@ pub fn share(words: &[u64], n: usize, m: usize, k: usize, u: usize, v: usize) ->
 }
 
 /// The number of four-cycles.
-#[cfg(feature = "count")]
 pub fn count(words: &[u64], n: usize, m: usize, k: usize) -> Result<u64, Refusal> {
     let mut values: Values = [0; 3];
     let number = unsafe { ffi::parity_count(words.as_ptr(), words.len(), n, m, k, values.as_mut_ptr(), values.len()) };
@@ -203,7 +198,6 @@ pub fn count(words: &[u64], n: usize, m: usize, k: usize) -> Result<u64, Refusal
 }
 
 /// Splits a pair of bits with share two or more.
-#[cfg(feature = "split")]
 pub fn split(words: &mut [u64], n: usize, m: usize, k: usize, u: usize, v: usize) -> Result<Split, Refusal> {
     let mut values: Values = [0; 3];
     let number =
@@ -212,7 +206,6 @@ pub fn split(words: &mut [u64], n: usize, m: usize, k: usize, u: usize, v: usize
 }
 
 /// Splits until no pair has share two or more, or is refused with [`Refusal::FullAfter`].
-#[cfg(feature = "orthogonalise")]
 pub fn orthogonalise(words: &mut [u64], n: usize, m: usize, k: usize) -> Result<Orthogonalised, Refusal> {
     let mut values: Values = [0; 3];
     let number = unsafe {
@@ -228,7 +221,6 @@ pub fn orthogonalise(words: &mut [u64], n: usize, m: usize, k: usize) -> Result<
 }
 
 /// Whether the word of n+k bytes is a codeword.
-#[cfg(feature = "verify")]
 pub fn verify(words: &[u64], n: usize, m: usize, k: usize, word: &[u8]) -> Result<bool, Refusal> {
     let mut values: Values = [0; 3];
     let number = unsafe {
@@ -248,7 +240,6 @@ pub fn verify(words: &[u64], n: usize, m: usize, k: usize, word: &[u8]) -> Resul
 }
 
 /// Writes the n sent bits and then the k added ones into the word of n+k bytes.
-#[cfg(feature = "extend")]
 pub fn extend(words: &[u64], n: usize, m: usize, k: usize, sent: &[u8], word: &mut [u8]) -> Result<(), Refusal> {
     let mut values: Values = [0; 3];
     let number = unsafe {
@@ -270,7 +261,6 @@ pub fn extend(words: &[u64], n: usize, m: usize, k: usize, sent: &[u8], word: &m
 }
 
 /// Whether no check contains exactly one bit of the set, given as n+k bytes.
-#[cfg(feature = "is_stopping")]
 pub fn is_stopping(words: &[u64], n: usize, m: usize, k: usize, set: &[u8]) -> Result<bool, Refusal> {
     let mut values: Values = [0; 3];
     let number = unsafe {
@@ -290,7 +280,6 @@ pub fn is_stopping(words: &[u64], n: usize, m: usize, k: usize, set: &[u8]) -> R
 }
 
 /// Recovers the erased bits (2) of the word of n+k bytes, as far as checks with one erased bit reach.
-#[cfg(feature = "peel")]
 pub fn peel(words: &[u64], n: usize, m: usize, k: usize, word: &mut [u8]) -> Result<Peeled, Refusal> {
     let mut values: Values = [0; 3];
     let number = unsafe {
@@ -310,7 +299,6 @@ pub fn peel(words: &[u64], n: usize, m: usize, k: usize, word: &mut [u8]) -> Res
 }
 
 /// The number of parity bits of a matrix with k = 0.
-#[cfg(feature = "rank")]
 pub fn rank(words: &[u64], n: usize, m: usize, k: usize) -> Result<usize, Refusal> {
     let mut values: Values = [0; 3];
     let number = unsafe { ffi::parity_rank(words.as_ptr(), words.len(), n, m, k, values.as_mut_ptr(), values.len()) };
@@ -318,7 +306,6 @@ pub fn rank(words: &[u64], n: usize, m: usize, k: usize) -> Result<usize, Refusa
 }
 
 /// Writes the codeword of n bytes that holds the message of n - rank bytes.
-#[cfg(feature = "encode")]
 pub fn encode(words: &[u64], n: usize, m: usize, k: usize, message: &[u8], word: &mut [u8]) -> Result<(), Refusal> {
     let mut values: Values = [0; 3];
     let number = unsafe {

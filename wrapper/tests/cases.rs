@@ -1,5 +1,4 @@
 //! Cases A to K of document 01, through the wrapper.
-#![cfg(feature = "all")]
 
 use parity::{Loaded, Orthogonalised, Peeled, Refusal, Split, WORDS};
 

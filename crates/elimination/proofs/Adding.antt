@@ -3,7 +3,7 @@ use mathlib.Core.Path.{_≡_, refl, sym, ap, _∙_, fun-ext}
 use mathlib.Core.Bool.{Bool, xor}
 use mathlib.Core.List.{List}
 use Prim.Native.Nat.{ℕ, zero, suc, _+_, _*_, _/_, _%_, _≤_, _<_}
-use native.Mathlib.Nat.{zero-mul, one-mul, suc-mul, mul-le-mul-right, div-lt-iff-lt-mul}
+use native.Mathlib.Nat.{zero-mul, one-mul, div-lt-iff-lt-mul}
 use native.Mathlib.Omega.{arith}
 use native.Mathlib.Decide.{ℕ-discrete, decLt}
 use lib.Dec.{eqb}
@@ -17,10 +17,6 @@ use Rattle.parity.proofs.Lent.{lent-in, lent-out}
 use Rattle.parity.proofs.Sets.{bit-xor}
 use Rattle.elimination.specs.Reduction.{plus, when}
 use Rattle.elimination.specs.Rows.{Blank}
-
--- a check before another has room for its words
-pub row-room : (W c e : ℕ) → c < e → c * W + W ≤ e * W
-row-room W c e k = omega (arith, suc-mul c W, mul-le-mul-right W k)
 
 -- words of different checks stand at different places
 pub apart : (W c d a b : ℕ) → a < W → b < W → (c ≡ d → ⊥) → c * W + a ≡ d * W + b → ⊥

@@ -1,19 +1,11 @@
 // Rows of `width` words of 64 bits, one for each check.
+use matrix::rows::contains;
 ghost use mathlib.Core.Path.{_≡_};
 ghost use Prim.Native.Nat.{_+_, _*_, _/_, _<_, _≤_};
 ghost use lib.ListN.{length};
 ghost use Rattle.parity.specs.Matrix.{lent};
-ghost use Rattle.parity.specs.Words.{inside, odd};
 ghost use Rattle.elimination.specs.Reduction.{plus, when, cleared, FirstIn};
 ghost use Rattle.elimination.specs.Rows.{Blank, RowOf, SameRows};
-
-// Whether check `c` contains bit `b`.
-pub fn contains(rows: &[u64], width: usize, c: usize, b: usize) -> bool
-    requires { ⌜ (c * width + width ≤ length (now rows)) × (b < width * 64) ⌝ }
-    ensures { λ r. ⌜ r ≡ lent width (now (rows .entry)) c b ⌝ }
-{
-    (rows[c * width + b / 64] >> (b % 64)) % 2 == 1
-}
 
 // Check `p` is added to check `c`, modulo 2.
 pub fn add_check(rows: &mut [u64], width: usize, p: usize, c: usize)
@@ -72,18 +64,6 @@ pub fn first_with(rows: &[u64], width: usize, checks: usize, first: usize, b: us
         c += 1;
     }
     c
-}
-
-// Whether check `c` contains an odd number of the set's bits.
-pub fn is_odd(rows: &[u64], width: usize, c: usize, set: &[u64]) -> bool
-    requires { ⌜ (c * width + width ≤ length (now rows)) × (width ≤ length (now set)) ⌝ }
-    ensures { λ r. ⌜ r ≡ odd (inside (lent width (now (rows .entry))) (width * 64) c (lent width (now (set .entry)) 0)) ⌝ }
-{
-    let mut acc: u64 = 0;
-    for i in 0..width {
-        acc = acc ^ (rows[c * width + i] & set[i]);
-    }
-    u64::count_ones(acc) % 2 == 1
 }
 
 // The first `width` words of check `c` of a lent matrix become check `c` of the rows.

@@ -72,10 +72,10 @@ module _ (cols : List ℕ) (x y z c : ℕ) (cl : c < 512) where
     }
 
 -- the columns of the first M checks say it of the words
-module _ (ws cols : List ℕ) (M c x y z : ℕ) (C : Columns ws M cols) (few : M ≤ 512) (xl : x < 512) (yl : y < 512) (zl : z < 512) where
+module _ (ws cols : List ℕ) (M c x y z : ℕ) (C : Columns M (lent 8 ws) (lent 8 cols)) (few : M ≤ 512) where
   in-columns : (d : ℕ) → d < M → two (λ d b. lent 8 cols b d) x y z d ≡ two (lent 8 ws) x y z d
   in-columns d l =
-      rw (C .at x d xl (omega arith), C .at y d yl (omega arith), C .at z d zl (omega arith), lt-ltb d M l)
+      rw (C .at x d, C .at y d, C .at z d, lt-ltb d M l)
 
   pub only-columns : OnlyIn (λ d b. lent 8 cols b d) 512 c x y z → OnlyIn (lent 8 ws) M c x y z
   only-columns O = record { only = λ d l n. sym (in-columns d l) ∙ O .only d (omega arith) n }
@@ -84,6 +84,6 @@ module _ (ws cols : List ℕ) (M c x y z : ℕ) (C : Columns ws M cols) (few : M
   columns-only O = record {
     only = λ d l n. elim (decLt d M) [
       | yes k ↦ in-columns d k ∙ O .only d k n
-      | no k ↦ rw (C .at x d xl l, C .at y d yl l, C .at z d zl l, le-ltb d M (omega arith))
+      | no k ↦ rw (C .at x d, C .at y d, C .at z d, le-ltb d M (omega arith))
     ];
   }

@@ -3,3 +3,4 @@ pub mod Fill
 pub mod Zeros
 pub mod Three
 pub mod Alone
+pub mod Touch

@@ -61,7 +61,7 @@ module _ (h : Matrix) (n m k j : ℕ) (jk : j < k) (end : (b : ℕ) → n + k �
       second-count : count b (h (m + j)) ≡ 1
       second-count = count-end (a + 1) b (h (m + j)) (B .least) (λ c l k. B .none c l k) ∙ first-one
 
-      pub second-below : b < 512
+      second-below : b < 512
       second-below =
           elim (decLt b 512) [
             | yes l ↦ l

@@ -3,6 +3,7 @@ pub mod bits;
 pub mod columns;
 pub mod ones;
 mod outside;
+pub mod rows;
 mod rule;
 
 use crate::outside::is_clean;

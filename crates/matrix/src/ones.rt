@@ -1,4 +1,5 @@
 // The ones of a check: how many there are, and the next one.
+use crate::rows;
 use parity::Check;
 ghost use mathlib.Core.Path.{_≡_};
 ghost use Prim.Native.Nat.{_*_, _≤_, _<_};
@@ -19,12 +20,7 @@ pub fn weight(words: &[u64], c: Check) -> usize
     requires { ⌜ (length (now words) ≡ 4096) × (c .0 < 512) ⌝ }
     ensures { λ r. ⌜ r ≡ count 512 (lent 8 (now (words .entry)) (c .0)) ⌝ }
 {
-    let row = c.0;
-    let mut n: usize = 0;
-    for i in 0..8 {
-        n += wide(u64::count_ones(words[row * 8 + i]));
-    }
-    n
+    rows::weight(words, 8, c.0)
 }
 
 // The first bit of check `row` from word `from` on, and 512 if there is none.

@@ -47,7 +47,7 @@ fn alone(cols: &[u64], x: usize, y: usize, z: usize, c: usize) -> bool
 // Whether rule A holds for added check `m + j`: it has three ones, the highest of them its own bit, and no other check contains two of them.
 fn rule_at(words: &[u64], cols: &[u64], n: usize, m: usize, k: usize, j: usize) -> bool
     requires { ⌜ (length (now words) ≡ 4096) × (length (now cols) ≡ 4096) × (n + k ≤ 512) × (m + k ≤ 512) × (j < k) ⌝ }
-    requires { ⌜ (clean 8 (n + k) (m + k) 0 (now words) ≡ true) × Columns (now words) (m + k) (now cols) ⌝ }
+    requires { ⌜ (clean 8 (n + k) (m + k) 0 (now words) ≡ true) × Columns (m + k) (lent 8 (now words)) (lent 8 (now cols)) ⌝ }
     ensures { λ r. ⌜ r ≡ ruleAt (lent 8 (now (words .entry))) n m k j ⌝ }
 {
     let c = m + j;
@@ -69,7 +69,7 @@ fn rule_at(words: &[u64], cols: &[u64], n: usize, m: usize, k: usize, j: usize) 
 // Whether rule A holds for every added check.
 fn all_rules(words: &[u64], cols: &[u64], n: usize, m: usize, k: usize) -> bool
     requires { ⌜ (length (now words) ≡ 4096) × (length (now cols) ≡ 4096) × (n + k ≤ 512) × (m + k ≤ 512) ⌝ }
-    requires { ⌜ (clean 8 (n + k) (m + k) 0 (now words) ≡ true) × Columns (now words) (m + k) (now cols) ⌝ }
+    requires { ⌜ (clean 8 (n + k) (m + k) 0 (now words) ≡ true) × Columns (m + k) (lent 8 (now words)) (lent 8 (now cols)) ⌝ }
     ensures { λ r. ⌜ r ≡ ruleA (lent 8 (now (words .entry))) n m k ⌝ }
 {
     for j in 0..k {

@@ -24,14 +24,14 @@ module _ (h : Matrix) where
   unfolding inside count
   inside-zero n c s f = sum-zero n (λ b k. elim (is (h c b)) [ is-true q ↦ rw (q, f b k q) | is-false q ↦ rw q ])
 
--- The columns of the set s, of bits below b, sum to the column of bit b.
-abbrev pub ColumnSum : Matrix → ℕ → ℕ → (ℕ → Bool) → Type 0
-ColumnSum h m b s = (c : ℕ) → c < m → inside h b c s % 2 ≡ one (h c b)
+-- The columns of the set s, of bits below b, sum to t.
+abbrev pub Sums : Matrix → ℕ → ℕ → (ℕ → Bool) → (ℕ → Bool) → Type 0
+Sums h m b s t = (c : ℕ) → c < m → inside h b c s % 2 ≡ one (t c)
 
-pub depends-at : (h : Matrix) (m b : ℕ) → dependent h m b ≡ true → (s : ℕ → Bool) × ColumnSum h m b s
+pub depends-at : (h : Matrix) (m b : ℕ) → dependent h m b ≡ true → (s : ℕ → Bool) × Sums h m b s (λ c. h c b)
 unfolding dependent
 depends-at h m b e = let (s, t) = anySet-at b _ e in (s, λ c k. eqb-true _ _ (all-at m _ t c k))
 
-pub depends-of : (h : Matrix) (m b : ℕ) (s : ℕ → Bool) → ColumnSum h m b s → dependent h m b ≡ true
+pub depends-of : (h : Matrix) (m b : ℕ) (s : ℕ → Bool) → Sums h m b s (λ c. h c b) → dependent h m b ≡ true
 unfolding dependent
 depends-of h m b s t = anySet-of b _ s (all-of m _ (λ c k. eq-eqb _ _ (ap (_% 2) (inside-cong h b c (below-at b s)) ∙ t c k)))

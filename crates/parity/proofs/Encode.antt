@@ -1,4 +1,4 @@
--- Every message has exactly one evenChecks. Assumes nothing.
+-- Every message has exactly one codeword. Assumes nothing.
 use mathlib.Core.Path.{_≡_, refl, sym, ap, _∙_}
 use mathlib.Core.Logic.{_↔_}
 use mathlib.Core.Bool.{Bool, true, false, not, cond, _&&_, xor, and-true, and-false, and-eq-true-iff, false≢true}
@@ -15,12 +15,9 @@ use Rattle.parity.specs.Encoding.{dependent, rankOf, holds, encoded}
 use Rattle.parity.proofs.Sums.{is-true, is-false, is, one≤1, all-at, all-of, count-suc, count-end, count-not, sum-zero}
 use Rattle.parity.proofs.Split.{Even, evens}
 use Rattle.parity.proofs.Extend.{inside-cong}
+use Rattle.parity.proofs.Dependent.{Sums, inside-suc, inside-end, depends-at, depends-of}
 use Rattle.parity.proofs.Residue.{below, below-at, anySet-of, anySet-at, the-one, inside-xor}
 use Rattle.parity.proofs.Bools.{differ, xor-self, beq-same, beq-refl, or-else}
-
--- the columns of the set s, of bits below j, sum to t
-abbrev Sums : Matrix → ℕ → ℕ → (ℕ → Bool) → (ℕ → Bool) → Type 0
-Sums h m j s t = (c : ℕ) → c < m → inside h j c s % 2 ≡ one (t c)
 
 parity-1 : (B S P : ℕ) → S ≡ B + 2 * P → B % 2 ≡ S % 2
 parity-1 B S P e = omega arith
@@ -50,25 +47,9 @@ either true false false e = absurd (false≢true e)
 either false s a e = refl
 
 module _ (h : Matrix) (m : ℕ) where
-  depends-at : (j : ℕ) → dependent h m j ≡ true → (s : ℕ → Bool) × Sums h m j s (λ c. h c j)
-  unfolding dependent
-  depends-at j e = let (s, t) = anySet-at j _ e in (s, λ c k. eqb-true _ _ (all-at m _ t c k))
-
-  depends-of : (j : ℕ) (s : ℕ → Bool) → Sums h m j s (λ c. h c j) → dependent h m j ≡ true
-  unfolding dependent
-  depends-of j s t = anySet-of j _ s (all-of m _ (λ c k. eq-eqb _ _ (ap (_% 2) (inside-cong h j c (below-at j s)) ∙ t c k)))
-
-  inside-suc : (j c : ℕ) (s : ℕ → Bool) → inside h (suc j) c s ≡ inside h j c s + one (h c j && s j)
-  unfolding inside
-  inside-suc j c s = count-suc j (λ b. h c b && s b)
-
-  inside-end : (a n c : ℕ) (d : ℕ → Bool) → a ≤ n → ((j : ℕ) → a ≤ j → j < n → d j ≡ false) → inside h n c d ≡ inside h a c d
-  unfolding inside
-  inside-end a n c d q r = count-end a n (λ i. h c i && d i) q (λ j l u. rw (r j l u, and-false))
-
   -- the sum without bit j, and with it
   without : (j : ℕ) (t s : ℕ → Bool) → Sums h m (suc j) s t → Sums h m j s (λ c. xor (t c) (h c j && s j))
-  without j t s e c k = rw (one-xor (t c) (h c j && s j)) (omega (arith, e c k, inside-suc j c s))
+  without j t s e c k = rw (one-xor (t c) (h c j && s j)) (omega (arith, e c k, inside-suc h j c s))
 
   with : ℕ → Bool → (ℕ → Bool) → ℕ → Bool
   with j a x b = cond (eqb b j) a (x b)
@@ -83,7 +64,7 @@ module _ (h : Matrix) (m : ℕ) where
 
   back : (j : ℕ) (a : Bool) (t x : ℕ → Bool) → Sums h m j x (λ c. xor (t c) (h c j && a)) → Sums h m (suc j) (with j a x) t
   back j a t x e c k =
-      rw (inside-suc j c (with j a x), with-at j a x, inside-cong h j c {w = with j a x} {x = x} (λ b l. with-other j a x b (λ q. omega arith)))
+      rw (inside-suc h j c (with j a x), with-at j a x, inside-cong h j c {w = with j a x} {x = x} (λ b l. with-other j a x b (λ q. omega arith)))
       (omega (arith, rw (one-xor (t c) (h c j && a)) at (e c k), one≤1 (t c)))
 
   -- where bit j is dependent, it may have either value
@@ -92,11 +73,11 @@ module _ (h : Matrix) (m : ℕ) where
       elim (is (xor (s j) a)) [
         | is-false q ↦ (s, rw (← differ (s j) a q) (without j t s e))
         | is-true q ↦
-            let (y, f) = depends-at j d in (
+            let (y, f) = depends-at h m j d in (
               λ b. xor (s b) (y b),
               λ c k. rw (one-xor (t c) (h c j && a))
                   (parity (inside h j c s) (inside h j c y) _ _ (one (h c j && s j)) (one (h c j && a)) (one (h c j)) (one (t c))
-                  (sym (ap (_% 2) (inside-suc j c s)) ∙ e c k) (f c k) (inside-xor h j c s y) (either (h c j) (s j) a q)),
+                  (sym (ap (_% 2) (inside-suc h j c s)) ∙ e c k) (f c k) (inside-xor h j c s y) (either (h c j) (s j) a q)),
             )
       ]
 
@@ -122,14 +103,14 @@ module _ (h : Matrix) (m : ℕ) where
             )
       ]
 
-  -- a evenChecks with given values at the dependent bits
+  -- a codeword with given values at the dependent bits
   pub exists : (n : ℕ) (p : ℕ → Bool) → (x : ℕ → Bool) × Even h n m x × ((b : ℕ) → b < n → dependent h m b ≡ true → x b ≡ p b)
   exists n p = free p n (λ c. false) (λ b. false) (λ c k. rw (inside-none n c))
     where
       inside-none : (n c : ℕ) → inside h n c (λ b. false) ≡ 0
       inside-none n c = unfold inside count in sum-zero n (λ b k. rw (and-false (h c b)))
 
-  -- two evenCheckss that agree at the dependent bits agree
+  -- two codewords that agree at the dependent bits agree
   pub only-one : (n : ℕ) (x y : ℕ → Bool) → Even h n m x → Even h n m y → ((b : ℕ) → b < n → dependent h m b ≡ true → x b ≡ y b)
       → (b : ℕ) → b < n → x b ≡ y b
   only-one n x y e f g b k = differ (x b) (y b) (go n (omega arith) b (omega arith) k)
@@ -142,7 +123,7 @@ module _ (h : Matrix) (m : ℕ) where
 
       last : (c b : ℕ) → d b ≡ true → b < n → ((j : ℕ) → b < j → j < n → d j ≡ false) → inside h n c d ≡ inside h b c d + one (h c b)
       last c b z q r =
-          inside-end (suc b) n c d q r ∙ inside-suc b c d ∙ (rw (z, and-true))
+          inside-end h (suc b) n c d q r ∙ inside-suc h b c d ∙ (rw (z, and-true))
 
       go : (i : ℕ) → i ≤ n → (b : ℕ) → n - i ≤ b → b < n → d b ≡ false
       go zero l b p q = absurd (omega arith)
@@ -151,7 +132,7 @@ module _ (h : Matrix) (m : ℕ) where
             | no r ↦ go i (omega arith) b (omega arith) q
             | yes r ↦ elim (is (d b)) [
               | is-false z ↦ z
-              | is-true z ↦ xor-self (x b) (y b) (g b q (depends-of b d (λ c k. omega (arith, even c k, last c b z q (λ j v u. go i (omega arith) j (omega arith) u), one≤1 (h c b)))))
+              | is-true z ↦ xor-self (x b) (y b) (g b q (depends-of h m b d (λ c k. omega (arith, even c k, last c b z q (λ j v u. go i (omega arith) j (omega arith) u), one≤1 (h c b)))))
             ]
           ]
 
@@ -167,7 +148,7 @@ module _ (h : Matrix) (n m : ℕ) (message : ℕ → Bool) where
         [ is-false d ↦ rw d | is-true d ↦ rw (d, f b k d) (beq-refl (message (count b (dependent h m)))) ]),
   )
 
-  -- Encoding writes the one evenChecks whose other bits hold the message.
+  -- Encoding writes the one codeword whose other bits hold the message.
   pub encodes : Even h n m (encoded h n m message) × Holds (encoded h n m message)
       × ((y : ℕ → Bool) → Even h n m y → Holds y → (b : ℕ) → b < n → y b ≡ encoded h n m message b)
   encodes =

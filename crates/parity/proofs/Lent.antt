@@ -3,7 +3,7 @@ use mathlib.Core.Path.{_≡_, refl, sym, ap, _∙_, fun-ext}
 use mathlib.Core.Bool.{Bool, true, false, cond, not, _&&_, _||_, and-false}
 use mathlib.Core.List.{List}
 use Prim.Native.Nat.{ℕ, zero, suc, _+_, _*_, _-_, _/_, _%_, _^_, _≤_, _<_}
-use native.Mathlib.Nat.{add-suc, add-zero, zero-add, suc-mul, zero-mul, div-lt-iff-lt-mul}
+use native.Mathlib.Nat.{add-suc, add-zero, zero-add, suc-mul, zero-mul, mul-le-mul-right, div-lt-iff-lt-mul}
 use native.Mathlib.Numerals.{add-one}
 use native.Mathlib.Decide.{ℕ-discrete, decLt}
 use native.Mathlib.Omega.{arith}
@@ -19,6 +19,10 @@ use Rattle.parity.specs.Finite.{one, sum, count}
 use Rattle.parity.specs.Matrix.{Matrix, bitOf, lent, put}
 use Rattle.parity.proofs.Sums.{count-cong, sum-cong}
 use Rattle.parity.proofs.Digits.{bit-set, bit-clear, bit-zero, low-bit, higher}
+
+-- a check before another has room for its words
+pub row-room : (W c e : ℕ) → c < e → c * W + W ≤ e * W
+row-room W c e k = omega (arith, suc-mul c W, mul-le-mul-right W k)
 
 -- a matrix with one bit put
 pub put-here : (i j : ℕ) (x : Bool) (h : Matrix) → put i j x h i j ≡ x

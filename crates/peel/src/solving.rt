@@ -1,8 +1,8 @@
 // Solving checks with exactly one erased bit, on the sets of the erased bits and of the ones.
 use crate::scan::Single;
 use crate::scan::next_single;
-use matrix::bits::lower;
-use matrix::bits::raise;
+use matrix::rows::lower;
+use matrix::rows::raise;
 use parity::Bit;
 use parity::Check;
 use word::sets::is_odd;
@@ -19,9 +19,9 @@ fn solve(words: &[u64], c: Check, b: Bit, erased: &mut [u64], ones: &mut [u64])
 {
     let odd = is_odd(words, c, ones);
     let at = b.0;
-    lower(erased, 0, at);
+    lower(erased, 8, 0, at);
     if odd {
-        raise(ones, 0, at);
+        raise(ones, 8, 0, at);
     }
 }
 

@@ -1,4 +1,4 @@
--- Columns of two words: filled check by check, counted by their words, and parted at a split. Assumes nothing.
+-- Columns of two words: counted by their words, and parted at a split. Assumes nothing.
 use mathlib.Core.Path.{_≡_, refl, sym, _∙_}
 use mathlib.Core.Bool.{Bool, true, false, not, cond, _&&_, _||_, and-true, and-false, or-true}
 use mathlib.Core.List.{List}
@@ -19,8 +19,8 @@ use Rattle.parity.specs.Cycles.{splitOf}
 use Rattle.parity.proofs.Digits.{bit-and, bit-not}
 use Rattle.parity.proofs.Lent.{lent-in, lent-out, lent-empty}
 use Rattle.parity.proofs.Common.{common-words}
-use Rattle.matrix.proofs.Fill.{Filled}
-use Rattle.split.specs.Given.{Columns, together, parted, PartedWord, Parted}
+use Rattle.matrix.specs.Rows.{Columns}
+use Rattle.split.specs.Given.{together, parted, PartedWord, Parted}
 
 -- The word of place p of row r becomes w.
 pub lent-set : (W : ℕ) (ws : List ℕ) (r p w : ℕ) → r * W + p < length ws → p < W → (x b : ℕ)
@@ -44,13 +44,6 @@ lent-set W ws r p w room k x b =
                 rw (getD-set-other ws (r * W + p) (x * W + b / 64) w 0 d, ne-eqb x r n)
           ])
     ]
-
--- columns with no check
-pub filled-none : (h : Matrix) (r : List ℕ) → r ≡ replicate 1024 0 → Filled h (lent 2 r) 0
-filled-none h r z = record { at = λ b e. lent-empty 2 1024 r z b e ∙ rw (le-ltb e 0 (omega arith)) }
-
-pub filled-columns : (h g : Matrix) (m : ℕ) → Filled h g m → Columns m h g
-filled-columns h g m F = record { at = F .at }
 
 -- the share of two columns by their two words
 pub together-ones : (ws : List ℕ) → ((i : ℕ) → getD ws i 0 < 2 ^ 64) → (x y : ℕ)

@@ -23,7 +23,8 @@ use Rattle.parity.proofs.Pick.{Chosen, picked, chosen-only}
 use Rattle.parity.proofs.Given.{apart, given, given-too}
 use Rattle.parity.proofs.Orthogonal.{finishes, stops-full, repeats}
 use Rattle.split.specs.Merge.{Apart, Both}
-use Rattle.split.specs.Given.{Columns, together, parted, Parted}
+use Rattle.matrix.specs.Rows.{Columns}
+use Rattle.split.specs.Given.{together, parted, Parted}
 use Rattle.split.specs.Bounds.{Bounded, Head, Picked, Raised, Weights}
 use Rattle.split.specs.Turns.{SplitTo, Ended}
 use Rattle.split.proofs.RowBounds.{together-few, bounded-split, raised-head, weights-bound}

@@ -2,13 +2,9 @@
 use mathlib.Core.Path.{_≡_}
 use mathlib.Core.Bool.{not, cond, _&&_, _||_}
 use Prim.Native.Nat.{ℕ, _/_}
-use lib.Dec.{eqb, ltb}
+use lib.Dec.{eqb}
 use Rattle.parity.specs.Finite.{count}
 use Rattle.parity.specs.Matrix.{Matrix}
-
--- g has the columns of the first m checks of h: bit, then check
-pub record Columns (m : ℕ) (h g : Matrix) : Type 0 where
-  pub at : (x c : ℕ) → g x c ≡ (ltb c m && h c x)
 
 -- how many of their 128 places two columns have in common
 unfoldable pub together : Matrix → ℕ → ℕ → ℕ

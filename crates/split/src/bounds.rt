@@ -1,5 +1,6 @@
 // The pair to split, found by row bounds: for each bit, a bound on its shares of two or more with the bits above it.
 use crate::given::shared;
+use crate::given::shared_at_most;
 use parity::Bit;
 ghost use mathlib.Core.Path.{_≡_};
 ghost use Prim.Native.Nat.{_≤_, _<_};
@@ -92,7 +93,7 @@ fn scan(cols: &[u64], bits: usize, u: usize, s: u64) -> Seen
     let mut at = u + 1;
     let mut most: u64 = 0;
     while at < bits {
-        let t = shared(cols, u, at);
+        let t = shared_at_most(cols, u, at, s);
         if t == s {
             return Seen { at, most };
         }

@@ -1,44 +1,12 @@
 // The columns of the given checks: two words for a bit, whose bit `c` says whether check `c` contains it.
-use matrix::ones::wide;
+use matrix::columns::fill;
+use matrix::rows::touches;
 ghost use mathlib.Core.Path.{_≡_};
-ghost use mathlib.Core.Bool.{true};
-ghost use Prim.Native.Nat.{_+_, _*_, _/_, _≤_, _<_};
+ghost use Prim.Native.Nat.{_≤_, _<_};
 ghost use lib.ListN.{length, replicate};
-ghost use Rattle.parity.specs.Matrix.{lent, put};
-ghost use Rattle.matrix.specs.Rows.{WordIn, CheckIn};
-ghost use Rattle.split.specs.Given.{Columns, together, PartedWord, Parted};
-
-// Check `c` is put into the column of bit `x`.
-fn raise(cols: &mut [u64], x: usize, c: usize)
-    requires { ⌜ (length (now cols) ≡ 1024) × (x < 512) × (c < 128) ⌝ }
-    ensures { λ r. ⌜ lent 2 (now (cols .exit)) ≡ put x c true (lent 2 (now (cols .entry))) ⌝ }
-{
-    let i = x * 2 + c / 64;
-    cols[i] = cols[i] | (1 << (c % 64));
-}
-
-// Check `c` is put into the column of each bit that is a one of `w`, word `i` of the check.
-fn fill_word(cols: &mut [u64], c: usize, i: usize, w: u64)
-    requires { ⌜ (length (now cols) ≡ 1024) × (c < 128) × (i < 8) ⌝ }
-    ensures { λ r. ⌜ WordIn (lent 2 (now (cols .entry))) (lent 2 (now (cols .exit))) c i w ⌝ }
-{
-    let mut rest = w;
-    while rest != 0 {
-        let t = wide(u64::trailing_zeros(rest));
-        raise(cols, i * 64 + t, c);
-        rest = rest & !(1 << t);
-    }
-}
-
-// Check `c` is put into the column of each bit that it contains.
-fn fill_check(words: &[u64], cols: &mut [u64], c: usize)
-    requires { ⌜ (length (now words) ≡ 4096) × (length (now cols) ≡ 1024) × (c < 128) ⌝ }
-    ensures { λ r. ⌜ CheckIn (lent 8 (now (words .entry))) (lent 2 (now (cols .entry))) (lent 2 (now (cols .exit))) c 8 ⌝ }
-{
-    for i in 0..8 {
-        fill_word(cols, c, i, words[c * 8 + i]);
-    }
-}
+ghost use Rattle.parity.specs.Matrix.{lent};
+ghost use Rattle.matrix.specs.Rows.{Columns};
+ghost use Rattle.split.specs.Given.{together, PartedWord, Parted};
 
 // Empty columns.
 fn no_columns() -> [u64; 1024]
@@ -53,9 +21,7 @@ pub fn columns(words: &[u64], m: usize) -> [u64; 1024]
     ensures { λ r. ⌜ Columns m (lent 8 (now (words .entry))) (lent 2 r) ⌝ }
 {
     let mut cols = no_columns();
-    for c in 0..m {
-        fill_check(words, &mut cols, c);
-    }
+    fill(words, &mut cols, 2, m);
     cols
 }
 
@@ -74,6 +40,20 @@ pub fn shared(cols: &[u64], x: usize, y: usize) -> u64
     let a = long(u64::count_ones(cols[x * 2] & cols[y * 2]));
     let b = long(u64::count_ones(cols[x * 2 + 1] & cols[y * 2 + 1]));
     a + b
+}
+
+// The same, where the share is at most `most`. Where that is small, most pairs have none in common, and for these nothing is counted.
+pub fn shared_at_most(cols: &[u64], x: usize, y: usize, most: u64) -> u64
+    requires { ⌜ (length (now cols) ≡ 1024) × (x < 512) × (y < 512) ⌝ }
+    ensures { λ r. ⌜ r ≡ together (lent 2 (now (cols .entry))) x y ⌝ }
+{
+    if 4 <= most {
+        return shared(cols, x, y);
+    }
+    if touches(cols, x, cols, y, 2) {
+        return shared(cols, x, y);
+    }
+    0
 }
 
 // What the columns of `u` and `v` have in common in word `i` is taken out of both, and is put into the column of `z`.

@@ -16,7 +16,7 @@ ghost use Rattle.parity.specs.Matrix.{lent};
 ghost use Rattle.parity.proofs.Clean.{Clean};
 ghost use Rattle.parity.proofs.Sound.{Sound};
 ghost use Rattle.split.specs.Answers.{orthogonalisingReply};
-ghost use Rattle.split.specs.Given.{Columns};
+ghost use Rattle.matrix.specs.Rows.{Columns};
 ghost use Rattle.split.specs.Merge.{Apart};
 ghost use Rattle.split.specs.Turns.{SplitTo, Ended};
 

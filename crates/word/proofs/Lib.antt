@@ -1,6 +1,5 @@
 pub mod Above
 pub mod Making
 pub mod Told
-pub mod Counting
 pub mod Lower
 pub mod Outcome

@@ -1,5 +1,5 @@
 // Sets of bits, as the eight words of a row of the matrix, and the bits of a check that are in one.
-use matrix::ones::wide;
+use matrix::rows;
 use parity::Check;
 ghost use mathlib.Core.Path.{_≡_};
 ghost use mathlib.Core.Bool.{not};
@@ -10,13 +10,6 @@ ghost use Rattle.parity.specs.Finite.{count};
 ghost use Rattle.parity.specs.Matrix.{lent};
 ghost use Rattle.parity.specs.Words.{inside, odd};
 ghost use Rattle.word.specs.Sets.{WordOf, SetOf};
-
-// A count of bits, as a total.
-fn long(x: u32) -> u64
-    ensures { λ r. ⌜ r ≡ x ⌝ }
-{
-    x as u64
-}
 
 // The lesser of two numbers.
 fn lesser(a: usize, b: usize) -> usize
@@ -61,7 +54,7 @@ pub fn is_in(set: &[u64], b: usize) -> bool
     requires { ⌜ (length (now set) ≡ 8) × (b < 512) ⌝ }
     ensures { λ r. ⌜ r ≡ lent 8 (now (set .entry)) 0 b ⌝ }
 {
-    (set[b / 64] >> (b % 64)) % 2 == 1
+    rows::contains(set, 8, 0, b)
 }
 
 // How many bits of the set check `c` contains.
@@ -69,12 +62,7 @@ pub fn common(words: &[u64], c: Check, set: &[u64]) -> usize
     requires { ⌜ (length (now words) ≡ 4096) × (c .0 < 512) × (length (now set) ≡ 8) ⌝ }
     ensures { λ r. ⌜ r ≡ inside (lent 8 (now (words .entry))) 512 (c .0) (lent 8 (now (set .entry)) 0) ⌝ }
 {
-    let row = c.0;
-    let mut n: usize = 0;
-    for i in 0..8 {
-        n += wide(u64::count_ones(words[row * 8 + i] & set[i]));
-    }
-    n
+    rows::common(words, c.0, set, 0, 8, 8)
 }
 
 // Whether check `c` contains an odd number of the set's bits.
@@ -82,12 +70,7 @@ pub fn is_odd(words: &[u64], c: Check, set: &[u64]) -> bool
     requires { ⌜ (length (now words) ≡ 4096) × (c .0 < 512) × (length (now set) ≡ 8) ⌝ }
     ensures { λ r. ⌜ r ≡ odd (inside (lent 8 (now (words .entry))) 512 (c .0) (lent 8 (now (set .entry)) 0)) ⌝ }
 {
-    let row = c.0;
-    let mut acc: u64 = 0;
-    for i in 0..8 {
-        acc = acc ^ (words[row * 8 + i] & set[i]);
-    }
-    u64::count_ones(acc) % 2 == 1
+    rows::is_odd(words, 8, c.0, set)
 }
 
 // Whether check `c` contains a bit of the set.
@@ -95,12 +78,7 @@ pub fn touches(words: &[u64], c: Check, set: &[u64]) -> bool
     requires { ⌜ (length (now words) ≡ 4096) × (c .0 < 512) × (length (now set) ≡ 8) ⌝ }
     ensures { λ r. ⌜ r ≡ not (eqb (inside (lent 8 (now (words .entry))) 512 (c .0) (lent 8 (now (set .entry)) 0)) 0) ⌝ }
 {
-    let row = c.0;
-    let mut acc: u64 = 0;
-    for i in 0..8 {
-        acc = acc | (words[row * 8 + i] & set[i]);
-    }
-    acc != 0
+    rows::touches(words, c.0, set, 0, 8)
 }
 
 // How many bits the set has.
@@ -108,9 +86,5 @@ pub fn size(set: &[u64]) -> u64
     requires { ⌜ length (now set) ≡ 8 ⌝ }
     ensures { λ r. ⌜ r ≡ count 512 (lent 8 (now (set .entry)) 0) ⌝ }
 {
-    let mut n: u64 = 0;
-    for i in 0..8 {
-        n += long(u64::count_ones(set[i]));
-    }
-    n
+    rows::weight(set, 8, 0) as u64
 }

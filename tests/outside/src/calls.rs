@@ -4,7 +4,6 @@ use crate::cases;
 use crate::compare::compare;
 use crate::elimination;
 use crate::generate;
-use crate::library;
 use crate::model::{self, Kind, Lent, Matrix, KINDS, WORDS};
 use crate::random::Random;
 
@@ -668,16 +667,12 @@ struct Tally {
     no: usize,
 }
 
-/// The kinds named, or all; prints a line for each that is built in, and gives the number of comparisons.
+/// The kinds named, or all; prints a line for each, and gives the number of comparisons.
 pub fn run(named: &[Kind]) -> Result<usize, String> {
     let mut total = 0;
     let mut pools = Pools::new(&mut Random::new(3));
     for (number, kind) in KINDS.into_iter().enumerate() {
         if !named.is_empty() && !named.contains(&kind) {
-            continue;
-        }
-        if !library::present(kind) {
-            println!("  {}: not built in, skipped", kind.name());
             continue;
         }
         let r = &mut Random::new(100 + number as u64);

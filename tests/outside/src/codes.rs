@@ -177,22 +177,16 @@ fn one_code(r: &mut Random, code: &Code, rounds: usize) -> Result<usize, String>
         return fail(code, matrix, &[], &format!("dimension {}: a fault of this program", basis.len()));
     }
     let mut done = 1;
-    #[cfg(feature = "rank")]
-    {
-        let rank = parity::rank(&words, n, m, 0);
-        if rank != Ok(n - basis.len()) {
-            return fail(code, matrix, &[], &format!("rank {rank:?}, dimension {}", basis.len()));
-        }
-        done += 1;
+    let rank = parity::rank(&words, n, m, 0);
+    if rank != Ok(n - basis.len()) {
+        return fail(code, matrix, &[], &format!("rank {rank:?}, dimension {}", basis.len()));
     }
-    #[cfg(feature = "count")]
-    {
-        let count = parity::count(&words, n, m, 0);
-        if count != Ok(matrix.cycles()) {
-            return fail(code, matrix, &[], &format!("count {count:?}, by the model {}", matrix.cycles()));
-        }
-        done += 1;
+    done += 1;
+    let count = parity::count(&words, n, m, 0);
+    if count != Ok(matrix.cycles()) {
+        return fail(code, matrix, &[], &format!("count {count:?}, by the model {}", matrix.cycles()));
     }
+    done += 1;
     let mut extended_words = words.clone();
     let k = match parity::orthogonalise(&mut extended_words, n, m, 0) {
         Ok(done) => done.k,
@@ -202,25 +196,19 @@ fn one_code(r: &mut Random, code: &Code, rounds: usize) -> Result<usize, String>
     let extended = Matrix::read(&extended_words, n, m, k);
     for round in 0..rounds {
         let sent = elimination::combine(&basis, n, || r.chance(500));
-        #[cfg(feature = "encode")]
-        {
-            let parity_bits = matrix.parity_bits();
-            let message: Vec<u8> = (0..n).filter(|&b| !parity_bits[b]).map(|b| sent[b]).collect();
-            let mut word = r.bytes(n);
-            let encoded = parity::encode(&words, n, m, 0, &message, &mut word);
-            if encoded != Ok(()) || word != sent {
-                return fail(code, matrix, &sent, &format!("encoding {message:?}: {encoded:?} {word:?}"));
-            }
-            done += 1;
+        let parity_bits = matrix.parity_bits();
+        let message: Vec<u8> = (0..n).filter(|&b| !parity_bits[b]).map(|b| sent[b]).collect();
+        let mut word = r.bytes(n);
+        let encoded = parity::encode(&words, n, m, 0, &message, &mut word);
+        if encoded != Ok(()) || word != sent {
+            return fail(code, matrix, &sent, &format!("encoding {message:?}: {encoded:?} {word:?}"));
         }
-        #[cfg(feature = "verify")]
-        {
-            let yes = parity::verify(&words, n, m, 0, &sent);
-            if yes != Ok(true) {
-                return fail(code, matrix, &sent, &format!("verifying: {yes:?}"));
-            }
-            done += 1;
+        done += 1;
+        let yes = parity::verify(&words, n, m, 0, &sent);
+        if yes != Ok(true) {
+            return fail(code, matrix, &sent, &format!("verifying: {yes:?}"));
         }
+        done += 1;
         let mut received = sent.clone();
         let part = r.pick(&[50, 100, 200, 300, 450, 600, 1000]);
         received.iter_mut().for_each(|byte| {

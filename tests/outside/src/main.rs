@@ -5,31 +5,17 @@
 
 #![allow(clippy::needless_range_loop)]
 
+mod calls;
 mod cases;
+mod codes;
+mod compare;
+mod demand3;
 mod elimination;
 mod generate;
-mod model;
-mod random;
-
-#[cfg_attr(not(feature = "all"), allow(dead_code))]
-mod calls;
-#[cfg_attr(not(feature = "all"), allow(dead_code))]
-mod compare;
-#[cfg_attr(not(feature = "all"), allow(dead_code, unused_imports))]
 mod library;
 mod mend;
-
-#[cfg(all(feature = "orthogonalise", feature = "peel"))]
-mod codes;
-#[cfg(all(
-    feature = "split",
-    feature = "orthogonalise",
-    feature = "count",
-    feature = "extend",
-    feature = "verify",
-    feature = "peel"
-))]
-mod demand3;
+mod model;
+mod random;
 
 use model::{Kind, KINDS};
 use std::process::ExitCode;
@@ -47,40 +33,6 @@ fn same(result: Result<usize, String>) -> Result<Outcome, String> {
     result.map(|number| Outcome::Same(number, String::new()))
 }
 
-#[cfg(all(
-    feature = "split",
-    feature = "orthogonalise",
-    feature = "count",
-    feature = "extend",
-    feature = "verify",
-    feature = "peel"
-))]
-fn demand3() -> Result<Outcome, String> {
-    same(demand3::run())
-}
-
-#[cfg(not(all(
-    feature = "split",
-    feature = "orthogonalise",
-    feature = "count",
-    feature = "extend",
-    feature = "verify",
-    feature = "peel"
-)))]
-fn demand3() -> Result<Outcome, String> {
-    Ok(Outcome::Skipped("needs the features split, orthogonalise, count, extend, verify and peel".to_string()))
-}
-
-#[cfg(all(feature = "orthogonalise", feature = "peel"))]
-fn codes() -> Result<Outcome, String> {
-    same(codes::run())
-}
-
-#[cfg(not(all(feature = "orthogonalise", feature = "peel")))]
-fn codes() -> Result<Outcome, String> {
-    Ok(Outcome::Skipped("needs the features orthogonalise and peel".to_string()))
-}
-
 fn mend() -> Result<Outcome, String> {
     match mend::program() {
         Some(path) => mend::run(&path).map(|(number, note)| Outcome::Same(number, note)),
@@ -94,12 +46,9 @@ fn mend() -> Result<Outcome, String> {
 fn run(part: &str, kinds: &[Kind]) -> Result<Outcome, String> {
     match part {
         "model" => same(cases::run()),
-        "calls" => match calls::run(kinds)? {
-            0 => Ok(Outcome::Skipped("no call is built in".to_string())),
-            number => Ok(Outcome::Same(number, String::new())),
-        },
-        "demand3" => demand3(),
-        "codes" => codes(),
+        "calls" => same(calls::run(kinds)),
+        "demand3" => same(demand3::run()),
+        "codes" => same(codes::run()),
         _ => mend(),
     }
 }

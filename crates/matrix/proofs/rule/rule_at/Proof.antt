@@ -8,7 +8,7 @@ use Rattle.parity.specs.Finite.{count}
 use Rattle.parity.specs.Matrix.{lent}
 use Rattle.parity.proofs.Bools.{same-test}
 use Rattle.parity.proofs.Clean.{clean-bits}
-use Rattle.matrix.proofs.Three.{not-three, not-own, first-below, second-below, not-lower, three-rule, rule-three}
+use Rattle.matrix.proofs.Three.{not-three, not-own, first-below, not-lower, three-rule, rule-three}
 use Rattle.matrix.proofs.Alone.{only-columns, columns-only}
 use borrow.Author.Needs.{needs}
 use Rattle.matrix.proofs.rule.rule_at.Statement.{statement}
@@ -99,13 +99,11 @@ returns-4 c =
     let t : count 512 (lent 8 ws (s .args .m + s .args .j)) ≡ 3 = sym (e .before .weight .ensures) ∙ e .if1 .left in
     let own : lent 8 ws (s .args .m + s .args .j) (s .args .n + s .args .j) ≡ true = sym (x .before .before .has .ensures) ∙ not-false (x .before .before .has .result) (x .before .if2 .left) in
     let l : y .next-one2 .result < s .args .n + s .args .j = omega (arith, c .before .if3 .left) in
-    let a = first-below (lent 8 ws) (s .args .n) (s .args .m) (s .args .k) (s .args .j) jk end few (x .next-one .result) 0 (x .next-one .ensures) t in
-    let b = second-below (lent 8 ws) (s .args .n) (s .args .m) (s .args .k) (s .args .j) jk end few (x .next-one .result) (y .next-one2 .result) (x .next-one .ensures) t (y .next-one2 .ensures) in
     let m512 : M ≤ 512 = omega (arith, s .pre .0) in
     same-test (c .alone .result) _
     (λ q. three-rule (lent 8 ws) (s .args .n) (s .args .m) (s .args .k) (s .args .j) jk end few (x .next-one .result) (y .next-one2 .result) (x .next-one .ensures) t (y .next-one2 .ensures) l own
-    (only-columns ws (s .args .cols .now) M _ _ _ _ (s .pre .1 .1) m512 a b (omega arith) (c .alone .ensures .yes-only q)))
-    (λ q. c .alone .ensures .only-yes (columns-only ws (s .args .cols .now) M _ _ _ _ (s .pre .1 .1) m512 a b (omega arith)
+    (only-columns ws (s .args .cols .now) M _ _ _ _ (s .pre .1 .1) m512 (c .alone .ensures .yes-only q)))
+    (λ q. c .alone .ensures .only-yes (columns-only ws (s .args .cols .now) M _ _ _ _ (s .pre .1 .1) m512
     (rule-three (lent 8 ws) (s .args .n) (s .args .m) (s .args .k) (s .args .j) jk end few (x .next-one .result) (y .next-one2 .result) (x .next-one .ensures) t (y .next-one2 .ensures) l own q)))
 
 pub rule-at-spec : {M : Type 1} → statement M

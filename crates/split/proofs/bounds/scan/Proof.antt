@@ -21,11 +21,11 @@ add-at c = search needs
 loop-holds : tie.Need-loop-holds Inv-loop μ-loop
 loop-holds c = (omega arith, row-start _ (c .before .args .bits) _ _ (omega arith))
 
-shared-requires : tie.Need-shared-requires Inv-loop μ-loop
-shared-requires c κs = search needs
+shared-at-most-requires : tie.Need-shared-at-most-requires Inv-loop μ-loop
+shared-at-most-requires c κs = search needs
 
 returns : tie.Need-returns Inv-loop μ-loop
-returns c = row-hit _ _ _ _ _ _ (c .before .before .before .loop .inv .1) (sym (c .before .shared .ensures) ∙ c .if1 .taken)
+returns c = row-hit _ _ _ _ _ _ (c .before .before .before .loop .inv .1) (sym (c .before .shared-at-most .ensures) ∙ c .if1 .taken)
 
 add-at-2 : tie.Need-add-at-2 Inv-loop μ-loop
 add-at-2 c = search needs
@@ -37,7 +37,7 @@ loop-again : tie.Need-loop-again Inv-loop μ-loop
 loop-again c =
     let l = c .before .before .before .before .loop in
     let s = c .before .before .before .before .before .before in
-    let told = c .before .before .shared .ensures in
+    let told = c .before .before .shared-at-most .ensures in
     let R = l .inv .1 in
     let below = R .below in
     let t = s .pre .1 .over (l .at) (R .low) (omega arith) in
@@ -58,7 +58,7 @@ scan-spec =
     μ-loop
     add-at
     loop-holds
-    shared-requires
+    shared-at-most-requires
     returns
     add-at-2
     loop-less

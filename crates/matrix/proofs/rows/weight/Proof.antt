@@ -1,0 +1,84 @@
+-- `rows::weight` meets its contract. Assumes nothing.
+use mathlib.Core.Path.{_≡_, sym, _∙_}
+use Prim.Native.Nat.{_+_, _*_, _-_, _≤_}
+use native.Mathlib.Numerals.{add-one}
+use native.Mathlib.Omega.{arith}
+use borrow.Author.Needs.{needs}
+use lib.Count.{ones as onesOf, ones-le}
+use lib.ListN.{getD}
+use Rattle.parity.specs.Finite.{sum}
+use Rattle.parity.proofs.Lent.{weight}
+use Rattle.matrix.proofs.rows.weight.Statement.{statement}
+use Rattle.matrix.proofs.rows.weight.Tie as tie
+
+abbrev Inv-loop : tie.InvT-loop
+Inv-loop rows width c n₀ i₀ n i = (i ≤ width) × (n ≤ 64 * i) × (n ≡ sum i (λ j. onesOf (getD rows (c * width + j) 0)))
+
+abbrev μ-loop : tie.MeasureT-loop
+μ-loop rows width c n₀ i₀ n i = width - i
+
+loop-holds : tie.Need-loop-holds Inv-loop μ-loop
+unfolding sum
+loop-holds c = search needs
+
+mul-wide : tie.Need-mul-wide Inv-loop μ-loop
+mul-wide c = omega arith
+
+add-wide : tie.Need-add-wide Inv-loop μ-loop
+add-wide c = omega arith
+
+mul-wide-2 : tie.Need-mul-wide-2 Inv-loop μ-loop
+mul-wide-2 c = omega arith
+
+shared-slice-read-wide : tie.Need-shared-slice-read-wide Inv-loop μ-loop
+shared-slice-read-wide c = omega arith
+
+wide-requires : tie.Need-wide-requires Inv-loop μ-loop
+wide-requires c κs = search needs
+
+add-n : tie.Need-add-n Inv-loop μ-loop
+add-n c =
+    let l = c .before .before .before .loop in
+    let s = c .before .before .before .before .before in
+    let k = c .before .shared-slice-known2 .given (s .args .c * s .args .width + l .i) in
+    let few = ones-le 64 (getD (s .args .rows .now) (s .args .c * s .args .width + l .i) 0) (k .fits) in
+    omega (arith, c .wide .ensures)
+
+add-i : tie.Need-add-i Inv-loop μ-loop
+add-i c = omega arith
+
+loop-less : tie.Need-loop-less Inv-loop μ-loop
+loop-less c = omega arith
+
+loop-again : tie.Need-loop-again Inv-loop μ-loop
+unfolding sum
+loop-again c =
+    let l = c .before .before .before .loop in
+    let s = c .before .before .before .before .before in
+    let k = c .before .shared-slice-known2 .given (s .args .c * s .args .width + l .i) in
+    let few = ones-le 64 (getD (s .args .rows .now) (s .args .c * s .args .width + l .i) 0) (k .fits) in
+    (omega arith, omega (arith, c .wide .ensures), rw (add-one (l .i)) (omega (arith, c .wide .ensures)))
+
+returns : tie.Need-returns Inv-loop μ-loop
+returns c =
+    let s = c .before .before .before in
+    let e : c .before .loop .i ≡ s .args .width = omega arith in
+    (rw e at (c .before .loop .inv .2)) ∙ sym (weight (s .args .width) (s .args .rows .now) (λ i. c .before .before .shared-slice-known .given i .fits) (s .args .c))
+
+pub weight-spec : {M : Type 1} → statement M
+weight-spec =
+    tie.close
+    (tie.spec
+    Inv-loop
+    μ-loop
+    loop-holds
+    mul-wide
+    add-wide
+    mul-wide-2
+    shared-slice-read-wide
+    wide-requires
+    add-n
+    add-i
+    loop-less
+    loop-again
+    returns)

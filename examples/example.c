@@ -1,0 +1,68 @@
+/* Case C of the specification through the C interface: of 2,2,2,1,1,1,1 the given
+ * matrix leaves all three erased bits; orthogonalised, it recovers them.
+ *
+ *   rt staticlib capi
+ *   cc -Iinclude -o target/example examples/example.c target/staticlib/libcapi.a
+ *   target/example
+ */
+#include "parity.h"
+#include <stdio.h>
+
+static const uint32_t record[] = {
+    0x10000307u,
+    0x20000004u, 0x30000000u, 0x30000001u, 0x30000002u, 0x30000003u,
+    0x20000004u, 0x30000000u, 0x30000001u, 0x30000004u, 0x30000005u,
+    0x20000003u, 0x30000000u, 0x30000002u, 0x30000006u,
+    0xF0000000u,
+};
+
+static uint64_t words[PARITY_WORDS];
+
+static int refused(const char *call, uint32_t number)
+{
+    fprintf(stderr, "%s is refused %u\n", call, (unsigned)number);
+    return 1;
+}
+
+int main(void)
+{
+    uint64_t values[3];
+    uint8_t given[7] = {2, 2, 2, 1, 1, 1, 1};
+    uint8_t word[8] = {2, 2, 2, 1, 1, 1, 1, 2};
+    const uint8_t expected[8] = {0, 0, 1, 1, 1, 1, 1, 0};
+    uint32_t number;
+    size_t n, m, k, b;
+
+    number = parity_load(record, sizeof record / sizeof record[0], words, PARITY_WORDS, values, 3);
+    if (number != PARITY_ANSWER)
+        return refused("loading", number);
+    n = (size_t)values[0];
+    m = (size_t)values[1];
+
+    number = parity_peel(words, PARITY_WORDS, n, m, 0, given, sizeof given, values, 3);
+    if (number != PARITY_ANSWER)
+        return refused("peeling", number);
+    printf("given: %u recovered, %u left\n", (unsigned)values[0], (unsigned)values[1]);
+    if (values[0] != 0 || values[1] != 3)
+        return 1;
+
+    number = parity_orthogonalise(words, PARITY_WORDS, n, m, 0, values, 3);
+    if (number != PARITY_ANSWER)
+        return refused("orthogonalising", number);
+    k = (size_t)values[2];
+    printf("orthogonalised: %u split, sum %u\n", (unsigned)values[0], (unsigned)values[1]);
+    if (n + k != sizeof word)
+        return 1;
+
+    number = parity_peel(words, PARITY_WORDS, n, m, k, word, sizeof word, values, 3);
+    if (number != PARITY_ANSWER)
+        return refused("peeling", number);
+    printf("extended: %u recovered, %u left:", (unsigned)values[0], (unsigned)values[1]);
+    for (b = 0; b < sizeof word; b++)
+        printf(" %u", (unsigned)word[b]);
+    printf("\n");
+    for (b = 0; b < sizeof word; b++)
+        if (word[b] != expected[b])
+            return 1;
+    return 0;
+}

@@ -1,5 +1,6 @@
 // The columns of the given checks: two words for a bit, whose bit `c` says whether check `c` contains it.
 use matrix::columns::fill;
+use matrix::rows::common;
 use matrix::rows::touches;
 ghost use mathlib.Core.Path.{_≡_};
 ghost use Prim.Native.Nat.{_≤_, _<_};
@@ -25,21 +26,12 @@ pub fn columns(words: &[u64], m: usize) -> [u64; 1024]
     cols
 }
 
-// A number of ones, as a count of checks.
-fn long(x: u32) -> u64
-    ensures { λ r. ⌜ r ≡ x ⌝ }
-{
-    x as u64
-}
-
 // How many checks the columns of `x` and `y` have in common.
 pub fn shared(cols: &[u64], x: usize, y: usize) -> u64
     requires { ⌜ (length (now cols) ≡ 1024) × (x < 512) × (y < 512) ⌝ }
     ensures { λ r. ⌜ r ≡ together (lent 2 (now (cols .entry))) x y ⌝ }
 {
-    let a = long(u64::count_ones(cols[x * 2] & cols[y * 2]));
-    let b = long(u64::count_ones(cols[x * 2 + 1] & cols[y * 2 + 1]));
-    a + b
+    common(cols, x, cols, y, 2, 2) as u64
 }
 
 // The same, where the share is at most `most`. Where that is small, most pairs have none in common, and for these nothing is counted.

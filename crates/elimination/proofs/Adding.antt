@@ -35,10 +35,6 @@ pub adding-none : (W : ℕ) (w : List ℕ) (c : ℕ) (t : List ℕ) (q : ℕ) �
 adding-none W w c t q = record { long = refl; done = λ a k. absurd (omega arith); else = λ a f. refl }
 
 module _ (W : ℕ) (w u : List ℕ) (c : ℕ) (t : List ℕ) (q i : ℕ) (A : Adding W w u c t q i) (iW : i < W) where
-  -- a word of another check is as it was
-  pub adding-other : (p : ℕ) → (p ≡ c → ⊥) → getD u (p * W + i) 0 ≡ getD w (p * W + i) 0
-  adding-other p d = A .else (p * W + i) (λ j l e. apart W p c i j iW (omega arith) d e)
-
   pub adding-more : c * W + i < length w → (v : ℕ) → v ≡ getD t (q * W + i) 0
       → Adding W w (set u (c * W + i) (bitXor (getD u (c * W + i) 0) v)) c t q (i + 1)
   adding-more fit v e = record {

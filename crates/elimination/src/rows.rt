@@ -7,16 +7,6 @@ ghost use Rattle.parity.specs.Matrix.{lent};
 ghost use Rattle.elimination.specs.Reduction.{plus, when, cleared, FirstIn};
 ghost use Rattle.elimination.specs.Rows.{Blank, RowOf, SameRows};
 
-// Check `p` is added to check `c`, modulo 2.
-pub fn add_check(rows: &mut [u64], width: usize, p: usize, c: usize)
-    requires { ⌜ (p * width + width ≤ length (now rows)) × (c * width + width ≤ length (now rows)) × (p ≡ c → ⊥) ⌝ }
-    ensures { λ _. ⌜ lent width (now (rows .exit)) ≡ plus c (lent width (now (rows .entry)) p) (lent width (now (rows .entry))) ⌝ }
-{
-    for i in 0..width {
-        rows[c * width + i] = rows[c * width + i] ^ rows[p * width + i];
-    }
-}
-
 // Two rows: an empty one, and that of check `c`.
 pub fn row_of(rows: &[u64], width: usize, c: usize) -> [u64; 16]
     requires { ⌜ (c * width + width ≤ length (now rows)) × (width ≤ 8) ⌝ }
@@ -29,6 +19,25 @@ pub fn row_of(rows: &[u64], width: usize, c: usize) -> [u64; 16]
     row
 }
 
+// Row `q` of `row` is added to check `c`, modulo 2.
+fn add_row(rows: &mut [u64], width: usize, c: usize, row: &[u64], q: usize)
+    requires { ⌜ (c * width + width ≤ length (now rows)) × (q * width + width ≤ length (now row)) ⌝ }
+    ensures { λ _. ⌜ lent width (now (rows .exit)) ≡ plus c (lent width (now (row .entry)) q) (lent width (now (rows .entry))) ⌝ }
+{
+    for i in 0..width {
+        rows[c * width + i] = rows[c * width + i] ^ row[q * width + i];
+    }
+}
+
+// Check `p` is added to check `c`, modulo 2.
+pub fn add_check(rows: &mut [u64], width: usize, p: usize, c: usize)
+    requires { ⌜ (p * width + width ≤ length (now rows)) × (c * width + width ≤ length (now rows)) × (width ≤ 8) ⌝ }
+    ensures { λ _. ⌜ lent width (now (rows .exit)) ≡ plus c (lent width (now (rows .entry)) p) (lent width (now (rows .entry))) ⌝ }
+{
+    let row = row_of(rows, width, p);
+    add_row(rows, width, c, &row, 1);
+}
+
 // The row is added to check `c` if the check contains bit `b`. The bit picks the row, without a branch: which checks contain it is hard to foresee.
 fn clear_check(rows: &mut [u64], width: usize, c: usize, row: &[u64], b: usize)
     requires { ⌜ (c * width + width ≤ length (now rows)) × (width ≤ 8) × (b < width * 64) × Blank width (now row) ⌝ }
@@ -36,9 +45,7 @@ fn clear_check(rows: &mut [u64], width: usize, c: usize, row: &[u64], b: usize)
         ≡ plus c (when (lent width (now (rows .entry)) c b) (lent width (now (row .entry)) 1)) (lent width (now (rows .entry))) ⌝ }
 {
     let pick = ((rows[c * width + b / 64] >> (b % 64)) % 2) as usize;
-    for i in 0..width {
-        rows[c * width + i] = rows[c * width + i] ^ row[pick * width + i];
-    }
+    add_row(rows, width, c, row, pick);
 }
 
 // The row is added to each check from `first` up to `end` that contains bit `b`.

@@ -14,8 +14,9 @@ use Rattle.parity.specs.Finite.{one, count}
 use Rattle.parity.specs.Matrix.{Matrix, bitOf, lent}
 use Rattle.parity.specs.Words.{inside}
 use Rattle.parity.proofs.Sums.{sum-cong, sum-zero, sum-at, count-two}
-use Rattle.parity.proofs.Digits.{bit-zero, bit-clear}
+use Rattle.parity.proofs.Digits.{bit-zero}
 use Rattle.parity.proofs.Ones.{Lowest}
+use Rattle.parity.proofs.Rest.{rest-bit}
 use Rattle.parity.proofs.Sets.{common, common-bit}
 use Rattle.peel.specs.Next.{NoSingle}
 
@@ -74,25 +75,25 @@ module _ (ws es : List ℕ) (c at i : ℕ) (k : i < 8) where
 
     module _ (t : ℕ) (L : Lowest 64 x t) where
       -- the first erased bit of the check
-      pub bits-first : (at < 512 → ⊥) → Bits ws es c (i * 64 + t) i (bitAnd x (2 ^ 64 - 1 - 2 ^ t))
+      pub bits-first : (at < 512 → ⊥) → Bits ws es c (i * 64 + t) i (bitAnd x (x - 1))
       bits-first n =
           let s = L .short in
           record {
-            fits = lt-of-le-of-lt (and-le-l x (2 ^ 64 - 1 - 2 ^ t)) (B .fits);
+            fits = lt-of-le-of-lt (and-le-l x (x - 1)) (B .fits);
             top = omega arith;
             here = λ m. B .part t s (L .here);
             past = λ m. omega arith;
-            part = λ j m e. B .part j m (and-eq-true-iff (bitOf x j) (not (eqb j t)) .0 (sym (bit-clear 64 x t j s m) ∙ e) .0);
+            part = λ j m e. B .part j m (and-eq-true-iff (bitOf x j) (not (eqb j t)) .0 (sym (rest-bit 64 x t L j) ∙ e) .0);
             fresh = λ l j m e q. kept j m e (omega arith);
             none = λ b m d. B .none b m (λ q. n (omega arith));
             word = λ j m d e.
                 B .word j m (λ q. n (omega arith))
-                (sym (bit-clear 64 x t j s m ∙ rw (ne-eqb j t (λ q. d (rw q)), and-true)) ∙ e);
+                (sym (rest-bit 64 x t L j ∙ rw (ne-eqb j t (λ q. d (rw q)), and-true)) ∙ e);
           }
         where
-          kept : (j : ℕ) → j < 64 → bitOf (bitAnd x (2 ^ 64 - 1 - 2 ^ t)) j ≡ true → j ≡ t → ⊥
+          kept : (j : ℕ) → j < 64 → bitOf (bitAnd x (x - 1)) j ≡ true → j ≡ t → ⊥
           kept j m e q =
-              let (p, r) = and-eq-true-iff (bitOf x j) (not (eqb j t)) .0 (sym (bit-clear 64 x t j (L .short) m) ∙ e) in
+              let (p, r) = and-eq-true-iff (bitOf x j) (not (eqb j t)) .0 (sym (rest-bit 64 x t L j) ∙ e) in
               false≢true (rw (eq-eqb j t q) at r)
 
       -- a second one

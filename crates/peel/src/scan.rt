@@ -36,7 +36,7 @@ pub fn next_single(words: &[u64], checks: usize, from: usize, erased: &[u64]) ->
                 }
                 let t = wide(u64::trailing_zeros(x));
                 at = i * 64 + t;
-                x = x & !(1 << t);
+                x = x & (x - 1);
             }
             i += 1;
         }

@@ -6,8 +6,8 @@ use Prim.Native.Nat.{_+_, _*_, _-_, _≤_, _<_}
 use native.Mathlib.Omega.{arith}
 use borrow.Author.Needs.{needs}
 use Rattle.parity.specs.Matrix.{lent}
-use Rattle.parity.proofs.Digits.{one-shl}
-use Rattle.parity.proofs.Ones.{trailing-lowest, cleared-less}
+use Rattle.parity.proofs.Ones.{trailing-lowest}
+use Rattle.parity.proofs.Rest.{rest-less}
 use Rattle.peel.specs.Next.{NoSingle}
 use Rattle.peel.proofs.Seen.{Row, Bits, row-start, bits-start, bits-end, bits-first, bits-second, row-one, row-none}
 use Rattle.peel.proofs.scan.next_single.Statement.{statement}
@@ -86,20 +86,16 @@ add-at c = let b = c .before .before .before in
     let L = trailing-lowest 64 _ (b .bits .inv .2 .fits) (c .before .before .bits-test .taken) in
     omega (arith, L .short, c .wide .ensures)
 
-shl-x : tie.Need-shl-x Inv-bits μ-bits Inv-row μ-row Inv-scan μ-scan
-shl-x c = let b = c .before .before .before in
-    let L = trailing-lowest 64 _ (b .bits .inv .2 .fits) (c .before .before .bits-test .taken) in
-    omega (arith, L .short, c .wide .ensures)
+sub-x : tie.Need-sub-x Inv-bits μ-bits Inv-row μ-row Inv-scan μ-scan
+sub-x c = omega (arith, c .before .before .bits-test .taken)
 
 bits-less : tie.Need-bits-less Inv-bits μ-bits Inv-row μ-row Inv-scan μ-scan
-bits-less c = let b = c .before .before .before in
-    let L = trailing-lowest 64 _ (b .bits .inv .2 .fits) (c .before .before .bits-test .taken) in
-    rw (c .wide .ensures, one-shl _ (L .short)) (cleared-less 64 _ _ (L .short) (L .here))
+bits-less c = rest-less _ (c .before .before .bits-test .taken)
 
 bits-again : tie.Need-bits-again Inv-bits μ-bits Inv-row μ-row Inv-scan μ-scan
 bits-again c = let b = c .before .before .before in
     let L = trailing-lowest 64 _ (b .bits .inv .2 .fits) (c .before .before .bits-test .taken) in
-    (b .bits .inv .0, b .bits .inv .1, rw (c .wide .ensures, one-shl _ (L .short)) (bits-first _ _ _ _ _ (b .bits .inv .1) _ (b .bits .inv .2) _ L (λ k. omega (arith, c .before .if2 .left))))
+    (b .bits .inv .0, b .bits .inv .1, rw (c .wide .ensures) (bits-first _ _ _ _ _ (b .bits .inv .1) _ (b .bits .inv .2) _ L (λ k. omega (arith, c .before .if2 .left))))
 
 add-i : tie.Need-add-i Inv-bits μ-bits Inv-row μ-row Inv-scan μ-scan
 add-i c = omega arith
@@ -160,7 +156,7 @@ next-single-spec =
     wide-requires
     mul-at
     add-at
-    shl-x
+    sub-x
     bits-less
     bits-again
     add-i

@@ -1,4 +1,3 @@
-pub mod Columns
+pub mod Common
 pub mod Exchange
-pub mod RowBounds
 pub mod Turns

@@ -1,52 +1,46 @@
 -- The turns of orthogonalising on words, columns and row bounds. Assumes nothing.
 use mathlib.Core.Path.{_≡_, refl, sym, _∙_}
-use mathlib.Core.Bool.{Bool, true, false, _&&_, and-eq-true-iff, false≢true}
-use mathlib.Core.List.{List, [], _∷_}
+use mathlib.Core.Bool.{Bool, true, false, _&&_, and-false, and-eq-true-iff, false≢true}
+use mathlib.Core.List.{List}
 use Prim.Native.Nat.{ℕ, zero, suc, _+_, _*_, _-_, _/_, _≤_, _<_}
 use native.Mathlib.Numerals.{add-one}
 use native.Mathlib.Omega.{arith}
 use native.Mathlib.Decide.{decLe, decLt}
-use lib.Dec.{ltb}
-use lib.ListN.{getD}
-use borrow.Author.Tests.{eq-eqb, lt-ltb, le-ltb}
-use Rattle.parity.specs.Matrix.{Matrix, lent}
+use borrow.Author.Tests.{lt-ltb, le-ltb}
+use Rattle.parity.specs.Matrix.{Matrix}
 use Rattle.parity.specs.Cycles.{share, pairs, splitOf, largestShare, lowerBit, higherBit, orthogonal}
-use Rattle.parity.specs.Causes.{answer, refusal}
 use Rattle.parity.specs.Calls.{orthogonalisedReply}
 use Rattle.parity.proofs.Sums.{count-cong, count-end}
 use Rattle.parity.proofs.Pairs.{pairs-suc}
 use Rattle.parity.proofs.Split.{at-new-bit}
 use Rattle.parity.proofs.Rule.{at-le}
-use Rattle.parity.proofs.Lent.{lent-word}
 use Rattle.parity.proofs.Sound.{Sound, split-sound}
 use Rattle.parity.proofs.Pick.{Chosen, picked, chosen-only}
 use Rattle.parity.proofs.Given.{apart, given, given-too}
 use Rattle.parity.proofs.Orthogonal.{finishes, stops-full, repeats}
-use Rattle.split.specs.Merge.{Apart, Both}
 use Rattle.matrix.specs.Rows.{Columns}
-use Rattle.split.specs.Given.{together, parted, Parted}
-use Rattle.split.specs.Bounds.{Bounded, Head, Picked, Raised, Weights}
-use Rattle.split.specs.Turns.{SplitTo, Ended}
-use Rattle.split.proofs.RowBounds.{together-few, bounded-split, raised-head, weights-bound}
+use Rattle.choice.specs.Given.{together, Parted, Given}
+use Rattle.choice.specs.Bounds.{Bounded, Head, Picked, NoPair, Narrow, Raised, Weights}
+use Rattle.choice.proofs.Columns.{together-le, together-top, together-none, parted-columns}
+use Rattle.choice.proofs.RowBounds.{bounded-split, raised-head, weights-bound, weights-head}
+use Rattle.split.specs.Answers.{courseReply}
+use Rattle.split.specs.Merge.{Apart}
+use Rattle.split.specs.Turns.{Meet, Ended}
+use Rattle.split.proofs.Common.{columns-meet}
 
--- the columns count the shares over the given checks
-pub together-share : (m : ℕ) (h g : Matrix) → Columns m h g → m ≤ 128 → (x y : ℕ) → together g x y ≡ share h m x y
+-- the columns of two words count the shares over the given checks
+pub together-share : (m : ℕ) (h g : Matrix) → Columns m h g → m ≤ 128 → (x y : ℕ) → together 2 g x y ≡ share h m x y
 unfolding together share
 together-share m h g C k x y =
     count-end m 128 (λ c. g x c && g y c) k (λ c l r. rw (C .at x c, le-ltb c m l))
     ∙ count-cong m {p = λ c. g x c && g y c} {q = λ c. h c x && h c y} (λ c l. rw (C .at x c, C .at y c, lt-ltb c m l))
 
--- the column of the new bit has the given checks that contain both
-pub both-column : (m : ℕ) (h : Matrix) (g : Matrix) (ws : List ℕ) (u v z i : ℕ) → i < 2 → Columns m h g → Parted g (lent 2 ws) u v z → Both h m u v i (getD ws (z * 2 + i) 0)
-unfolding parted
-both-column m h g ws u v z i il C P = record {
-  at = λ j k.
-      sym (lent-word 2 ws z i j il k) ∙ P .at z (i * 64 + j) ∙ rw (eq-eqb z z refl, C .at u (i * 64 + j), C .at v (i * 64 + j)) (go (ltb (i * 64 + j) m) (h (i * 64 + j) u) (h (i * 64 + j) v));
-}
-  where
-    go : (p a b : Bool) → ((p && a) && (p && b)) ≡ (p && (a && b))
-    go true a b = refl
-    go false a b = refl
+-- the columns are those of the given checks, and the bits from n + k on share nothing
+pub given-columns : (m : ℕ) (h g : Matrix) → m ≤ 120 → Columns m h g → Given h g
+given-columns m h g k C = record { checks = m; few = k; columns = C }
+
+pub narrow-columns : (n m k : ℕ) (h g : Matrix) → Sound h n m k → Columns m h g → Narrow (together 2 g) (n + k)
+narrow-columns n m k h g A C = record { none = λ x y l. together-none 2 g x y (λ c. C .at y c ∙ rw (A .clean .bits c y l, and-false)) }
 
 -- at most 128 checks, and so at most 8,128 pairs of them
 pub pairs-few : (d s : ℕ) → s + d ≡ 128 → pairs s ≤ 8128
@@ -58,24 +52,27 @@ pairs-few (suc d) s e = omega (arith, pairs-few d (suc s) (omega arith), pairs-s
 pub record Stands (h₀ : Matrix) (n m k₀ : ℕ) (h g : Matrix) (bound : List ℕ) (k splits total : ℕ) : Type 0 where
   pub sound : Sound h n m k
   pub columns : Columns m h g
-  pub bounded : Bounded g (n + k) bound
+  pub bounded : Bounded (together 2 g) (n + k) bound
   pub count : splits + k₀ ≡ k
   pub few : total ≤ splits * 8128
   pub same : orthogonal (393 - k₀) h₀ n m k₀ 0 0 ≡ orthogonal (393 - k) h n m k splits total
 
-pub stands-start : (h g : Matrix) (bound : List ℕ) (n m k : ℕ) → Sound h n m k → Columns m h g → Weights g bound (n + k) → Stands h n m k h g bound k 0 0
+pub stands-start : (h g : Matrix) (bound : List ℕ) (n m k : ℕ) → Sound h n m k → Columns m h g → Weights (together 2 g) bound (n + k) → Stands h n m k h g bound k 0 0
 stands-start h g bound n m k S C W = record {
   sound = S;
   columns = C;
-  bounded = weights-bound g bound (n + k) W;
+  bounded = weights-bound (together 2 g) bound (n + k) W (λ x y. together-le 2 g g x y x x (λ c a b. (a, a)));
   count = omega arith;
   few = omega arith;
   same = refl;
 }
 
+pub head-start : (g : Matrix) (bound : List ℕ) (bits : ℕ) → Weights (together 2 g) bound bits → Head bound bits 0 128
+head-start g bound bits W = weights-head (together 2 g) bound bits W 128 (λ x. together-top 2 g x x)
+
 -- picking changes the bounds alone
 pub stands-bound : (h₀ : Matrix) (n m k₀ : ℕ) (h g : Matrix) (bound bound' : List ℕ) (k splits total : ℕ) → Stands h₀ n m k₀ h g bound k splits total
-    → Bounded g (n + k) bound' → Stands h₀ n m k₀ h g bound' k splits total
+    → Bounded (together 2 g) (n + k) bound' → Stands h₀ n m k₀ h g bound' k splits total
 stands-bound h₀ n m k₀ h g bound bound' k splits total S B = record {
   sound = S .sound;
   columns = S .columns;
@@ -85,92 +82,89 @@ stands-bound h₀ n m k₀ h g bound bound' k splits total S B = record {
   same = S .same;
 }
 
-module _ (h₀ : Matrix) (n m k₀ : ℕ) (h g : Matrix) (bound : List ℕ) (k splits total : ℕ) (S : Stands h₀ n m k₀ h g bound k splits total)
-    (u v s : ℕ) (P : Picked g (n + k) u v s) where
-  shares : (x y : ℕ) → together g x y ≡ share h m x y
+module _ (h₀ : Matrix) (n m k₀ : ℕ) (h g : Matrix) (bound : List ℕ) (k splits total : ℕ) (S : Stands h₀ n m k₀ h g bound k splits total) where
+  shares : (x y : ℕ) → together 2 g x y ≡ share h m x y
   shares x y = together-share m h g (S .columns) (omega (arith, S .sound .m120)) x y
 
   -- shares of two or more are those of the columns
-  large : (x y : ℕ) → x < y → y < n + k → 2 ≤ share h (m + k) x y → together g x y ≡ share h (m + k) x y
+  large : (x y : ℕ) → x < y → y < n + k → 2 ≤ share h (m + k) x y → together 2 g x y ≡ share h (m + k) x y
   large x y a b c = shares x y ∙ given h n m k (S .sound) x y (omega arith) b (λ q. omega arith) c
 
-  large-too : (x y : ℕ) → x < y → y < n + k → 2 ≤ together g x y → together g x y ≡ share h (m + k) x y
+  large-too : (x y : ℕ) → x < y → y < n + k → 2 ≤ together 2 g x y → together 2 g x y ≡ share h (m + k) x y
   large-too x y a b c = let e = shares x y in e ∙ given-too h n m k (S .sound) x y (omega arith) b (λ q. omega arith) (omega arith)
 
-  none : s < 2 → largestShare h (n + k) (m + k) < 2
-  none l =
+  turns-left : 393 - k ≡ suc (392 - k)
+  turns-left = omega (arith, S .sound .k392)
+
+  none : NoPair (together 2 g) (n + k) → largestShare h (n + k) (m + k) < 2
+  none P =
       elim (decLt (largestShare h (n + k) (m + k)) 2) [
         | yes q ↦ q
         | no q ↦
             let (a, b, e) = picked h (n + k) (m + k) (omega arith) in
             let f = large _ _ a b (omega arith) in
-            absurd (omega (arith, P .most _ _ a b (omega arith)))
+            absurd (omega (arith, P .few _ _ a b))
       ]
 
-  turns-left : 393 - k ≡ suc (392 - k)
-  turns-left = omega (arith, S .sound .k392)
+  pub ends-finished : NoPair (together 2 g) (n + k) → Ended h₀ n m k₀ h true splits total k
+  ends-finished P = record { same = S .same ∙ rw turns-left (finishes (392 - k) h n m k splits total (none P)) }
 
-  finished-at : s < 2 → orthogonal (393 - k₀) h₀ n m k₀ 0 0 ≡ record { finished = true; splits = splits; sum = total; k = k; matrix = h }
-  finished-at l = S .same ∙ rw turns-left (finishes (392 - k) h n m k splits total (none l))
-
-  pub ends-finished : s < 2 → Ended h₀ n m k₀ h (answer (splits ∷ total ∷ k ∷ []))
-  unfolding orthogonalisedReply
-  ends-finished l = record { reply = rw (finished-at l); matrix = rw (finished-at l) }
-
-  module _ (l : 2 ≤ s) where
+  module _ (u v s : ℕ) (P : Picked (together 2 g) (n + k) u v s) where
     here : share h (m + k) u v ≡ s
-    here = let (a, b, e) = P .found l in sym (large-too u v a b (omega arith)) ∙ e
+    here = let e = P .here in let t = P .two in sym (large-too u v (P .low) (P .high) (omega arith)) ∙ e
 
     -- The pair that the bounds give is the chosen one.
     is-chosen : Chosen h (n + k) (m + k) u v
     is-chosen =
-        let (a, b, e) = P .found l in
         let at = here in
+        let two = P .two in
         record {
-          low = a;
-          high = b;
+          low = P .low;
+          high = P .high;
           largest = λ i j ij jn. elim (decLe 2 (share h (m + k) i j)) [
-            | yes q ↦ let f = large i j ij jn q in omega (arith, P .most i j ij jn (omega arith))
+            | yes q ↦ let f = large i j ij jn q in omega (arith, P .most i j ij jn)
             | no q ↦ omega arith
           ];
           lower = λ i j ij jn q. elim (decLt i u) [
             | no w ↦ omega arith
-            | yes w ↦ let f = large i j ij jn (omega arith) in absurd (omega (arith, P .first l i j ij jn w))
+            | yes w ↦ let f = large i j ij jn (omega arith) in absurd (omega (arith, P .first i j ij jn w))
           ];
           higher = λ j uj jn q. elim (decLt j v) [
             | no w ↦ omega arith
-            | yes w ↦ let f = large u j uj jn (omega arith) in absurd (omega (arith, P .near l j uj w))
+            | yes w ↦ let f = large u j uj jn (omega arith) in absurd (omega (arith, P .near j uj w))
           ];
         }
 
     chosen-is : (largestShare h (n + k) (m + k) ≡ share h (m + k) u v) × (lowerBit h (n + k) (m + k) ≡ u) × (higherBit h (n + k) (m + k) ≡ v)
-    chosen-is = chosen-only h (n + k) (m + k) u v is-chosen (omega (arith, here))
+    chosen-is = chosen-only h (n + k) (m + k) u v is-chosen (omega (arith, here, P .two))
 
-    full-at : k ≡ 392 → orthogonal (393 - k₀) h₀ n m k₀ 0 0 ≡ record { finished = false; splits = splits; sum = total; k = k; matrix = h }
-    full-at q =
-        let (t, a, b) = chosen-is in
-        S .same ∙ rw turns-left (stops-full (392 - k) h n m k splits total (omega (arith, here)) q)
-
-    pub ends-full : k ≡ 392 → Ended h₀ n m k₀ h (refusal 9 (splits ∷ total ∷ k ∷ []))
-    unfolding orthogonalisedReply
-    ends-full q = record { reply = rw (full-at q); matrix = rw (full-at q) }
+    pub ends-full : k ≡ 392 → Ended h₀ n m k₀ h false splits total k
+    ends-full q = record {
+      same =
+          let (t, a, b) = chosen-is in
+          S .same ∙ rw turns-left (stops-full (392 - k) h n m k splits total (omega (arith, here, P .two)) q);
+    }
 
     pub share-few : s ≤ 128
-    share-few = let (a, b, e) = P .found l in omega (arith, together-few g u v)
+    share-few = omega (arith, together-top 2 g u v, P .here)
 
     pub product-few : s * (s - 1) ≤ 16257
     unfolding pairs
     product-few = let f = share-few in omega (arith, pairs-few (128 - s) s (omega arith))
 
-    pub picked-apart : Apart h m (m + k) u v
-    picked-apart =
-        let (a, b, e) = P .found l in
-        record { never = apart h n m k (S .sound) u v (omega arith) b (λ q. omega arith) (omega (arith, here)) }
+    pub picked-meet : Meet h g u v
+    picked-meet =
+        let A : Apart h m (m + k) u v =
+        record { never = apart h n m k (S .sound) u v (omega (arith, P .low, P .high)) (P .high) (λ q. omega (arith, P .low)) (omega (arith, here, P .two)) } in
+        columns-meet h m (m + k) (n + k) u v (S .sound .clean) A g (S .columns)
 
     -- after the split
-    module _ (small : k < 392) (h' g' : Matrix) (T : SplitTo h h' g' m (m + k) u v (n + k)) where
+    module _ (small : k < 392) (h' g' : Matrix) (T : h' ≡ splitOf h (n + k) (m + k) u v) (Q : Parted g g' u v (n + k)) where
       C : Columns m (splitOf h (n + k) (m + k) u v) g'
-      C = rw (T .same) at (T .columns)
+      C = parted-columns h g g' m (m + k) (n + k) u v (omega arith) (S .columns) Q
+
+      pub split-columns : Columns m h' g'
+      split-columns = rw T C
 
       -- old bits are in no more given checks, and the new one in checks of both
       fewer : (x c : ℕ) → x < n + k → g' x c ≡ true → g x c ≡ true
@@ -192,26 +186,36 @@ module _ (h₀ : Matrix) (n m k₀ : ℕ) (h g : Matrix) (bound : List ℕ) (k s
             | no q ↦ absurd (false≢true (rw (le-ltb c m (omega arith)) at (sym (C .at (n + k) c) ∙ e)))
           ]
 
-      module _ (bound' : List ℕ) (R : Raised g' (n + k) bound bound' (n + k)) where
+      module _ (bound' : List ℕ) (R : Raised (together 2 g') (n + k) bound bound' (n + k)) where
         pub head-split : Head bound (n + k) u s → Head bound' (n + (k + 1)) u s
         head-split H =
             let z : n + (k + 1) ≡ n + k + 1 = omega arith in
-            rw z (raised-head g g' (n + k) u v s bound bound' P l H R (λ x c xl cl. fewer x c xl) (λ c cl. newer c))
+            rw z (raised-head (together 2 g) (together 2 g') (n + k) u v s bound bound' P H R
+            (λ x xl. together-le 2 g' g x (n + k) u v (λ c a b. newer c b)) (λ x xl. together-le 2 g' g x (n + k) x u (λ c a b. (fewer x c xl a, newer c b .0))))
 
         pub stands-split : Stands h₀ n m k₀ h' g' bound' (k + 1) (splits + 1) (total + s * (s - 1) / 2)
         unfolding pairs
         stands-split =
-            let (a, b, e) = P .found l in
             let (t, x, y) = chosen-is in
             let z : n + (k + 1) ≡ n + k + 1 = omega arith in
             let at = here in
+            let two = P .two in
             let left : 393 - (k + 1) ≡ 392 - k = omega arith in
             let f = pairs-few (128 - s) s (omega (arith, share-few)) in
             record {
-              sound = rw (T .same, add-one k) (split-sound h n m k u v (S .sound) (omega arith) b (λ q. omega arith) (omega arith) small);
-              columns = T .columns;
-              bounded = rw z (bounded-split g g' (n + k) bound bound' (S .bounded) (λ x c xl cl. fewer x c xl) (λ x xl. (R .kept x xl, R .over x xl)));
+              sound = rw (T, add-one k) (split-sound h n m k u v (S .sound) (omega (arith, P .low, P .high)) (P .high) (λ q. omega (arith, P .low)) (omega arith) small);
+              columns = split-columns;
+              bounded = rw z (bounded-split (together 2 g) (together 2 g') (n + k) bound bound' (S .bounded) (λ x y xl yl. together-le 2 g' g x y x y (λ c a b. (fewer x c xl a, fewer y c yl b))) R);
               count = omega (arith, S .count);
               few = omega (arith, S .few);
-              same = S .same ∙ rw turns-left (repeats (392 - k) h n m k splits total (omega arith) (λ q. omega arith) ∙ rw (x, y, t, at, T .same, left, add-one k, add-one splits));
+              same = S .same ∙ rw turns-left (repeats (392 - k) h n m k splits total (omega arith) (λ q. omega arith) ∙ rw (x, y, t, at, T, left, add-one k, add-one splits));
             }
+
+-- what the turns came to is the outcome
+module _ (h : Matrix) (n m k : ℕ) (h' : Matrix) (finished : Bool) (splits total k' : ℕ) (E : Ended h n m k h' finished splits total k') where
+  pub ended-reply : courseReply finished splits total k' ≡ orthogonalisedReply (orthogonal (393 - k) h n m k 0 0)
+  unfolding orthogonalisedReply
+  ended-reply = rw (E .same)
+
+  pub ended-matrix : h' ≡ orthogonal (393 - k) h n m k 0 0 .matrix
+  ended-matrix = rw (E .same)

@@ -1,10 +1,9 @@
 // A split of two bits, and orthogonalising.
-mod bounds;
-mod given;
 mod merge;
 mod orthogonal;
 
 use crate::merge::split_pair;
+use crate::orthogonal::Course;
 use crate::orthogonal::repeat;
 use cycles::is_pair;
 use cycles::shared;
@@ -16,7 +15,7 @@ use parity::Refusal;
 ghost use mathlib.Core.Path.{_≡_};
 ghost use Rattle.parity.specs.Matrix.{cause};
 ghost use Rattle.parity.specs.Calls.{splitOutcome, orthogonaliseOutcome};
-ghost use Rattle.split.specs.Answers.{splittingReply, orthogonalisingReply};
+ghost use Rattle.split.specs.Answers.{splittingReply, orthogonalisingReply, courseReply};
 
 // What a split answers: the share of the two bits and the new k.
 pub enum Splitting {
@@ -65,6 +64,22 @@ pub fn split(words: &mut [u64], n: usize, m: usize, k: usize, u: Bit, v: Bit) ->
     }
 }
 
+// The answer, or refusal 9 where k reached 392 with a pair left to split.
+fn told(course: Course) -> Orthogonalising
+    ensures { λ r. ⌜ orthogonalisingReply r ≡ courseReply (course .finished) (course .splits) (course .sum) (course .k) ⌝ }
+{
+    let Course {
+        finished,
+        splits,
+        sum,
+        k,
+    } = course;
+    if finished {
+        return Orthogonalising::Finished { splits, sum, k };
+    }
+    Orthogonalising::Refused(Refusal::NoRoomLeft { splits, sum, k })
+}
+
 // Orthogonalising: repeats the split of the pair with the largest share, then the smallest lower bit, then the smallest higher bit,
 // until no pair has share two or more. Refused by causes 1 to 4, and by 9 after the splits made.
 pub fn orthogonalise(words: &mut [u64], n: usize, m: usize, k: usize) -> Orthogonalising
@@ -73,6 +88,6 @@ pub fn orthogonalise(words: &mut [u64], n: usize, m: usize, k: usize) -> Orthogo
 {
     match accept(words, n, m, k) {
         Acceptance::Refused(r) => Orthogonalising::Refused(r),
-        Acceptance::Accepted => repeat(words, n, m, k),
+        Acceptance::Accepted => told(repeat(words, n, m, k)),
     }
 }

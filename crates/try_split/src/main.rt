@@ -1,4 +1,5 @@
-// Sharing, counting, splitting and orthogonalising on the bench's matrices A, C, E and L, and on a dense matrix that is refused 9.
+// Sharing, counting, splitting and orthogonalising on the bench's matrices A, C, E and L, and on a dense matrix that is refused 9; splits
+// at k = 391 and 392.
 use cycles::Counting;
 use cycles::Sharing;
 use parity::Bit;
@@ -26,16 +27,16 @@ fn show_count(words: &[u64], n: usize, m: usize, k: usize) {
     end();
 }
 
-fn show_share(words: &[u64], n: usize, m: usize, u: usize, v: usize) {
-    match cycles::share(words, n, m, 0, Bit(u), Bit(v)) {
+fn show_share(words: &[u64], n: usize, m: usize, k: usize, u: usize, v: usize) {
+    match cycles::share(words, n, m, k, Bit(u), Bit(v)) {
         Sharing::Share(s) => field(b"share ", s),
         Sharing::Refused(r) => field(b"refused ", parity::number(r)),
     }
     end();
 }
 
-fn show_split(words: &mut [u64], n: usize, m: usize, u: usize, v: usize) {
-    match split::split(words, n, m, 0, Bit(u), Bit(v)) {
+fn show_split(words: &mut [u64], n: usize, m: usize, k: usize, u: usize, v: usize) {
+    match split::split(words, n, m, k, Bit(u), Bit(v)) {
         Splitting::Made { share, k } => {
             field(b"split, share ", share);
             field(b", k ", k as u64);
@@ -96,7 +97,7 @@ fn case_a() {
     words[8] = 0b1101010;
     words[16] = 0b1110100;
     show_count(&words, 7, 3, 0);
-    show_share(&words, 7, 3, 6, 3);
+    show_share(&words, 7, 3, 0, 6, 3);
     let k = show_orthogonalise(&mut words, 7, 3);
     show_checks(&words);
     show_count(&words, 7, 3, k);
@@ -110,9 +111,9 @@ fn case_c() {
     words[8] = 0b110011;
     words[16] = 0b1000101;
     show_count(&words, 7, 3, 0);
-    show_split(&mut words, 7, 3, 0, 3);
-    show_split(&mut words, 7, 3, 4, 4);
-    show_split(&mut words, 7, 3, 1, 0);
+    show_split(&mut words, 7, 3, 0, 0, 3);
+    show_split(&mut words, 7, 3, 0, 4, 4);
+    show_split(&mut words, 7, 3, 0, 1, 0);
     show_checks(&words);
 }
 
@@ -192,10 +193,58 @@ fn case_dense() {
     show_count(&words, 120, 120, k);
 }
 
+// Checks 0 and 119 contain bits 64 to 119; added check 120 + j contains bit 120 + j and a pair of lower ones that no other check contains.
+fn extended(words: &mut [u64])
+    requires { ⌜ length (now words) ≡ 4096 ⌝ }
+    ensures { λ r. ⌜ length (now (words .exit)) ≡ 4096 ⌝ }
+{
+    words[1] = 0xffffffffffffff;
+    words[953] = 0xffffffffffffff;
+    for j in 0..391 {
+        let at = (120 + j) * 8;
+        words[at] = 1 << (j % 20) | 1 << (20 + j / 20);
+        words[at + (120 + j) / 64] = 1 << ((120 + j) % 64);
+    }
+}
+
+fn is_same(a: &[u64], b: &[u64]) -> bool
+    requires { ⌜ (length (now a) ≡ 4096) × (length (now b) ≡ 4096) ⌝ }
+{
+    for i in 0..4096 {
+        if a[i] != b[i] {
+            return false;
+        }
+    }
+    true
+}
+
+// The share, the split, and whether the words are afterwards as they were.
+fn show_split_and_words(words: &mut [u64; 4096], k: usize, u: usize, v: usize) {
+    let before = *words;
+    show_share(words, 120, 120, k, u, v);
+    show_split(words, 120, 120, k, u, v);
+    if is_same(words, &before) {
+        io::write_all(1, b"words as they were\n");
+    } else {
+        io::write_all(1, b"words changed\n");
+    }
+}
+
+// At k = 391 a split is made; at 392 it is refused.
+fn case_most() {
+    io::write_all(1, b"k to 392\n");
+    let mut words = [0u64; 4096];
+    extended(&mut words);
+    show_count(&words, 120, 120, 391);
+    show_split_and_words(&mut words, 391, 64, 65);
+    show_split_and_words(&mut words, 392, 66, 67);
+}
+
 fn main() {
     case_a();
     case_c();
     case_e();
     case_l();
     case_dense();
+    case_most();
 }

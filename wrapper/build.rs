@@ -12,7 +12,9 @@ fn main() {
         None => PathBuf::from(env::var_os("CARGO_MANIFEST_DIR").unwrap()).join("../target/staticlib"),
     };
     let archive = folder.join("libcapi.a");
+    // The folder too: an archive that is put there with its old date changes the folder's.
     println!("cargo:rerun-if-changed={}", archive.display());
+    println!("cargo:rerun-if-changed={}", folder.display());
     if !archive.is_file() {
         eprintln!();
         eprintln!("libcapi.a is missing: looked for {}", archive.display());
@@ -21,6 +23,7 @@ fn main() {
         exit(1);
     }
     let folder = folder.canonicalize().unwrap();
+    println!("cargo:rustc-env=PARITY_ARCHIVE={}", folder.join("libcapi.a").display());
     println!("cargo:rustc-link-search=native={}", folder.display());
     println!("cargo:rustc-link-lib=static=capi");
 }

@@ -1,7 +1,8 @@
 //! Parity checks for lossy sample streams: slices in, Rust enums out.
 //!
 //! The matrix is lent as exactly [`WORDS`] words of 64 bits, with n, m and k beside it. `include/parity.h` says how
-//! a check's bits stand in them. Slices may have any length and numbers any value: what does not fit is refused.
+//! a check's bits stand in them. Slices may have any length and numbers any value: what does not fit is refused. A call
+//! takes nothing from the heap and keeps no state, so that any number of threads may call at once.
 
 #![allow(clippy::too_many_arguments)]
 
@@ -12,6 +13,9 @@ pub const WORDS: usize = 4096;
 
 /// The most words that [`write`] uses.
 pub const RECORD_MOST: usize = 14_522;
+
+/// The most bytes of stack that a call needs.
+pub const STACK_MOST: usize = 65_536;
 
 /// Why a call was refused, with the values that the refusal carries.
 #[derive(Clone, Copy, PartialEq, Eq, Debug)]

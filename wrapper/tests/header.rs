@@ -1,4 +1,7 @@
-//! The declarations of the wrapper are those of the C header: the same functions, parameters and types.
+//! The C header, the wrapper's declarations and the crate's own functions are the same: functions, parameters in their
+//! order, types and results. The header's numbers are those of the wrapper.
+
+use parity::Refusal;
 
 use std::fs::read_to_string;
 
@@ -68,11 +71,78 @@ fn of_wrapper(text: &str) -> Vec<Declared> {
     all
 }
 
+/// A slice of the crate is a pointer and then its length.
+fn of_crate(text: &str) -> Vec<Declared> {
+    let mut all = Vec::new();
+    for part in text.split("#[no_mangle]\npub extern \"C\" fn ").skip(1) {
+        let (name, rest) = part.split_once('(').unwrap();
+        let (parameters, rest) = rest.split_once(')').unwrap();
+        let mut list = Vec::new();
+        for parameter in parameters.split(',').map(str::trim).filter(|parameter| !parameter.is_empty()) {
+            let (name, kind) = parameter.split_once(':').unwrap();
+            let (name, kind) = (name.trim(), kind.trim());
+            match kind.strip_suffix(']') {
+                None => list.push((name.to_string(), kind.to_string())),
+                Some(slice) => {
+                    let pointer = slice.replace("&mut [", "*mut ").replace("&[", "*const ");
+                    list.push((name.to_string(), pointer));
+                    list.push((format!("{name}_len"), "usize".to_string()));
+                }
+            }
+        }
+        let result = rest.split_once("->").unwrap().1.split_whitespace().next().unwrap();
+        list.push((String::new(), result.to_string()));
+        all.push((name.to_string(), list));
+    }
+    all
+}
+
+fn read(path: &str) -> String {
+    read_to_string(format!("{}/{path}", env!("CARGO_MANIFEST_DIR"))).unwrap()
+}
+
 #[test]
-fn header_and_wrapper_agree() {
-    let folder = env!("CARGO_MANIFEST_DIR");
-    let header = of_header(&read_to_string(format!("{folder}/../include/parity.h")).unwrap());
-    let wrapper = of_wrapper(&read_to_string(format!("{folder}/src/ffi.rs")).unwrap());
+fn header_wrapper_and_crate_agree() {
+    let header = of_header(&read("../include/parity.h"));
     assert_eq!(header.len(), 12);
-    assert_eq!(header, wrapper);
+    assert_eq!(header, of_wrapper(&read("src/ffi.rs")));
+    let text = read("../crates/capi/src/lib.rt");
+    assert_eq!(text.matches("extern \"C\"").count(), 12);
+    assert_eq!(header, of_crate(&text));
+}
+
+#[test]
+fn header_has_the_numbers_of_the_wrapper() {
+    let header = read("../include/parity.h");
+    let defined: Vec<(&str, usize)> = header
+        .lines()
+        .filter_map(|line| line.strip_prefix("#define PARITY_")?.split_once(' '))
+        .map(|(name, number)| (name, number.trim().parse().unwrap()))
+        .collect();
+    let refusals = [
+        ("MATRIX_LENGTH", Refusal::MatrixLength),
+        ("RANGE", Refusal::Range),
+        ("ONE_OUTSIDE", Refusal::OneOutside),
+        ("RULE_A", Refusal::RuleA),
+        ("FAULTY_WORD", Refusal::FaultyWord { place: 0 }),
+        ("RECORD_SHORT", Refusal::RecordShort { needed: 0 }),
+        ("PAIR", Refusal::Pair),
+        ("SHARE", Refusal::Share { share: 0 }),
+        ("FULL", Refusal::Full),
+        ("LENGTH", Refusal::Length),
+        ("BYTE", Refusal::Byte { place: 0 }),
+        ("CONTRADICTION", Refusal::Contradiction),
+        ("EXTENDED", Refusal::Extended),
+    ];
+    let mut due = vec![
+        ("WORDS", parity::WORDS),
+        ("SENT_MOST", 120),
+        ("CHECKS_MOST", 120),
+        ("ADDED_MOST", 392),
+        ("RECORD_MOST", parity::RECORD_MOST),
+        ("STACK_MOST", parity::STACK_MOST),
+        ("ANSWER", 0),
+    ];
+    due.extend(refusals.map(|(name, refusal)| (name, refusal.number() as usize)));
+    assert_eq!(defined, due);
 }

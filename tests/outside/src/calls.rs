@@ -6,6 +6,8 @@ use crate::elimination;
 use crate::generate;
 use crate::model::{self, Kind, Lent, Matrix, KINDS, WORDS};
 use crate::random::Random;
+use crate::stack;
+use std::thread;
 
 const CALLS: usize = 20_000;
 
@@ -658,6 +660,30 @@ fn every_record(r: &mut Random) -> Result<usize, String> {
     Ok(done)
 }
 
+const THREADS: u64 = 4;
+
+/// Calls of every kind from several threads at once, each on words of its own; gives the number of comparisons.
+pub fn at_once() -> Result<usize, String> {
+    let mut pools = Pools::new(&mut Random::new(7));
+    pools.refresh(&mut Random::new(8));
+    let pools = &pools;
+    let one_thread = move |seed: u64| -> Result<usize, String> {
+        let r = &mut Random::new(seed);
+        let mut done = 0;
+        for _ in 0..300 {
+            for kind in KINDS {
+                compare(&one_call(r, kind, pools), r)?;
+                done += 1;
+            }
+        }
+        Ok(done)
+    };
+    thread::scope(|scope| {
+        let threads: Vec<_> = (0..THREADS).map(|i| scope.spawn(move || one_thread(200 + i))).collect();
+        threads.into_iter().map(|one| one.join().expect("a thread that ends")).sum()
+    })
+}
+
 /// What the replies of one kind were.
 #[derive(Default)]
 struct Tally {
@@ -665,6 +691,8 @@ struct Tally {
     refusals: [usize; 14],
     yes: usize,
     no: usize,
+    /// Peelings that recover some bits and leave others.
+    partly: usize,
 }
 
 /// The kinds named, or all; prints a line for each, and gives the number of comparisons.
@@ -689,6 +717,7 @@ pub fn run(named: &[Kind]) -> Result<usize, String> {
                     Some(1) => tally.yes += 1,
                     _ => {}
                 }
+                tally.partly += (kind == Kind::Peel && !reply.values.contains(&0)) as usize;
             } else {
                 tally.refusals[reply.number as usize] += 1;
             }
@@ -710,10 +739,11 @@ pub fn run(named: &[Kind]) -> Result<usize, String> {
         let refused: Vec<String> =
             kind.refusals().iter().map(|&no| format!("{no}: {}", tally.refusals[no as usize])).collect();
         println!(
-            "  {}: {done} compared; {} answered, refused {} ({:.1} s)",
+            "  {}: {done} compared; {} answered, refused {}; {} bytes of stack ({:.1} s)",
             kind.name(),
             tally.answers,
             refused.join(", "),
+            stack::most(kind),
             start.elapsed().as_secs_f64()
         );
         // The inputs are good and bad in about equal parts, and every refusal was met.
@@ -721,7 +751,8 @@ pub fn run(named: &[Kind]) -> Result<usize, String> {
         let few = kind.refusals().iter().any(|&no| tally.refusals[no as usize] < 100)
             || tally.answers < CALLS * 2 / 5
             || tally.answers > CALLS * 3 / 5
-            || yes_no && (tally.yes < 1000 || tally.no < 1000);
+            || yes_no && (tally.yes < 1000 || tally.no < 1000)
+            || kind == Kind::Peel && tally.partly < 1000;
         if few {
             return Err(format!("the inputs of {} are too much alike: a fault of this program", kind.name()));
         }

@@ -248,23 +248,15 @@ fn methods(t: &mut Tally) -> Result<(), String> {
             t.same("a combination is a codeword", matrix.is_codeword(&code), true)?;
             (0..bits).filter(|&b| word[b] != 2).collect::<Vec<_>>().iter().for_each(|&b| word[b] = code[b]);
         }
-        let erased: Vec<bool> = word.iter().map(|&byte| byte == 2).collect();
+        let erased = model::twos(&word);
         let residue = matrix.residue_by_sets(&erased);
         t.same("the residue", matrix.residue_by_scans(&erased), residue.clone())?;
+        t.same("the residue is a stopping set", matrix.is_stopping(&residue), true)?;
         let peeled = matrix.peel_by_values(&word);
-        t.same("peeling", &matrix.peel_by_scans(&word), &peeled)?;
+        t.same("peeling by scans", &matrix.peel_by_scans(&word), &peeled)?;
+        t.same("peeling by elimination", &matrix.peel_by_elimination(&word), &peeled)?;
         if let Some(peeled) = &peeled {
-            t.same("what is left", peeled.iter().map(|&byte| byte == 2).collect(), residue)?;
-        }
-        // The values outside the residue, by elimination in the checks without residue bits.
-        let mut checked = matrix.clone();
-        for row in &mut checked.rows {
-            if (0..bits).any(|b| row[b] && peeled.as_ref().is_some_and(|peeled| peeled[b] == 2)) {
-                row.fill(false);
-            }
-        }
-        if peeled.is_some() {
-            t.same("peeling and elimination", &elimination::decode(&checked, &word), &peeled)?;
+            t.same("what is left", model::twos(peeled), residue)?;
         }
         // Elimination, against all values of the erased bits.
         let places: Vec<usize> = (0..bits).filter(|&b| word[b] == 2).collect();

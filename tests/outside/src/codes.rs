@@ -4,9 +4,9 @@ use crate::cases;
 use crate::compare::describe;
 use crate::elimination;
 use crate::generate;
-use crate::model::{Kind, Matrix};
+use crate::model::{erased, twos, Kind, Matrix};
 use crate::random::Random;
-use parity::Refusal;
+use parity::{Peeled, Refusal};
 
 /// A parity-check matrix with its name and, if it is known, the dimension of its code.
 struct Code {
@@ -132,43 +132,75 @@ fn fail<T>(code: &Code, matrix: &Matrix, word: &[u8], what: &str) -> Result<T, S
     Err(format!("CODE {} FAILS: {what}\n{}", code.name, describe(&lent)))
 }
 
-/// Peels a received word and holds every bit to the eliminated one.
-fn held(code: &Code, matrix: &Matrix, words: &[u64], received: &[u8], due: Option<&[u8]>) -> Result<usize, String> {
-    let mut word = received.to_vec();
-    let peeled = parity::peel(words, matrix.n, matrix.m, matrix.k, &mut word);
-    match (peeled, due) {
-        (Err(Refusal::Contradiction), None) => Ok(1),
-        (Err(Refusal::Contradiction), Some(_)) => {
-            fail(code, matrix, received, "peeling is refused 12, yet a codeword agrees")
-        }
-        (Err(refused), _) => fail(code, matrix, received, &format!("peeling: {refused}")),
-        (Ok(_), None) => Ok(1),
-        (Ok(peeled), Some(due)) => {
-            for b in 0..due.len() {
-                if word[b] != due[b] && word[b] != 2 {
-                    return fail(
-                        code,
-                        matrix,
-                        received,
-                        &format!("bit {b}: peeled {}, eliminated {}", word[b], due[b]),
-                    );
-                }
-            }
-            let residue: Vec<bool> = word.iter().map(|&byte| byte == 2).collect();
-            if !matrix.is_stopping(&residue) {
-                return fail(code, matrix, received, "what is left is no stopping set");
-            }
-            let left = word.iter().filter(|&&byte| byte == 2).count();
-            let before = received.iter().filter(|&&byte| byte == 2).count();
-            if (peeled.left, peeled.recovered) != (left, before - left) {
-                return fail(code, matrix, received, &format!("the totals are {peeled:?}"));
-            }
-            Ok(due.len())
-        }
-    }
+/// The number of comparisons, and how often peeling was refused, was answered though no codeword agrees, and recovered
+/// some bits and left others.
+#[derive(Default)]
+struct Tally {
+    compared: usize,
+    refused: usize,
+    no_codeword: usize,
+    partly: usize,
 }
 
-fn one_code(r: &mut Random, code: &Code, rounds: usize) -> Result<usize, String> {
+/// Peels a received word: what is left is the residue, and every recovered bit is that of `due`, which is `None` if no
+/// codeword agrees. With `defined`, the reply and the word are those of peeling's definition.
+fn held(
+    tally: &mut Tally,
+    code: &Code,
+    matrix: &Matrix,
+    words: &[u64],
+    received: &[u8],
+    due: Option<&[u8]>,
+    defined: bool,
+) -> Result<(), String> {
+    let mut word = received.to_vec();
+    let peeled = parity::peel(words, matrix.n, matrix.m, matrix.k, &mut word);
+    if defined {
+        let reply = match matrix.peel(received) {
+            None => (Err(Refusal::Contradiction), received.to_vec()),
+            Some(values) => (Ok(totals(received, &values)), values),
+        };
+        if (peeled, &word) != (reply.0, &reply.1) {
+            return fail(code, matrix, received, &format!("peeled {peeled:?} {word:?}, defined {reply:?}"));
+        }
+        tally.compared += 1;
+    }
+    let Ok(peeled) = peeled else {
+        if due.is_some() {
+            return fail(code, matrix, received, &format!("peeling: {peeled:?}, yet a codeword agrees"));
+        }
+        tally.refused += 1;
+        return Ok(());
+    };
+    if peeled != totals(received, &word) {
+        return fail(code, matrix, received, &format!("the totals are {peeled:?}"));
+    }
+    tally.compared += 1;
+    tally.no_codeword += due.is_none() as usize;
+    tally.partly += (peeled.recovered > 0 && peeled.left > 0) as usize;
+    let residue = matrix.residue(&twos(received));
+    for b in 0..received.len() {
+        if (word[b] == 2) != residue[b] {
+            return fail(code, matrix, received, &format!("bit {b} is {}, in the residue: {}", word[b], residue[b]));
+        }
+        tally.compared += 1;
+        if let (Some(due), false) = (due, residue[b]) {
+            if word[b] != due[b] {
+                return fail(code, matrix, received, &format!("bit {b}: peeled {}, due {}", word[b], due[b]));
+            }
+            tally.compared += 1;
+        }
+    }
+    Ok(())
+}
+
+/// How many bits were recovered and how many are left.
+fn totals(received: &[u8], word: &[u8]) -> Peeled {
+    let left = erased(word);
+    Peeled { recovered: erased(received) - left, left }
+}
+
+fn one_code(r: &mut Random, tally: &mut Tally, code: &Code, rounds: usize) -> Result<(), String> {
     let matrix = &code.matrix;
     let (n, m) = (matrix.n, matrix.m);
     let words = matrix.pack();
@@ -176,17 +208,17 @@ fn one_code(r: &mut Random, code: &Code, rounds: usize) -> Result<usize, String>
     if code.dimension.is_some_and(|dimension| dimension != basis.len()) {
         return fail(code, matrix, &[], &format!("dimension {}: a fault of this program", basis.len()));
     }
-    let mut done = 1;
+    tally.compared += code.dimension.is_some() as usize;
     let rank = parity::rank(&words, n, m, 0);
     if rank != Ok(n - basis.len()) {
         return fail(code, matrix, &[], &format!("rank {rank:?}, dimension {}", basis.len()));
     }
-    done += 1;
+    tally.compared += 1;
     let count = parity::count(&words, n, m, 0);
     if count != Ok(matrix.cycles()) {
         return fail(code, matrix, &[], &format!("count {count:?}, by the model {}", matrix.cycles()));
     }
-    done += 1;
+    tally.compared += 1;
     let mut extended_words = words.clone();
     let k = match parity::orthogonalise(&mut extended_words, n, m, 0) {
         Ok(done) => done.k,
@@ -203,12 +235,12 @@ fn one_code(r: &mut Random, code: &Code, rounds: usize) -> Result<usize, String>
         if encoded != Ok(()) || word != sent {
             return fail(code, matrix, &sent, &format!("encoding {message:?}: {encoded:?} {word:?}"));
         }
-        done += 1;
+        tally.compared += 1;
         let yes = parity::verify(&words, n, m, 0, &sent);
         if yes != Ok(true) {
             return fail(code, matrix, &sent, &format!("verifying: {yes:?}"));
         }
-        done += 1;
+        tally.compared += 1;
         let mut received = sent.clone();
         let part = r.pick(&[50, 100, 200, 300, 450, 600, 1000]);
         received.iter_mut().for_each(|byte| {
@@ -218,42 +250,52 @@ fn one_code(r: &mut Random, code: &Code, rounds: usize) -> Result<usize, String>
         });
         // Now and then a bit is false, so that perhaps no codeword agrees.
         let wrong = r.below(n);
-        if round % 8 == 7 && received[wrong] != 2 {
+        let damaged = round % 8 == 7;
+        if damaged && received[wrong] != 2 {
             received[wrong] ^= 1;
         }
         let due = elimination::decode(matrix, &received);
-        if round % 8 != 7 {
+        if !damaged {
             let agrees = due.as_ref().is_some_and(|due| (0..n).all(|b| due[b] == 2 || due[b] == sent[b]));
             if !agrees {
                 return fail(code, matrix, &received, "elimination misses the codeword: a fault of this program");
             }
         }
-        done += held(code, matrix, &words, &received, due.as_deref())?;
+        held(tally, code, matrix, &words, &received, due.as_deref(), damaged)?;
         let mut longer = received.clone();
         longer.resize(n + k, 2);
-        if round % 16 == 0 {
+        if damaged || round % 16 == 0 {
             // The sent bits that the extended matrix fixes are those that the given one fixes.
             let all = elimination::decode(&extended, &longer);
             if all.as_ref().map(|all| &all[..n]) != due.as_deref() {
                 return fail(code, &extended, &longer, "elimination differs between the given and the extended matrix");
             }
-            done += held(code, &extended, &extended_words, &longer, all.as_deref())?;
+            tally.compared += 1;
+            held(tally, code, &extended, &extended_words, &longer, all.as_deref(), true)?;
         } else {
-            done += held(code, &extended, &extended_words, &longer, due.as_deref())?;
+            let whole = extended.extend(&sent);
+            held(tally, code, &extended, &extended_words, &longer, Some(&whole), false)?;
         }
     }
-    Ok(done)
+    Ok(())
 }
 
-/// The number of comparisons.
-pub fn run() -> Result<usize, String> {
+/// The number of comparisons, and a note on what they met.
+pub fn run() -> Result<(usize, String), String> {
     let r = &mut Random::new(5);
-    let mut done = 0;
+    let mut tally = Tally::default();
     for code in published() {
-        done += one_code(r, &code, 240)?;
+        one_code(r, &mut tally, &code, 240)?;
     }
     for code in random_codes(r) {
-        done += one_code(r, &code, 100)?;
+        one_code(r, &mut tally, &code, 100)?;
     }
-    Ok(done)
+    let Tally { compared, refused, no_codeword, partly } = tally;
+    if refused < 100 || no_codeword < 100 || partly < 100 {
+        return Err(format!("the words are too much alike, {refused} {no_codeword} {partly}: a fault of this program"));
+    }
+    let note = format!(
+        "{refused} words refused 12, {no_codeword} answered though no codeword agrees, {partly} recovered in part"
+    );
+    Ok((compared, note))
 }

@@ -6,7 +6,7 @@ use crate::cases;
 use crate::compare::{compare, describe};
 use crate::elimination;
 use crate::generate;
-use crate::model::{Kind, Matrix};
+use crate::model::{twos, Kind, Matrix};
 use crate::random::Random;
 use parity::Refusal;
 
@@ -170,28 +170,34 @@ impl Run {
         Ok((0..30).map(|_| elimination::combine(&basis, n, || r.chance(500))).collect())
     }
 
-    /// Both peelings of a codeword with bytes made 2.
-    fn peelings(&mut self, code: &[u8], received: &[u8]) -> Result<(), String> {
+    /// Both peelings of a codeword with bytes made 2: what is left is the residue, what is recovered is as it was sent.
+    fn peelings(&mut self, extended: &Matrix, code: &[u8], received: &[u8]) -> Result<(), String> {
         let (n, m, k) = (self.given.n, self.given.m, self.k);
-        let mut given = received.to_vec();
-        let mut extended = received.to_vec();
-        extended.resize(n + k, 2);
-        if let Err(refused) = parity::peel(&self.given_words, n, m, 0, &mut given) {
+        let mut short = received.to_vec();
+        let mut long = received.to_vec();
+        long.resize(n + k, 2);
+        let residue = extended.residue(&twos(&long));
+        if let Err(refused) = parity::peel(&self.given_words, n, m, 0, &mut short) {
             return self.fail(&format!("peeling {received:?} with the given matrix: {refused}"));
         }
-        if let Err(refused) = parity::peel(&self.words, n, m, k, &mut extended) {
+        if let Err(refused) = parity::peel(&self.words, n, m, k, &mut long) {
             return self.fail(&format!("peeling {received:?} with the extended matrix: {refused}"));
         }
         let whole = self.extend(code)?;
         for b in 0..n + k {
-            let right = extended[b] == 2 || extended[b] == whole[b];
-            self.fact(right, || format!("{received:?} of {code:?}: bit {b} recovered as {}", extended[b]))?;
+            let due = if residue[b] { 2 } else { whole[b] };
+            self.fact(long[b] == due, || format!("{received:?} of {code:?}: extended, bit {b} is {}", long[b]))?;
         }
+        let residue = self.given.residue(&twos(received));
         for b in 0..n {
-            let right = given[b] == 2 || given[b] == code[b];
-            self.fact(right, || format!("{received:?} of {code:?}: bit {b} recovered as {}", given[b]))?;
-            let no_less = extended[b] != 2 || given[b] == 2;
-            self.fact(no_less, || format!("{received:?} of {code:?}: bit {b} is left by the extended matrix only"))?;
+            let due = if residue[b] { 2 } else { code[b] };
+            self.fact(short[b] == due, || format!("{received:?} of {code:?}: given, bit {b} is {}", short[b]))?;
+            if long[b] == 2 {
+                let no_less = short[b] == 2;
+                self.fact(no_less, || {
+                    format!("{received:?} of {code:?}: bit {b} is left by the extended matrix only")
+                })?;
+            }
         }
         Ok(())
     }
@@ -244,7 +250,7 @@ fn small(r: &mut Random) -> Result<usize, String> {
         for code in &codewords {
             for number in 0..1u32 << n {
                 let received: Vec<u8> = (0..n).map(|b| if number >> b & 1 == 1 { 2 } else { code[b] }).collect();
-                run.peelings(code, &received)?;
+                run.peelings(&extended, code, &received)?;
             }
         }
     } else {
@@ -252,7 +258,7 @@ fn small(r: &mut Random) -> Result<usize, String> {
             let code = r.pick(&codewords);
             let mut received = code.clone();
             erase(r, &mut received, n);
-            run.peelings(&code, &received)?;
+            run.peelings(&extended, &code, &received)?;
         }
     }
     Ok(facts + run.facts)
@@ -278,6 +284,7 @@ fn large(r: &mut Random, given: Matrix, way: usize) -> Result<usize, String> {
     }
     run.cycles(r)?;
     let codewords = run.by_rank(r)?;
+    let extended = Matrix::read(&run.words, n, run.given.m, run.k);
     for code in &codewords {
         let mut received = code.clone();
         let part = r.below(800);
@@ -286,7 +293,7 @@ fn large(r: &mut Random, given: Matrix, way: usize) -> Result<usize, String> {
                 *byte = 2
             }
         });
-        run.peelings(code, &received)?;
+        run.peelings(&extended, code, &received)?;
     }
     Ok(run.facts)
 }

@@ -1,6 +1,7 @@
-//! Calls of the library through its C interface, on slices with guarded margins.
+//! Calls of the library through its C interface, on slices with guarded margins and on a painted stack.
 
 use crate::model::{Kind, Lent};
+use crate::stack;
 use parity::ffi;
 
 const MARGIN: usize = 8;
@@ -52,42 +53,46 @@ pub fn call(lent: &mut Lent, values: &mut [u64]) -> Result<u32, String> {
     let (input_ptr, input_len) = (input.content_mut() as *const u8, input.len());
     let (word_ptr, word_len) = (word.content_mut(), word.len());
     let (values_ptr, values_len) = (carried.content_mut(), carried.len());
+    let mut number = 0;
     // Every pointer and length is that of a live vector's part, and no two overlap.
-    let number: u32 = unsafe {
-        match lent.kind {
-            Kind::Load => ffi::parity_load(record_ptr, record_len, words_ptr, words_len, values_ptr, values_len),
-            Kind::Write => {
-                ffi::parity_write(words_ptr, words_len, n, m, k, record_ptr, record_len, values_ptr, values_len)
+    let held = stack::held(lent.kind, || {
+        number = unsafe {
+            match lent.kind {
+                Kind::Load => ffi::parity_load(record_ptr, record_len, words_ptr, words_len, values_ptr, values_len),
+                Kind::Write => {
+                    ffi::parity_write(words_ptr, words_len, n, m, k, record_ptr, record_len, values_ptr, values_len)
+                }
+                Kind::Share => ffi::parity_share(words_ptr, words_len, n, m, k, u, v, values_ptr, values_len),
+                Kind::Count => ffi::parity_count(words_ptr, words_len, n, m, k, values_ptr, values_len),
+                Kind::Split => ffi::parity_split(words_ptr, words_len, n, m, k, u, v, values_ptr, values_len),
+                Kind::Orthogonalise => ffi::parity_orthogonalise(words_ptr, words_len, n, m, k, values_ptr, values_len),
+                Kind::Verify => {
+                    ffi::parity_verify(words_ptr, words_len, n, m, k, input_ptr, input_len, values_ptr, values_len)
+                }
+                Kind::Extend => ffi::parity_extend(
+                    words_ptr, words_len, n, m, k, input_ptr, input_len, word_ptr, word_len, values_ptr, values_len,
+                ),
+                Kind::IsStopping => {
+                    ffi::parity_is_stopping(words_ptr, words_len, n, m, k, input_ptr, input_len, values_ptr, values_len)
+                }
+                Kind::Peel => {
+                    ffi::parity_peel(words_ptr, words_len, n, m, k, word_ptr, word_len, values_ptr, values_len)
+                }
+                Kind::Rank => ffi::parity_rank(words_ptr, words_len, n, m, k, values_ptr, values_len),
+                Kind::Encode => ffi::parity_encode(
+                    words_ptr, words_len, n, m, k, input_ptr, input_len, word_ptr, word_len, values_ptr, values_len,
+                ),
             }
-            Kind::Share => ffi::parity_share(words_ptr, words_len, n, m, k, u, v, values_ptr, values_len),
-            Kind::Count => ffi::parity_count(words_ptr, words_len, n, m, k, values_ptr, values_len),
-            Kind::Split => ffi::parity_split(words_ptr, words_len, n, m, k, u, v, values_ptr, values_len),
-            Kind::Orthogonalise => ffi::parity_orthogonalise(words_ptr, words_len, n, m, k, values_ptr, values_len),
-            Kind::Verify => {
-                ffi::parity_verify(words_ptr, words_len, n, m, k, input_ptr, input_len, values_ptr, values_len)
-            }
-            Kind::Extend => ffi::parity_extend(
-                words_ptr, words_len, n, m, k, input_ptr, input_len, word_ptr, word_len, values_ptr, values_len,
-            ),
-            Kind::IsStopping => {
-                ffi::parity_is_stopping(words_ptr, words_len, n, m, k, input_ptr, input_len, values_ptr, values_len)
-            }
-            Kind::Peel => ffi::parity_peel(words_ptr, words_len, n, m, k, word_ptr, word_len, values_ptr, values_len),
-            Kind::Rank => ffi::parity_rank(words_ptr, words_len, n, m, k, values_ptr, values_len),
-            Kind::Encode => ffi::parity_encode(
-                words_ptr, words_len, n, m, k, input_ptr, input_len, word_ptr, word_len, values_ptr, values_len,
-            ),
         }
-    };
+    });
     lent.words.copy_from_slice(words.content());
     lent.record.copy_from_slice(record.content());
     lent.input.copy_from_slice(input.content());
     lent.word.copy_from_slice(word.content());
     values.copy_from_slice(carried.content());
     let intact = words.intact() && record.intact() && input.intact() && word.intact() && carried.intact();
-    if intact {
-        Ok(number)
-    } else {
-        Err("the library wrote outside a lent slice".to_string())
+    if !intact {
+        return Err("the library wrote outside a lent slice".to_string());
     }
+    held.map(|_| number)
 }

@@ -1,7 +1,7 @@
-//! Tests of the library from outside. `outside` runs all parts; `outside model`, `calls`, `demand3`, `codes`, `mend`
-//! run the parts named, and the name of a call, as `outside peel`, runs that kind of call alone. Ends with a status that
-//! is not 0 at the first difference, with the whole input that shows it. OUTSIDE_LAST=FILE keeps the input of the last
-//! call in FILE.
+//! Tests of the library from outside. `outside` runs all parts; `outside model`, `calls`, `stack`, `demand3`, `codes`,
+//! `mend` run the parts named, and the name of a call, as `outside peel`, runs that kind of call alone. Ends with a
+//! status that is not 0 at the first difference, with the whole input that shows it. OUTSIDE_LAST=FILE keeps the input
+//! of the last call in FILE.
 
 #![allow(clippy::needless_range_loop)]
 
@@ -16,12 +16,13 @@ mod library;
 mod mend;
 mod model;
 mod random;
+mod stack;
 
 use model::{Kind, KINDS};
 use std::process::ExitCode;
 use std::time::Instant;
 
-const PARTS: [&str; 5] = ["model", "calls", "demand3", "codes", "mend"];
+const PARTS: [&str; 6] = ["model", "calls", "stack", "demand3", "codes", "mend"];
 
 /// What became of a part: its number of comparisons and a note, or why it was skipped.
 enum Outcome {
@@ -33,9 +34,13 @@ fn same(result: Result<usize, String>) -> Result<Outcome, String> {
     result.map(|number| Outcome::Same(number, String::new()))
 }
 
+fn noted(result: Result<(usize, String), String>) -> Result<Outcome, String> {
+    result.map(|(number, note)| Outcome::Same(number, note))
+}
+
 fn mend() -> Result<Outcome, String> {
     match mend::program() {
-        Some(path) => mend::run(&path).map(|(number, note)| Outcome::Same(number, note)),
+        Some(path) => noted(mend::run(&path)),
         None => {
             let how = "the program is missing: run `rt check mend` in the root of the repository, or set PARITY_MEND to its path";
             Ok(Outcome::Skipped(how.to_string()))
@@ -47,8 +52,9 @@ fn run(part: &str, kinds: &[Kind]) -> Result<Outcome, String> {
     match part {
         "model" => same(cases::run()),
         "calls" => same(calls::run(kinds)),
+        "stack" => noted(stack::run()),
         "demand3" => same(demand3::run()),
-        "codes" => same(codes::run()),
+        "codes" => noted(codes::run()),
         _ => mend(),
     }
 }

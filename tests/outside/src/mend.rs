@@ -6,6 +6,7 @@ use crate::elimination;
 use crate::generate;
 use crate::model::{self, Matrix};
 use crate::random::Random;
+use std::collections::BTreeMap;
 use std::env;
 use std::io::{Read, Write};
 use std::path::{Path, PathBuf};
@@ -193,7 +194,15 @@ fn chosen(r: &mut Random) -> Vec<Vec<u8>> {
     all
 }
 
-/// The number of inputs compared, and a note on the slowest.
+/// The number that an output refuses with, 0 for an answer.
+fn refusal(output: &[u8]) -> u32 {
+    match output.strip_prefix(b"REFUSED ") {
+        None => 0,
+        Some(line) => String::from_utf8_lossy(line).trim_end().parse().expect("a number"),
+    }
+}
+
+/// The number of inputs compared, and a note on what they met and on the slowest.
 pub fn run(path: &Path) -> Result<(usize, String), String> {
     let r = &mut Random::new(6);
     let large = [
@@ -208,11 +217,10 @@ pub fn run(path: &Path) -> Result<(usize, String), String> {
         inputs.push(random_input(r, &large));
     }
     let mut slowest = Duration::ZERO;
-    let mut refused = 0;
+    let mut replies = BTreeMap::new();
     for (number, input) in inputs.iter().enumerate() {
         let piece = if number % 16 == 0 && input.len() < 300 { r.between(1, 7) } else { input.len().max(1) };
         let due = model::mend(input);
-        refused += due.starts_with(b"REFUSED") as usize;
         let start = Instant::now();
         let found = output(path, input, piece, false);
         if piece >= input.len() {
@@ -227,6 +235,12 @@ pub fn run(path: &Path) -> Result<(usize, String), String> {
                 input.len()
             ));
         }
+        *replies.entry(refusal(&due)).or_insert(0) += 1;
+    }
+    for number in [0, 5, 9, 10, 11, 12, 14] {
+        if !replies.contains_key(&number) {
+            return Err(format!("mend was never refused {number} (0: never answered): a fault of this program"));
+        }
     }
     // A closed output: it ends.
     for input in &inputs[..8] {
@@ -238,6 +252,7 @@ pub fn run(path: &Path) -> Result<(usize, String), String> {
             }
         })?;
     }
-    let note = format!("{refused} refused, slowest {} ms", slowest.as_millis());
+    let met: Vec<String> = replies.iter().map(|(number, times)| format!("{number}: {times}")).collect();
+    let note = format!("answered as 0 and refused {}; slowest {} ms", met.join(", "), slowest.as_millis());
     Ok((inputs.len(), note))
 }

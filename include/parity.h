@@ -31,9 +31,8 @@
  * EMBEDDING. A call takes no memory from the heap and makes no system call. It
  * keeps no state: what it answers depends on its arguments alone, so that any
  * number of threads may call at once, each on slices that no other call writes.
- * A call needs at most PARITY_STACK_MOST bytes of stack (the most that the tests
- * saw was 45,528, for parity_orthogonalise). Every call ends. The archive's
- * objects call nothing outside themselves but memset and its like.
+ * A call needs at most PARITY_STACK_MOST bytes of stack. Every call ends. The
+ * archive's objects call nothing outside themselves but memset and its like.
  */
 #ifndef PARITY_H
 #define PARITY_H

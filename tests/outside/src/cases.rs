@@ -214,6 +214,43 @@ fn bench(t: &mut Tally) -> Result<(), String> {
     t.same("mend, word too long", model::mend(&input), b"REFUSED 10\n".to_vec())
 }
 
+/// The residue and peeling by their definitions, against the methods that serve for many erased bits.
+fn peelings(t: &mut Tally, matrix: &Matrix, word: &[u8]) -> Result<(), String> {
+    let erased = model::twos(word);
+    let residue = matrix.residue_by_sets(&erased);
+    t.same("the residue", &matrix.residue_by_scans(&erased), &residue)?;
+    t.same("the residue is a stopping set", matrix.is_stopping(&residue), true)?;
+    let peeled = matrix.peel_by_values(word);
+    t.same("peeling by scans", &matrix.peel_by_scans(word), &peeled)?;
+    t.same("peeling by elimination", &matrix.peel_by_elimination(word), &peeled)?;
+    if let Some(peeled) = &peeled {
+        t.same("what is left", model::twos(peeled), residue)?;
+    }
+    Ok(())
+}
+
+/// The same on larger matrices, with ten bits erased of a codeword or of any word.
+fn larger(t: &mut Tally) -> Result<(), String> {
+    let mut r = Random::new(9);
+    for i in 0..100 {
+        let (n, m, part) = (r.between(12, 50), r.between(8, 40), r.pick(&[40, 80, 150]));
+        let mut matrix = generate::given(&mut r, n, m, part);
+        if i % 2 == 0 {
+            generate::split_some(&mut r, &mut matrix, 12);
+        }
+        let bits = matrix.bits();
+        let mut word = elimination::combine(&elimination::basis(&matrix), bits, || r.chance(500));
+        if i % 4 == 3 {
+            word = r.bits(bits);
+        }
+        for _ in 0..10 {
+            word[r.below(bits)] = 2;
+        }
+        peelings(t, &matrix, &word)?;
+    }
+    Ok(())
+}
+
 /// The quick methods of the model against the definitions, on small random matrices.
 fn methods(t: &mut Tally) -> Result<(), String> {
     let mut r = Random::new(2);
@@ -248,16 +285,7 @@ fn methods(t: &mut Tally) -> Result<(), String> {
             t.same("a combination is a codeword", matrix.is_codeword(&code), true)?;
             (0..bits).filter(|&b| word[b] != 2).collect::<Vec<_>>().iter().for_each(|&b| word[b] = code[b]);
         }
-        let erased = model::twos(&word);
-        let residue = matrix.residue_by_sets(&erased);
-        t.same("the residue", matrix.residue_by_scans(&erased), residue.clone())?;
-        t.same("the residue is a stopping set", matrix.is_stopping(&residue), true)?;
-        let peeled = matrix.peel_by_values(&word);
-        t.same("peeling by scans", &matrix.peel_by_scans(&word), &peeled)?;
-        t.same("peeling by elimination", &matrix.peel_by_elimination(&word), &peeled)?;
-        if let Some(peeled) = &peeled {
-            t.same("what is left", model::twos(peeled), residue)?;
-        }
+        peelings(t, &matrix, &word)?;
         // Elimination, against all values of the erased bits.
         let places: Vec<usize> = (0..bits).filter(|&b| word[b] == 2).collect();
         let mut agreeing: Option<Vec<u8>> = None;
@@ -291,5 +319,6 @@ pub fn run() -> Result<usize, String> {
     let mut tally = Tally(0);
     bench(&mut tally)?;
     methods(&mut tally)?;
+    larger(&mut tally)?;
     Ok(tally.0)
 }

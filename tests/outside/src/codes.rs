@@ -226,6 +226,14 @@ fn one_code(r: &mut Random, tally: &mut Tally, code: &Code, rounds: usize) -> Re
         Err(refused) => return fail(code, matrix, &[], &format!("orthogonalise: {refused}")),
     };
     let extended = Matrix::read(&extended_words, n, m, k);
+    if n <= 40 {
+        let mut defined = matrix.clone();
+        defined.orthogonalise();
+        if extended != defined {
+            return fail(code, matrix, &[], "orthogonalising leaves another matrix than the model");
+        }
+        tally.compared += 1;
+    }
     for round in 0..rounds {
         let sent = elimination::combine(&basis, n, || r.chance(500));
         let parity_bits = matrix.parity_bits();

@@ -127,7 +127,10 @@ impl Run {
         let mut codewords = Vec::new();
         for number in 0..1u32 << n {
             let sent: Vec<u8> = (0..n).map(|b| (number >> b & 1) as u8).collect();
-            if self.verify_given(&sent)? {
+            let yes = self.verify_given(&sent)?;
+            let due = self.given.is_codeword(&sent);
+            self.fact(yes == due, || format!("verifying {sent:?} says {yes}"))?;
+            if yes {
                 self.extends(&sent)?;
                 codewords.push(sent);
             }

@@ -5,8 +5,8 @@ mod orthogonal;
 use crate::merge::split_pair;
 use crate::orthogonal::Course;
 use crate::orthogonal::repeat;
-use cycles::is_pair;
-use cycles::shared;
+use cycles::pairs::is_pair;
+use cycles::pairs::share_of;
 use matrix::Acceptance;
 use matrix::accept;
 use parity::Bit;
@@ -40,7 +40,7 @@ fn split_accepted(words: &mut [u64], n: usize, m: usize, k: usize, u: Bit, v: Bi
     if !is_pair(bits, u, v) {
         return Splitting::Refused(Refusal::NotAPair);
     }
-    let share = shared(words, checks, u, v);
+    let share = share_of(words, checks, u, v);
     if share < 2 {
         return Splitting::Refused(Refusal::ShareBelowTwo { share });
     }

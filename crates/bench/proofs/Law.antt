@@ -13,12 +13,15 @@ use Rattle.parity.specs.Cycles.{share, cycles, Orthogonalised, orthogonal}
 use Rattle.parity.specs.Words.{erased, isOne, steps, agrees}
 use Rattle.parity.specs.Record.{Loaded, faulty, loaded, loading}
 use Rattle.parity.specs.Encoding.{rankOf, encoded}
-use Rattle.parity.specs.Causes.{Reply, answer, refusal, accepting}
+use Rattle.parity.specs.Causes.{answer, refusal}
 use Rattle.parity.specs.Calls.{byteOf, notPair, wrongByte, loadedReply, loadOutcome, splitReply, splitOutcome, orthogonalisedReply}
 use Rattle.parity.proofs.Sound.{Sound}
 use Rattle.parity.proofs.Orthogonal.{orthogonal-sound}
-use Rattle.parity.proofs.Accept.{Accepted, accepts, accepting-answers}
-use Rattle.parity.proofs.Replies.{Word, right-bytes, counts, orthogonalises as all-orthogonalises, peel-made, peel-refused, ranks, encodes-list}
+use Rattle.parity.proofs.Accept.{Accepted, passes}
+use Rattle.parity.proofs.Bytes.{right-bytes, Word}
+use Rattle.parity.proofs.Splitting.{counts, orthogonalises as all-orthogonalises}
+use Rattle.parity.proofs.Peeling.{peel-made, peel-refused}
+use Rattle.parity.proofs.Messages.{ranks, encodes-list}
 use Rattle.parity.proofs.Steps.{Ended, peel-steps}
 use Rattle.bench.specs.Case.{listed, Lent, Case, wordsOf, counting, orthogonalising, splitting-no-pair, splitting-below-two, peeling, peeling-contradiction, ranking, encoding, loading-faulty, Holds, AllHold}
 use Rattle.bench.specs.Test.{sameList, fits, agree, orthogonalises, isWord, peelsTo, faultyAt, test, tests}
@@ -68,9 +71,6 @@ module _ (g : Lent) (f : fits (g .n) (g .m) (g .k) (g .checks) ≡ true) where
   same : lent 8 ws ≡ h
   same = held (g .n) (g .m) (g .k) (g .checks) f
 
-  passes : (r : Reply) → accepting ws (g .n) (g .m) (g .k) r ≡ r
-  passes r = accepting-answers ws (g .n) (g .m) (g .k) r (accepts ws (g .n) (g .m) (g .k) .1 A)
-
   law-counting : (c : ℕ) → eqb (cycles h N M) c ≡ true → Holds (counting g c)
   law-counting c e = counts ws (g .n) (g .m) (g .k) A ∙ rw (same, eqb-true (cycles h N M) c e)
 
@@ -84,11 +84,11 @@ module _ (g : Lent) (f : fits (g .n) (g .m) (g .k) (g .checks) ≡ true) where
 
   law-no-pair : (u v : ℕ) → notPair N u v ≡ true → Holds (splitting-no-pair g u v)
   unfolding splitOutcome splitReply
-  law-no-pair u v e = rw (passes, e)
+  law-no-pair u v e = rw (passes ws (g .n) (g .m) (g .k) A, e)
 
   law-below-two : (u v s : ℕ) → notPair N u v ≡ false → eqb (share h M u v) s ≡ true → ltb s 2 ≡ true → Holds (splitting-below-two g u v s)
   unfolding splitOutcome splitReply
-  law-below-two u v s e q l = rw (passes, e, same, eqb-true (share h M u v) s q, l)
+  law-below-two u v s e q l = rw (passes ws (g .n) (g .m) (g .k) A, e, same, eqb-true (share h M u v) s q, l)
 
   module _ (w : List ℕ) (i : isWord N 2 w ≡ true) where
     W : Word N 2 w

@@ -1,5 +1,4 @@
 -- Document 01, 'Matrices on the bench': cases A to K. Each list is the bits of a check. Assumes nothing.
-use Prim.Native.Nat.{ℕ}
 use mathlib.Core.List.{List, [], _∷_}
 use Rattle.bench.specs.Case.{Lent, Case, counting, orthogonalising, splitting-no-pair, splitting-below-two, peeling, peeling-contradiction, ranking, encoding, loading-faulty}
 
@@ -8,8 +7,9 @@ abbrev pub matrixA : Lent
 matrixA = record { n = 7; m = 3; k = 0; checks = (0 ∷ 3 ∷ 4 ∷ 6 ∷ []) ∷ (1 ∷ 3 ∷ 5 ∷ 6 ∷ []) ∷ (2 ∷ 4 ∷ 5 ∷ 6 ∷ []) ∷ [] }
 
 -- B: A orthogonalised
-abbrev pub checksB : List (List ℕ)
-checksB = (0 ∷ 4 ∷ 7 ∷ []) ∷ (1 ∷ 5 ∷ 7 ∷ []) ∷ (2 ∷ 4 ∷ 5 ∷ 6 ∷ []) ∷ (3 ∷ 6 ∷ 7 ∷ []) ∷ []
+abbrev pub matrixB : Lent
+matrixB =
+    record { n = 7; m = 3; k = 1; checks = (0 ∷ 4 ∷ 7 ∷ []) ∷ (1 ∷ 5 ∷ 7 ∷ []) ∷ (2 ∷ 4 ∷ 5 ∷ 6 ∷ []) ∷ (3 ∷ 6 ∷ 7 ∷ []) ∷ [] }
 
 -- C (document 000, Example 2)
 abbrev pub matrixC : Lent
@@ -40,7 +40,7 @@ table =
     -- A
     counting matrixA 3
     -- B
-    ∷ orthogonalising matrixA 1 1 1 checksB
+    ∷ orthogonalising matrixA 1 1 1 (matrixB .checks)
     -- C
     ∷ counting matrixC 2
     ∷ peeling matrixC (2 ∷ 2 ∷ 2 ∷ 1 ∷ 1 ∷ 1 ∷ 1 ∷ []) 0 3 (2 ∷ 2 ∷ 2 ∷ 1 ∷ 1 ∷ 1 ∷ 1 ∷ [])

@@ -1,4 +1,5 @@
--- The computed test of a case: the definitions on the matrix itself, and peeling by steps. Assumes nothing.
+-- The computed test of a case: the definitions on the matrix itself, and peeling by steps. It is no part of the statement, which is
+-- `AllHold table` of Case and Table; that a case whose test is true holds is `law` of proofs/Law. Assumes nothing.
 use Prim.Native.Nat.{ℕ, _+_, _-_}
 use mathlib.Core.Bool.{Bool, true, false, not, _&&_, Bool·beq}
 use mathlib.Core.List.{List, [], _∷_}

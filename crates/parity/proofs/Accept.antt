@@ -113,6 +113,9 @@ pub accepting-answers : (ws : List ℕ) (n m k : ℕ) (after : Reply) → cause 
 unfolding accepting
 accepting-answers ws n m k after e = rw e
 
+pub passes : (ws : List ℕ) (n m k : ℕ) → Accepted ws n m k → (after : Reply) → accepting ws n m k after ≡ after
+passes ws n m k A after = accepting-answers ws n m k after (accepts ws n m k .1 A)
+
 pub accepting-refuses : (ws : List ℕ) (n m k : ℕ) (after : Reply) → (cause ws n m k ≡ 0 → ⊥) → accepting ws n m k after ≡ refusal (cause ws n m k) []
 unfolding accepting
 accepting-refuses ws n m k after d = rw (ne-eqb (cause ws n m k) 0 d)

@@ -10,9 +10,9 @@ use Rattle.parity.specs.Causes.{Reply, answer, refusalOf, accepting}
 use Rattle.parity.specs.Calls.{wrongByte, checkingBytes}
 use Rattle.parity.specs.declared.Refusal.{Refusal}
 use Rattle.parity.proofs.Sums.{is-true, is-false, is}
-use Rattle.parity.proofs.Accept.{Accepted, accepts, accepting-answers, accepting-refuses}
+use Rattle.parity.proofs.Accept.{Accepted, accepts, accepting-answers, passes, accepting-refuses}
 use Rattle.parity.proofs.Refused.{refused-number}
-use Rattle.parity.proofs.Replies.{Word, read-word}
+use Rattle.parity.proofs.Bytes.{Word, read-word}
 
 module _ (ws : List ℕ) (n m k : ℕ) where
   -- an answer behind causes 1 to 4
@@ -28,7 +28,7 @@ module _ (ws : List ℕ) (n m k : ℕ) where
     pub admitted : answer [] ≡ accepting ws n m k (checkingBytes N top w (answer [])) → Accepted ws n m k × Word N top w
     admitted e =
         let A = accepted-number (checkingBytes N top w (answer [])) (ap (λ r. r .number) (sym e)) in
-        let f = e ∙ accepting-answers ws n m k (checkingBytes N top w (answer [])) (accepts ws n m k .1 A) in
+        let f = e ∙ passes ws n m k A (checkingBytes N top w (answer [])) in
         (A, read-word N top w (answer []) (ap (λ r. r .number) (sym f)) .0)
 
     -- a refusal by one of them

@@ -3,28 +3,27 @@ use mathlib.Core.Path.{_≡_, refl, sym, ap, _∙_}
 use mathlib.Core.Logic.{_↔_}
 use mathlib.Core.Bool.{Bool, true, false, false≢true}
 use mathlib.Core.List.{List, [], _∷_}
-use Prim.Native.Nat.{ℕ, suc, _+_, _-_, _%_, _≤_, _<_}
+use Prim.Native.Nat.{ℕ, suc, _+_, _%_, _≤_, _<_}
 use native.Mathlib.Nat.{add-suc, add-zero, add-assoc}
 use native.Mathlib.Omega.{arith}
-use native.Mathlib.Decide.{ℕ-discrete}
-use lib.Dec.{ltb}
-use borrow.Author.Tests.{eq-eqb, ne-eqb, ltb-false}
+use native.Mathlib.Decide.{ℕ-discrete, decLt}
+use borrow.Author.Tests.{ne-eqb}
 use Rattle.parity.specs.Matrix.{Matrix, lent}
 use Rattle.parity.specs.Cycles.{share, pairs, cycles, splitOf, Orthogonalised, orthogonal}
 use Rattle.parity.specs.Words.{inside}
-use Rattle.parity.specs.Causes.{Reply, refusal, accepting}
-use Rattle.parity.specs.Calls.{notPair, splitReply, splitOutcome, orthogonalisedReply}
+use Rattle.parity.specs.Causes.{Reply, refusal}
+use Rattle.parity.specs.Calls.{notPair, splitOutcome, orthogonalisedReply, orthogonalising}
 use Rattle.parity.specs.Demand3.{Call, splits, orthogonalises, orthogonalise-said, Stand, splitAdds, splitK, orthogonaliseAdds, orthogonaliseK, next, runs, start}
 use Rattle.parity.proofs.Sums.{is-true, is-false, is}
 use Rattle.parity.proofs.Split.{sum-even, Stops, Even, split-stops, split-even, inside-new, inside-apart}
 use Rattle.parity.proofs.Cycles.{split-cycles}
 use Rattle.parity.proofs.Rule.{old-apart}
 use Rattle.parity.proofs.Sound.{Sound, sound-rule, split-sound}
-use Rattle.parity.proofs.Accept.{Accepted, accepts, accepting-answers}
+use Rattle.parity.proofs.Accept.{Accepted}
 use Rattle.parity.proofs.Pick.{picked}
 use Rattle.parity.proofs.Orthogonal.{keeps, finished-cycles}
 use Rattle.parity.proofs.Extend.{Added}
-use Rattle.parity.proofs.Replies.{is-pair, split-made, split-accepted, split-lent, orthogonalises as orthogonalise-made, orthogonal-accepted, orthogonal-lent, orthogonal-ends}
+use Rattle.parity.proofs.Splitting.{is-pair, split-made, split-accepted, split-lent, split-no-pair, split-low-share, split-no-room, orthogonalises as orthogonalise-made, orthogonal-accepted, orthogonal-lent, orthogonal-ends}
 
 -- The matrix h with k added bits, of the given matrix g with n bits and m checks, where `carried` is the carried sum.
 pub record Good (g : Matrix) (n m : ℕ) (h : Matrix) (k carried : ℕ) : Type 0 where
@@ -79,16 +78,14 @@ data SplitCase (ws : List ℕ) (n m k u v : ℕ) : Type 0 where
   made : notPair (n + k) u v ≡ false → 2 ≤ share (lent 8 ws) (m + k) u v → (k ≡ 392 → ⊥) → SplitCase ws n m k u v
 
 split-case : (ws : List ℕ) (n m k u v : ℕ) → Accepted ws n m k → SplitCase ws n m k u v
-unfolding splitOutcome splitReply
 split-case ws n m k u v A =
-    let passes : (r : Reply) → accepting ws n m k r ≡ r = λ r. accepting-answers ws n m k r (accepts ws n m k .1 A) in
     elim (is (notPair (n + k) u v)) [
-      | is-true p ↦ refused 6 [] (rw (passes, p))
-      | is-false p ↦ elim (is (ltb (share (lent 8 ws) (m + k) u v) 2)) [
-        | is-true q ↦ refused 7 (share (lent 8 ws) (m + k) u v ∷ []) (rw (passes, p, q))
-        | is-false q ↦ elim (ℕ-discrete k 392) [
-          | yes r ↦ refused 8 [] (rw (passes, p, q, eq-eqb k 392 r))
-          | no r ↦ made p (ltb-false (share (lent 8 ws) (m + k) u v) 2 q) r
+      | is-true p ↦ refused 6 [] (split-no-pair ws n m k A u v p)
+      | is-false p ↦ elim (decLt (share (lent 8 ws) (m + k) u v) 2) [
+        | yes l ↦ refused 7 (share (lent 8 ws) (m + k) u v ∷ []) (split-low-share ws n m k A u v p l)
+        | no l ↦ elim (ℕ-discrete k 392) [
+          | yes q ↦ refused 8 [] (split-no-room ws n m k A u v p (omega arith) q)
+          | no q ↦ made p (omega arith) q
         ]
       ]
     ]
@@ -144,13 +141,13 @@ module _ (given : List ℕ) (n m : ℕ) where
   unfolding next
   stands-orthogonalise s S =
       let A = S .accepted in
-      let o = orthogonal (393 - s .k) (lent 8 (s .words)) n m (s .k) 0 0 in
+      let o = orthogonalising (s .words) n m (s .k) in
       let E = finished-cycles n m o (orthogonal-ends (s .words) n m (s .k) A) in
       let F = reply-finished o in
       rw (orthogonalise-made (s .words) n m (s .k) A, reply-k o (s .k), reply-sum o) record {
         accepted = orthogonal-accepted (s .words) n m (s .k) A;
         good = rw (orthogonal-lent (s .words) n m (s .k) A)
-            (good-orthogonal (lent 8 given) n m (s .carried) (393 - s .k) (lent 8 (s .words)) (s .k) 0 0 (rw (add-zero (s .carried)) (S .good)));
+            (good-orthogonal (lent 8 given) n m (s .carried) _ (lent 8 (s .words)) (s .k) 0 0 (rw (add-zero (s .carried)) (S .good)));
         finishes = λ r q.
             let e : orthogonalisedReply o ≡ r = said (orthogonalisedReply o) r q in
             rw (← e, orthogonal-lent (s .words) n m (s .k) A) (λ t. E .0 (F .0 t), λ t. F .1 (E .1 t));

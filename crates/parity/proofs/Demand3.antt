@@ -17,21 +17,23 @@ use Rattle.parity.specs.Words.{erased, isOne, extended, residue, peels, 
 use Rattle.parity.specs.Causes.{answer}
 use Rattle.parity.specs.Calls.{byteOf, extendOutcome, peelReply, peelOutcome}
 use Rattle.parity.specs.Demand3.{orthogonalises, Stand, runs, start, Verifies, erasing, Recovered, Peelings, Begins, Keeps, Demand3}
-use Rattle.parity.proofs.Sums.{one≤1}
+use Rattle.parity.proofs.Sums.{one≤1, byte-one, eqb-one}
 use Rattle.parity.proofs.Packing.{length-listFrom, at-listFrom}
 use Rattle.parity.proofs.Split.{Even}
-use Rattle.parity.proofs.Accept.{Accepted, accepts, other-k, accepting-answers}
+use Rattle.parity.proofs.Accept.{Accepted, accepts, other-k, passes}
 use Rattle.parity.proofs.Extend.{inside-cong, extend-base, extend-added}
 use Rattle.parity.proofs.Residue.{residue-of, residue-at, Solves}
 use Rattle.parity.proofs.Peel.{peels-solved, peeled-left, left-residue, right-value}
-use Rattle.parity.proofs.Replies.{Word, Codeword, byte-one, eqb-one, word-right, counts, verified, verifies, extends, completes, take-word, take-even}
+use Rattle.parity.proofs.Bytes.{Word, word-right, Codeword, take-word, take-even}
+use Rattle.parity.proofs.Splitting.{counts}
+use Rattle.parity.proofs.Verifying.{verified, verifies, extends, completes}
 use Rattle.parity.proofs.Chain.{Good, Stands, stands-start, stands-runs}
 
 -- peeling a word that some codeword solves
 module _ (ws : List ℕ) (n m k : ℕ) (A : Accepted ws n m k) (w : List ℕ) (W : Word (n + k) 2 w) (p : peels (lent 8 ws) (n + k) (m + k) (byteOf w) ≡ true) where
   peel-number : peelReply ws n m k w .number ≡ 0
   unfolding peelReply
-  peel-number = rw (accepting-answers ws n m k _ (accepts ws n m k .1 A), eq-eqb (length w) (n + k) (W .size), word-right (n + k) 2 w W, p)
+  peel-number = rw (passes ws n m k A, eq-eqb (length w) (n + k) (W .size), word-right (n + k) 2 w W, p)
 
   peel-leaves : (b : ℕ) → b < n + k → byteOf (peelOutcome ws n m k w .after) b ≡ peeled (lent 8 ws) (n + k) (m + k) (byteOf w) b
   unfolding peelOutcome

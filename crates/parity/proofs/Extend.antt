@@ -17,9 +17,10 @@ use Rattle.parity.proofs.Rule.{rule}
 abbrev pub Added : Matrix → ℕ → ℕ → ℕ → (ℕ → Bool) → Type 0
 Added h n m k x = (j : ℕ) → j < k → inside h (n + k) (m + j) x % 2 ≡ 0
 
-odd-even : (s : ℕ) → (s + one (odd s)) % 2 ≡ 0
+-- a number and its remainder modulo 2 make an even sum
+odd-added : (s : ℕ) → (s + one (odd s)) % 2 ≡ 0
 unfolding odd
-odd-even s = elim (ℕ-discrete (s % 2) 1) [ yes q ↦ rw (eq-eqb _ _ q) (omega arith) | no d ↦ rw (ne-eqb _ _ d) (omega arith) ]
+odd-added s = elim (ℕ-discrete (s % 2) 1) [ yes q ↦ rw (eq-eqb _ _ q) (omega arith) | no d ↦ rw (ne-eqb _ _ d) (omega arith) ]
 
 pub odd-only : (s : ℕ) (b : Bool) → (s + one b) % 2 ≡ 0 → b ≡ odd s
 unfolding odd
@@ -59,7 +60,7 @@ module _ (h : Matrix) (n m k : ℕ) (A : ruleA h n m k ≡ true) where
       ∙ count-suc (n + j) (λ b. h (m + j) b && y b) ∙ (rw (r .own))
 
   pub extend-added : (x : ℕ → Bool) → Added h n m k (extended h n m k x)
-  extend-added x j l = rw (own-check j l (extended h n m k x), at h n m x k j l) (odd-even (inside h (n + j) (m + j) (extended h n m k x)))
+  extend-added x j l = rw (own-check j l (extended h n m k x), at h n m x k j l) (odd-added (inside h (n + j) (m + j) (extended h n m k x)))
 
   pub extend-only : (x y : ℕ → Bool) → Added h n m k y → ((b : ℕ) → b < n → y b ≡ x b) → (b : ℕ) → b < n + k → y b ≡ extended h n m k x b
   extend-only x y a f = go k (omega arith)

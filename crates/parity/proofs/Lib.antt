@@ -18,11 +18,14 @@ pub mod Residue
 pub mod Peel
 pub mod Steps
 pub mod Encode
+pub mod Bytes
+pub mod Verifying
 pub mod Replies
 pub mod Common
 pub mod Refused
 pub mod Given
 pub mod Splitting
+pub mod MadeSplit
 pub mod Admit
 pub mod Firsts
 pub mod Sets
@@ -30,6 +33,9 @@ pub mod Reading
 pub mod Records
 pub mod Rest
 pub mod Writing
+pub mod ReadPart
+pub mod ReadWritten
+pub mod ReadBack
 pub mod RoundTrip
 pub mod Chain
 pub mod Demand3

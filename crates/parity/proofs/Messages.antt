@@ -3,7 +3,7 @@
 use mathlib.Core.Path.{_≡_, refl, sym, ap, _∙_}
 use mathlib.Core.Bool.{Bool, true, false, _&&_, and-eq-true-iff, false≢true}
 use mathlib.Core.List.{List, [], _∷_}
-use Prim.Native.Nat.{ℕ, zero, suc, _+_, _-_, _≤_, _<_}
+use Prim.Native.Nat.{ℕ, zero, suc, _+_, _-_, _<_}
 use native.Mathlib.Nat.{add-zero, zero-add}
 use native.Mathlib.Omega.{arith}
 use native.Mathlib.Decide.{decLt}
@@ -16,14 +16,15 @@ use Rattle.parity.specs.Matrix.{Matrix, lent}
 use Rattle.parity.specs.Words.{isOne}
 use Rattle.parity.specs.Encoding.{dependent, rankOf, encoded}
 use Rattle.parity.specs.Causes.{answer}
-use Rattle.parity.specs.Calls.{byteOf, verifyReply, encodeReply, encodeOutcome}
-use Rattle.parity.proofs.Sums.{is-true, is-false, is, one≤1, any-of, any-at, count-suc, count-mono, count-bound}
+use Rattle.parity.specs.Calls.{byteOf, verifyReply, encodeReply, encodeOutcome, rankReply}
+use Rattle.parity.proofs.Sums.{is-true, is-false, is, one≤1, any-of, any-at, count-suc, count-mono, count-bound, byte-one, eqb-one}
 use Rattle.parity.proofs.Packing.{length-listFrom, at-listFrom}
 use Rattle.parity.proofs.Split.{Even}
 use Rattle.parity.proofs.Extend.{inside-cong}
-use Rattle.parity.proofs.Accept.{Accepted, accepts, accepting-answers}
+use Rattle.parity.proofs.Accept.{Accepted, passes}
 use Rattle.parity.proofs.Encode.{encodes, lengths}
-use Rattle.parity.proofs.Replies.{Word, read-word, Codeword, verified, encodes-list}
+use Rattle.parity.proofs.Bytes.{Word, read-word, word-right, Codeword}
+use Rattle.parity.proofs.Verifying.{verified}
 
 -- two numbers that pass have different numbers of such numbers below them
 place-only : (p : ℕ → Bool) (a b : ℕ) → p a ≡ true → p b ≡ true → count a p ≡ count b p → a ≡ b
@@ -84,18 +85,8 @@ module _ (h : Matrix) (n m : ℕ) where
       before : (b : ℕ) → b < n → D b ≡ true → count b D < count n D
       before b k d = omega (arith, rw d at (count-suc b D), count-mono (suc b) n D k)
 
--- a byte up to 1
-byte-one : (a : ℕ) → a ≤ 1 → one (eqb a 1) ≡ a
-byte-one zero k = refl
-byte-one (suc zero) k = refl
-byte-one (suc (suc a)) k = absurd (omega arith)
-
-one-byte : (x : Bool) → eqb (one x) 1 ≡ x
-one-byte true = refl
-one-byte false = refl
-
 one-only : (x y : Bool) → one x ≡ one y → x ≡ y
-one-only x y e = sym (one-byte x) ∙ ap (λ a. eqb a 1) e ∙ one-byte y
+one-only x y e = sym (eqb-one x) ∙ ap (λ a. eqb a 1) e ∙ eqb-one y
 
 -- words of bytes up to 1 are the same if their ones are
 word-only : (N : ℕ) (v w : List ℕ) → Word N 1 v → Word N 1 w → ((b : ℕ) → b < N → isOne (byteOf v) b ≡ isOne (byteOf w) b) → v ≡ w
@@ -116,7 +107,20 @@ set-word N x = record {
 
 set-ones : (N : ℕ) (x : ℕ → Bool) (b : ℕ) → b < N → isOne (byteOf (setBytes N x)) b ≡ x b
 unfolding setBytes
-set-ones N x b k = rw (at-listFrom 0 N (λ b. one (x b)) b k, zero-add b) (one-byte (x b))
+set-ones N x b k = rw (at-listFrom 0 N (λ b. one (x b)) b k, zero-add b) (eqb-one (x b))
+
+-- what the rank and encoding answer and write, with k = 0
+module _ (ws : List ℕ) (n m : ℕ) (A : Accepted ws n m 0) where
+  pub ranks : rankReply ws n m 0 ≡ answer (rankOf (lent 8 ws) n m ∷ [])
+  unfolding rankReply
+  ranks = passes ws n m 0 A _
+
+  pub encodes-list : (message held : List ℕ) → Word (n - rankOf (lent 8 ws) n m) 1 message → length held ≡ n
+      → encodeOutcome ws n m 0 message held
+      ≡ record { reply = answer []; after = listFrom 0 n (λ b. one (encoded (lent 8 ws) n m (isOne (byteOf message)) b)) }
+  unfolding encodeOutcome encodeReply
+  encodes-list message held W l =
+      rw (passes ws n m 0 A, eq-eqb (length held) n l, eq-eqb (length message) (n - rankOf (lent 8 ws) n m) (W .size), word-right (n - rankOf (lent 8 ws) n m) 1 message W)
 
 module _ (ws : List ℕ) (n m : ℕ) (A : Accepted ws n m 0) where
   abbrev h : Matrix
@@ -133,7 +137,7 @@ module _ (ws : List ℕ) (n m : ℕ) (A : Accepted ws n m 0) where
   pub message-length : (message held : List ℕ) → encodeReply ws n m 0 message held .number ≡ 0 → r + length message ≡ n
   unfolding encodeReply
   message-length message held e =
-      let f = rw (accepting-answers ws n m 0 _ (accepts ws n m 0 .1 A)) at e in
+      let f = rw (passes ws n m 0 A _) at e in
       elim (is (eqb (length held) n)) [
         | is-false p ↦ absurd (omega (arith, rw p at f))
         | is-true p ↦

@@ -1,5 +1,5 @@
 -- Orthogonalising: its turns, what they keep, and how it ends. Assumes nothing.
-use mathlib.Core.Path.{_≡_, refl}
+use mathlib.Core.Path.{_≡_, refl, sym, _∙_}
 use mathlib.Core.Logic.{_↔_}
 use mathlib.Core.Bool.{Bool, true, false, true≢false, false≢true}
 use Prim.Native.Nat.{ℕ, zero, suc, _+_, _≤_, _<_}
@@ -31,6 +31,22 @@ module _ (turns : ℕ) (h : Matrix) (n m k splits total : ℕ) where
       (total + pairs (largestShare h (n + k) (m + k)))
   unfolding orthogonal
   repeats e q = rw (le-ltb _ _ e, ne-eqb k 392 q, orthogonal)
+
+-- 393 - k turns are enough: more of them change nothing.
+pub enough : (n m turns : ℕ) (h : Matrix) (k splits total : ℕ) → k ≤ 392 → 393 ≤ turns + k
+    → orthogonal (suc turns) h n m k splits total ≡ orthogonal turns h n m k splits total
+enough n m zero h k splits total l e = absurd (omega arith)
+enough n m (suc turns) h k splits total l e =
+    elim (decLt (largestShare h (n + k) (m + k)) 2) [
+      | yes t ↦ finishes (suc turns) h n m k splits total t ∙ sym (finishes turns h n m k splits total t)
+      | no t ↦ elim (ℕ-discrete k 392) [
+        | yes q ↦ stops-full (suc turns) h n m k splits total (omega arith) q ∙ sym (stops-full turns h n m k splits total (omega arith) q)
+        | no q ↦
+            repeats (suc turns) h n m k splits total (omega arith) q
+            ∙ enough n m turns _ (suc k) (suc splits) (total + pairs (largestShare h (n + k) (m + k))) (omega arith) (omega arith)
+            ∙ sym (repeats turns h n m k splits total (omega arith) q)
+      ]
+    ]
 
 -- a property of the matrix, k, the splits made and their sum, at what orthogonalising came to
 abbrev pub At : (Matrix → ℕ → ℕ → ℕ → Type 0) → Orthogonalised → Type 0

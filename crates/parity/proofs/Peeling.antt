@@ -4,7 +4,7 @@ use mathlib.Core.Path.{_≡_, refl, sym, ap, _∙_}
 use mathlib.Core.Bool.{Bool, true, false, not, _&&_}
 use mathlib.Core.List.{List, [], _∷_}
 use mathlib.Core.Logic.{_⊎_, ⊎-elim}
-use Prim.Native.Nat.{ℕ, zero, suc, _+_, _%_, _≤_, _<_}
+use Prim.Native.Nat.{ℕ, _+_, _%_, _≤_, _<_}
 use native.Mathlib.Nat.{zero-add}
 use native.Mathlib.Omega.{arith}
 use lib.Dec.{eqb}
@@ -14,30 +14,37 @@ use borrow.Author.Tests.{eq-eqb, ne-eqb, eqb-true, eqb-false}
 use Rattle.parity.specs.Finite.{one, count, listFrom}
 use Rattle.parity.specs.Matrix.{Matrix, lent}
 use Rattle.parity.specs.Words.{erased, isOne, inside, residue, peels, peeled, recoveredBits, leftBits, agrees}
-use Rattle.parity.specs.Causes.{Reply, answer, Outcome}
+use Rattle.parity.specs.Causes.{Reply, answer, Outcome, refusal}
 use Rattle.parity.specs.Calls.{byteOf, verifyReply, isStoppingReply, peelReply, peelOutcome}
-use Rattle.parity.proofs.Sums.{is-true, is-false, is, one≤1, all-of, sum-zero, count-cong}
-use Rattle.parity.proofs.Packing.{length-listFrom, at-listFrom}
+use Rattle.parity.proofs.Sums.{is-true, is-false, is, one≤1, all-of, sum-zero, count-cong, byte-one, eqb-one}
+use Rattle.parity.proofs.Packing.{length-listFrom, at-listFrom, listFrom-cong}
 use Rattle.parity.proofs.Extend.{inside-cong}
 use Rattle.parity.proofs.Residue.{outside, anySet-at, residue-of, residue-within, residue-stops, Solves, solve}
 use Rattle.parity.proofs.Peel.{peels-solved, peeled-left, peeled-value, right-value}
 use Rattle.parity.proofs.Steps.{stage-start, Ended, ended}
-use Rattle.parity.proofs.Accept.{Accepted, accepts, accepting-answers}
-use Rattle.parity.proofs.Replies.{Word, read-word, word-right, Codeword, verifies, list-stops, stops-list, peel-made}
+use Rattle.parity.proofs.Accept.{Accepted, passes}
 use Rattle.parity.proofs.Admit.{accepted-number}
-
-eqb-one : (a : Bool) → eqb (one a) 1 ≡ a
-eqb-one true = refl
-eqb-one false = refl
+use Rattle.parity.proofs.Bytes.{Word, read-word, word-right, Codeword}
+use Rattle.parity.proofs.Verifying.{verifies, list-stops, stops-list}
 
 eqb-two : (a : Bool) → eqb (one a) 2 ≡ false
 eqb-two true = refl
 eqb-two false = refl
 
-byte-one : (a : ℕ) → a ≤ 1 → one (eqb a 1) ≡ a
-byte-one zero k = refl
-byte-one (suc zero) k = refl
-byte-one (suc (suc a)) k = absurd (omega arith)
+-- Peeling, from the word at which steps end.
+module _ (ws : List ℕ) (n m k : ℕ) (A : Accepted ws n m k) (w : List ℕ) (W : Word (n + k) 2 w) (end : ℕ → ℕ)
+    (E : Ended (lent 8 ws) (n + k) (m + k) (byteOf w) end) where
+  pub peel-made : agrees (lent 8 ws) (n + k) (m + k) end ≡ true
+      → peelOutcome ws n m k w ≡ record { reply = answer (recoveredBits (lent 8 ws) (n + k) (m + k) (byteOf w) ∷ leftBits (lent 8 ws) (n + k) (m + k) (byteOf w) ∷ []); after = listFrom 0 (n + k) end }
+  unfolding peelOutcome peelReply
+  peel-made e =
+      let p : peels (lent 8 ws) (n + k) (m + k) (byteOf w) ≡ true = E .answers ∙ e in
+      let t : listFrom 0 (n + k) (peeled (lent 8 ws) (n + k) (m + k) (byteOf w)) ≡ listFrom 0 (n + k) end = listFrom-cong 0 (n + k) (peeled (lent 8 ws) (n + k) (m + k) (byteOf w)) end (λ j l. E .word p (0 + j) (omega arith)) in
+      rw (passes ws n m k A, eq-eqb (length w) (n + k) (W .size), word-right (n + k) 2 w W, p, t)
+
+  pub peel-refused : agrees (lent 8 ws) (n + k) (m + k) end ≡ false → peelOutcome ws n m k w ≡ record { reply = refusal 12 []; after = w }
+  unfolding peelOutcome peelReply
+  peel-refused e = rw (passes ws n m k A, eq-eqb (length w) (n + k) (W .size), word-right (n + k) 2 w W, E .answers, e)
 
 -- What a peeling that is not refused comes to: its matrix is accepted, its word is right, values that solve exist, and its outcome.
 pub record Answered (ws : List ℕ) (n m k : ℕ) (w : List ℕ) : Type 0 where
@@ -66,16 +73,16 @@ module _ (ws : List ℕ) (n m k : ℕ) (w : List ℕ) where
         reply = answer (recoveredBits h N M (byteOf w) ∷ leftBits h N M (byteOf w) ∷ []);
         after = listFrom 0 N (peeled h N M (byteOf w));
       }
-      made = unfold peelOutcome peelReply in rw (accepting-answers ws n m k _ (accepts ws n m k .1 A), eq-eqb (length w) N (W .size), word-right N 2 w W, p)
+      made = unfold peelOutcome peelReply in rw (passes ws n m k A _, eq-eqb (length w) N (W .size), word-right N 2 w W, p)
 
   pub peel-answered : peelOutcome ws n m k w .reply .number ≡ 0 → Answered ws n m k w
   unfolding peelOutcome peelReply
   peel-answered e =
       let A = accepted-number ws n m k _ e in
-      let (W, f) = read-word N 2 w _ (sym (ap (λ r. r .number) (accepting-answers ws n m k _ (accepts ws n m k .1 A))) ∙ e) in
+      let (W, f) = read-word N 2 w _ (sym (ap (λ r. r .number) (passes ws n m k A _)) ∙ e) in
       elim (is (peels h N M (byteOf w))) [
         | is-true p ↦ answers A W p
-        | is-false p ↦ absurd (omega (arith, rw (accepting-answers ws n m k _ (accepts ws n m k .1 A), f, p) at e))
+        | is-false p ↦ absurd (omega (arith, rw (passes ws n m k A _, f, p) at e))
       ]
 
   -- a peeling that is not refused

@@ -1,7 +1,7 @@
--- The words of a written record: how many there are, and bits that are none. Assumes nothing.
+-- The words of a written record: how many there are, bits that are none, and the last check or bit apart. Assumes nothing.
 use mathlib.Core.Path.{_≡_, refl, _∙_}
 use mathlib.Core.Bool.{Bool, true, false, cond}
-use mathlib.Core.List.{[], _∷_, append-nil}
+use mathlib.Core.List.{[], _∷_, append-nil, List, _++_, append-assoc}
 use Prim.Native.Nat.{ℕ, zero, suc, _+_, _*_, _^_, _≤_, _<_}
 use native.Mathlib.Decide.{ℕ-discrete}
 use native.Mathlib.Omega.{arith}
@@ -12,7 +12,7 @@ use Rattle.parity.specs.Matrix.{Matrix}
 use Rattle.parity.specs.Record.{bitWords, checkWords, written}
 use Rattle.parity.proofs.Sums.{count-bound, count-end}
 
-length-one : (b : Bool) (w : ℕ) → length (cond b (w ∷ []) []) ≡ one b
+pub length-one : (b : Bool) (w : ℕ) → length (cond b (w ∷ []) []) ≡ one b
 length-one true w = refl
 length-one false w = refl
 
@@ -56,3 +56,25 @@ unfolding checkWords
 checks-wider h n n′ zero k f = refl
 checks-wider h n n′ (suc c) k f =
     rw (checks-wider h n n′ c k f, count-end n n′ (h c) k (λ b l m. f c b l), bits-end (h c) n n′ k (λ b l m. f c b l))
+
+bit-last : (s : ℕ → Bool) (b : ℕ) → s b ≡ true → bitWords s (suc b) ≡ bitWords s b ++ ((3 * 2 ^ 28 + b) ∷ [])
+unfolding bitWords
+bit-last s b e = rw e
+
+pub no-bits : (s : ℕ → Bool) (ws : List ℕ) → bitWords s 0 ++ ws ≡ ws
+unfolding bitWords
+no-bits s ws = refl
+
+-- the words of a check's bits, the last one apart
+pub bits-more : (s : ℕ → Bool) (low b : ℕ) (ws : List ℕ) → low ≤ b → ((a : ℕ) → low ≤ a → a < b → s a ≡ false) → s b ≡ true
+    → bitWords s (suc b) ++ ws ≡ bitWords s low ++ ((3 * 2 ^ 28 + b) ∷ ws)
+bits-more s low b ws k f e = rw (bit-last s b e, bits-end s low b k f) (append-assoc (bitWords s low) ((3 * 2 ^ 28 + b) ∷ []) ws)
+
+-- the written checks, the last one apart
+pub check-after : (h : Matrix) (n c : ℕ) (ws : List ℕ) → checkWords h n (suc c) ++ ws ≡ checkWords h n c ++ ((2 * 2 ^ 28 + count n (h c)) ∷ (bitWords (h c) n ++ ws))
+unfolding checkWords
+check-after h n c ws = append-assoc (checkWords h n c) _ ws
+
+pub no-checks : (h : Matrix) (n : ℕ) (ws : List ℕ) → checkWords h n 0 ++ ws ≡ ws
+unfolding checkWords
+no-checks h n ws = refl

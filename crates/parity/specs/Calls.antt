@@ -86,12 +86,15 @@ unfoldable pub splitOutcome : List ℕ → ℕ → ℕ → ℕ → ℕ → ℕ �
 splitOutcome ws n m k u v = leaving ws (splitReply ws n m k u v) (pack 8 (splitOf (lent 8 ws) (n + k) (m + k) u v))
 
 -- orthogonalise: answers the number of splits, their sum and k, or is refused 9 with them; either way the matrix stands after the splits made
+abbrev pub orthogonalising : List ℕ → ℕ → ℕ → ℕ → Orthogonalised
+orthogonalising ws n m k = orthogonal (393 - k) (lent 8 ws) n m k 0 0
+
 unfoldable pub orthogonalisedReply : Orthogonalised → Reply
 orthogonalisedReply o = cond (o .finished) (answer (o .splits ∷ o .sum ∷ o .k ∷ [])) (refusal 9 (o .splits ∷ o .sum ∷ o .k ∷ []))
 
 unfoldable pub orthogonaliseOutcome : List ℕ → ℕ → ℕ → ℕ → Outcome
 orthogonaliseOutcome ws n m k =
-    let o = orthogonal (393 - k) (lent 8 ws) n m k 0 0 in
+    let o = orthogonalising ws n m k in
     record { reply = accepting ws n m k (orthogonalisedReply o); after = cond (eqb (cause ws n m k) 0) (pack 8 (o .matrix)) ws }
 
 -- verify: answers yes exactly for codewords

@@ -51,7 +51,7 @@ module _ (h : Matrix) (n m : ℕ) (x : ℕ → Bool) where
 
 module _ (h : Matrix) (n m k : ℕ) (A : ruleA h n m k ≡ true) where
   -- an added check contains lower bits and its own, and no other
-  own-check : (j : ℕ) → j < k → (y : ℕ → Bool) → inside h (n + k) (m + j) y ≡ inside h (n + j) (m + j) y + one (y (n + j))
+  pub own-check : (j : ℕ) → j < k → (y : ℕ → Bool) → inside h (n + k) (m + j) y ≡ inside h (n + j) (m + j) y + one (y (n + j))
   unfolding inside ruleA
   own-check j l y =
       let r = rule h n m k j l .0 (all-at k _ A j l) in

@@ -39,6 +39,7 @@ pub mod ReadBack
 pub mod RoundTrip
 pub mod Chain
 pub mod Demand3
+pub mod Theorems
 pub mod Peeling
 pub mod Dependent
 pub mod Messages

@@ -111,7 +111,7 @@ module _ (ws : List ℕ) (n m k : ℕ) (w : List ℕ) where
         (y, solve h N M (erased (byteOf w)) r (isOne (byteOf w)) y .0 t)
 
     -- the bits left are those of the residue, and the others have the values that solve
-    left-is : (b : ℕ) → b < N → erased (byteOf left) b ≡ r b
+    pub left-is : (b : ℕ) → b < N → erased (byteOf left) b ≡ r b
     left-is b l =
         let (y, s) = solution in
         rw (after-at b l) (elim (is (r b)) [

@@ -11,7 +11,7 @@ use Rattle.parity.specs.Finite.{sum, any, most}
 use Rattle.parity.specs.Matrix.{Matrix}
 use Rattle.parity.specs.Cycles.{share, pairs, cycles, largestShare, lowerBit, higherBit}
 use Rattle.parity.proofs.Sums.{sum-zero, sum-ge, most-le, most-at, any-of, least-at, least-min}
-use Rattle.parity.proofs.Pairs.{pairs-suc}
+use Rattle.parity.proofs.Pairs.{pairs-two}
 
 -- The pair of the largest share, then of the smallest lower bit, then of the smallest higher bit.
 pub record Chosen (h : Matrix) (N M u v : ℕ) : Type 0 where
@@ -82,12 +82,7 @@ module _ (h : Matrix) (N M : ℕ) where
   unfolding cycles
   some-cycles k =
       let (i, j, ij, jn, e) = top-at (omega arith) in
-      omega (arith, sum-ge N (λ j. sum j (λ i. pairs (share h M i j))) j jn, sum-ge j (λ i. pairs (share h M i j)) i ij, big (share h M i j) (omega arith))
-    where
-      big : (s : ℕ) → 2 ≤ s → 1 ≤ pairs s
-      big zero l = absurd (omega arith)
-      big (suc zero) l = absurd (omega arith)
-      big (suc (suc s)) l = omega (arith, pairs-suc (suc s))
+      omega (arith, sum-ge N (λ j. sum j (λ i. pairs (share h M i j))) j jn, sum-ge j (λ i. pairs (share h M i j)) i ij, pairs-two (share h M i j) (omega arith))
 
   -- no pair has share two or more exactly if the cycle count is 0
   pub none-left : (largestShare h N M < 2) ↔ (cycles h N M ≡ 0)

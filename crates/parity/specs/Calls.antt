@@ -45,6 +45,7 @@ unfoldable pub loadedReply : Loaded → Reply
 loadedReply (faulty place) = refusal 5 (place ∷ [])
 loadedReply (loaded n m h) = answer (n ∷ m ∷ [])
 
+-- of a faulty record this is discarded: the refusal leaves the words
 unfoldable pub loadedWords : Loaded → List ℕ
 loadedWords (faulty place) = []
 loadedWords (loaded n m h) = pack 8 h

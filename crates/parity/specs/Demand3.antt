@@ -1,4 +1,5 @@
--- Document 01, 'The words of demand 3': lists of calls, and demand 3 as one statement over what the calls answer and leave. Assumes nothing.
+-- Document 01, 'The words of demand 3': lists of calls, and demand 3 as one statement over what the calls answer and leave. Read Causes
+-- (replies and outcomes) and Calls (what each call comes to) first. Assumes nothing.
 use Prim.Native.Nat.{ℕ, _+_, _≤_, _<_}
 use mathlib.Core.Path.{_≡_}
 use mathlib.Core.Logic.{_↔_}
@@ -9,7 +10,7 @@ use lib.ListN.{getD, length, take, replicate}
 use Rattle.parity.specs.Finite.{listFrom}
 use Rattle.parity.specs.Matrix.{cause}
 use Rattle.parity.specs.Cycles.{pairs}
-use Rattle.parity.specs.Causes.{Reply, answer}
+use Rattle.parity.specs.Causes.{Reply, answer, Outcome}
 use Rattle.parity.specs.Calls.{byteOf, countReply, splitOutcome, orthogonaliseOutcome, verifyReply, extendOutcome, peelOutcome}
 
 -- The list's calls are splits, of any two numbers, and orthogonalisings.
@@ -77,27 +78,29 @@ Left after b = byteOf after b ≡ 2
 abbrev pub Recovered : List ℕ → List ℕ → ℕ → Type 0
 Recovered before after b = (byteOf before b ≡ 2) × (byteOf after b ≡ 2 → ⊥)
 
--- Both peelings of a codeword x in which the bytes of e are made 2: one has the given matrix and these n bytes, the other the extended
--- matrix and the same n bytes and then k bytes of 2; y is the extended codeword.
-pub record Peelings (given : List ℕ) (n m : ℕ) (ws : List ℕ) (k : ℕ) (y before : List ℕ) : Type 0 where
-  pub given-answers : peelOutcome given n m 0 before .reply .number ≡ 0
-  pub extended-answers : peelOutcome ws n m k (before ++ replicate k 2) .reply .number ≡ 0
+-- Both peelings of a codeword in which some bytes are made 2: `by-given` is what peeling these n bytes, `before`, with the given matrix comes
+-- to; `by-extended` what peeling `longer`, the same n bytes and then k bytes of 2, with the extended matrix comes to; y is the extended codeword.
+pub record Peelings (n k : ℕ) (before longer y : List ℕ) (by-given by-extended : Outcome) : Type 0 where
+  pub given-answers : by-given .reply .number ≡ 0
+  pub extended-answers : by-extended .reply .number ≡ 0
   -- it never recovers less: a sent bit that the extended matrix leaves, the given one leaves
-  pub no-less : (b : ℕ) → b < n → Left (peelOutcome ws n m k (before ++ replicate k 2) .after) b → Left (peelOutcome given n m 0 before .after) b
+  pub no-less : (b : ℕ) → b < n → Left (by-extended .after) b → Left (by-given .after) b
   -- a recovered bit has the extended codeword's value
-  pub given-right : (b : ℕ) → b < n → Recovered before (peelOutcome given n m 0 before .after) b → byteOf (peelOutcome given n m 0 before .after) b ≡ byteOf y b
-  pub extended-right : (b : ℕ) → b < n + k → Recovered (before ++ replicate k 2) (peelOutcome ws n m k (before ++ replicate k 2) .after) b
-      → byteOf (peelOutcome ws n m k (before ++ replicate k 2) .after) b ≡ byteOf y b
+  pub given-right : (b : ℕ) → b < n → Recovered before (by-given .after) b → byteOf (by-given .after) b ≡ byteOf y b
+  pub extended-right : (b : ℕ) → b < n + k → Recovered longer (by-extended .after) b → byteOf (by-extended .after) b ≡ byteOf y b
 
--- What a codeword x of the given matrix has, whatever the extending call's output held before.
-pub record Begins (given : List ℕ) (n m : ℕ) (ws : List ℕ) (k : ℕ) (x held : List ℕ) : Type 0 where
+-- What a codeword x of the given matrix has: `extending` is what extending it with the extended matrix comes to.
+pub record BeginsOne (given : List ℕ) (n m : ℕ) (ws : List ℕ) (k : ℕ) (x : List ℕ) (extending : Outcome) : Type 0 where
   -- extending answers, and writes an extended codeword that x begins
-  pub answers : extendOutcome ws n m k x held .reply ≡ answer []
-  pub begins : take n (extendOutcome ws n m k x held .after) ≡ x
-  pub verified : Verifies ws n m k (extendOutcome ws n m k x held .after)
+  pub answers : extending .reply ≡ answer []
+  pub begun : take n (extending .after) ≡ x
+  pub verified : Verifies ws n m k (extending .after)
   -- and x begins no other
-  pub only : (y : List ℕ) → Verifies ws n m k y → take n y ≡ x → y ≡ extendOutcome ws n m k x held .after
-  pub peelings : (e : ℕ → Bool) → Peelings given n m ws k (extendOutcome ws n m k x held .after) (erasing e x)
+  pub only : (y : List ℕ) → Verifies ws n m k y → take n y ≡ x → y ≡ extending .after
+  pub peelings : (e : ℕ → Bool)
+      → let before = erasing e x in
+      let longer = before ++ replicate k 2 in
+      Peelings n k before longer (extending .after) (peelOutcome given n m 0 before) (peelOutcome ws n m k longer)
 
 -- What holds of the given matrix and of what stands after a list.
 pub record Keeps (given : List ℕ) (n m : ℕ) (s : Stand) : Type 0 where
@@ -105,16 +108,18 @@ pub record Keeps (given : List ℕ) (n m : ℕ) (s : Stand) : Type 0 where
   pub accepted : cause (s .words) n m (s .k) ≡ 0
   pub other-k : (k : ℕ) → (k ≡ s .k → ⊥) → cause (s .words) n m k ≡ 0 → ⊥
   -- the carried sum plus the four-cycles left is at most the four-cycles at the start, as counting answers them
-  pub at-start : ℕ
-  pub left : ℕ
-  pub counts-start : countReply given n m 0 ≡ answer (at-start ∷ [])
-  pub counts-left : countReply (s .words) n m (s .k) ≡ answer (left ∷ [])
-  pub falls : s .carried + left ≤ at-start
-  -- it keeps the code: each codeword begins exactly one extended codeword, and each extended codeword begins with a codeword
-  pub begins : (x held : List ℕ) → Verifies given n m 0 x → length held ≡ n + s .k → Begins given n m (s .words) (s .k) x held
-  pub each : (y : List ℕ) → Verifies (s .words) n m (s .k) y → Verifies given n m 0 (take n y)
+  pub cycles-start : ℕ
+  pub cycles-left : ℕ
+  pub counts-start : countReply given n m 0 ≡ answer (cycles-start ∷ [])
+  pub counts-left : countReply (s .words) n m (s .k) ≡ answer (cycles-left ∷ [])
+  pub falls : s .carried + cycles-left ≤ cycles-start
+  -- it keeps the code: each codeword begins exactly one extended codeword, which extending writes whatever its output held before,
+  pub each-codeword : (x held : List ℕ) → Verifies given n m 0 x → length held ≡ n + s .k
+      → BeginsOne given n m (s .words) (s .k) x (extendOutcome (s .words) n m (s .k) x held)
+  -- and each extended codeword begins with a codeword
+  pub each-extended : (y : List ℕ) → Verifies (s .words) n m (s .k) y → Verifies given n m 0 (take n y)
   -- an orthogonalise that is the last call finishes exactly if no four-cycle is left
-  pub finishes : (r : Reply) → s .last ≡ orthogonalise-said r → (r .number ≡ 0) ↔ (left ≡ 0)
+  pub finishes : (r : Reply) → s .last ≡ orthogonalise-said r → (r .number ≡ 0) ↔ (cycles-left ≡ 0)
 
 -- Demand 3: for every given matrix and every list of calls.
 abbrev pub Demand3 : Type 0

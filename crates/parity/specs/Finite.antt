@@ -39,7 +39,7 @@ unfoldable pub least : ℕ → (ℕ → Bool) → ℕ
 least zero p = 0
 least (suc n) p = cond (any n p) (least n p) (cond (p n) n (suc n))
 
--- some set of the numbers below n passes the test
+-- some set of the numbers below n, of all 2 ^ n, passes the test
 unfoldable pub anySet : ℕ → ((ℕ → Bool) → Bool) → Bool
 anySet zero p = p (λ i. false)
 anySet (suc n) p = anySet n p || anySet n (λ s. p (λ i. eqb i n || s i))

@@ -6,7 +6,8 @@ use lib.Dec.{eqb, ltb, leb}
 use lib.ListN.{getD, length}
 use Rattle.parity.specs.Finite.{one, sum, count, all, listFrom}
 
--- The matrix: whether a check contains a bit. The check's number comes first, then the bit's.
+-- The matrix: whether a check contains a bit. The check's number comes first, then the bit's. It is document 000's H, numbered from 0:
+-- S_i is check i - 1, and x_i is bit i - 1.
 abbrev pub Matrix : Type 0
 Matrix = ℕ → ℕ → Bool
 
@@ -39,7 +40,9 @@ inRange n m k = leb 1 n && leb n 120 && leb m 120 && leb k 392
 unfoldable pub room : ℕ → ℕ → ℕ → ℕ → ℕ
 room W N M i = cond (ltb (i / W) M) (min 64 (N - i % W * 64)) 0
 
--- No word from place i on has a one at bit N or above, or at check M or above.
+-- No word from place i on has a one at bit N or above, or at check M or above: w < 2 ^ r says that w has no one at its bit r or above.
+-- So it also says that each word is below 2 ^ 64, and demand 3, which is over all lists of numbers, needs no further hypothesis. In bits
+-- it is `cleans` of proofs/Clean.
 unfoldable pub clean : ℕ → ℕ → ℕ → ℕ → List ℕ → Bool
 clean W N M i [] = true
 clean W N M i (w ∷ ws) = ltb w (2 ^ room W N M i) && clean W N M (suc i) ws

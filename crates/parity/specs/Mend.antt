@@ -71,7 +71,8 @@ report n splits total w =
 unfoldable pub unlessRefused : Reply → List ℕ → List ℕ
 unlessRefused r text = cond (eqb (r .number) 0) text (refusedLine (r .number))
 
--- It loads, orthogonalises, sets added bits to 2 and peels.
+-- It loads, orthogonalises, sets added bits to 2 and peels. What n, m, splits, total and k are after a refusal, and what follows from them,
+-- is discarded: the refusal's line is all that is written.
 unfoldable pub mend : List ℕ → List ℕ
 mend input =
     let l = loadOutcome (recordIn input) (replicate 4096 0) in

@@ -14,7 +14,7 @@ kindOf w = w / 2 ^ 28
 unfoldable pub payload : ℕ → ℕ
 payload w = w % 2 ^ 28
 
--- Kind 1, only first: bits 8 to 15 m, bits 0 to 7 n, within their ranges.
+-- Kind 1, only first: bits 8 to 15 m, bits 0 to 7 n, within their ranges. That all of bits 8 to 27 are at most 120 makes bits 16 to 27 zero.
 unfoldable pub headWord : ℕ → Bool
 headWord w = eqb (kindOf w) 1 && inRange (payload w % 256) (payload w / 256) 0
 

@@ -29,12 +29,15 @@ codeword h N M w = all N (λ b. leb (w b) 1) && evenChecks h N M (isOne w)
 unfoldable pub odd : ℕ → Bool
 odd s = eqb (s % 2) 1
 
--- Extending: the sent bits stay, and each added bit n + j is the sum modulo 2 of the two lower bits of its added check m + j.
+-- Extending: the sent bits stay, and each added bit n + j is the sum modulo 2 of the two lower bits of its added check m + j. In document
+-- 000 this check is S_{m+u-n}, x_i + x_j = x_u with i and j below u; that the codeword determines the added bits (001) is `extend-only`
+-- of proofs/Extend.
 unfoldable pub extended : Matrix → ℕ → ℕ → ℕ → (ℕ → Bool) → ℕ → Bool
 extended h n m zero x b = x b
 extended h n m (suc j) x b = cond (eqb b (n + j)) (odd (inside h (n + j) (m + j) (extended h n m j x))) (extended h n m j x b)
 
--- A stopping set: no check contains exactly one of its bits.
+-- A stopping set: no check contains exactly one of its bits. (Document 000: all neighbors of the set are connected to it at least twice.)
+-- The empty set is one.
 unfoldable pub stopping : Matrix → ℕ → ℕ → (ℕ → Bool) → Bool
 stopping h N M s = all M (λ c. not (eqb (inside h N c s) 1))
 
@@ -47,7 +50,8 @@ unfoldable pub residue : Matrix → ℕ → ℕ → (ℕ → Bool) → ℕ → B
 residue h N M e b = anySet N (λ s. stopping h N M s && within N s e && s b)
 
 -- The values y for the erased bits e outside the residue r, with x's values at the bits that are not erased, make each check even
--- that contains no residue bit.
+-- that contains no residue bit. At residue bits y is free: no check that is looked at contains one. These are document 004's equations (1)
+-- of the checks that contain no residue bit.
 unfoldable pub solves : Matrix → ℕ → ℕ → (ℕ → Bool) → (ℕ → Bool) → (ℕ → Bool) → (ℕ → Bool) → Bool
 solves h N M e r x y =
     all N (λ b. e b || Bool·beq (y b) (x b))

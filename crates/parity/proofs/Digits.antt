@@ -13,6 +13,7 @@ use lib.Pow.{pow-pos, pow-lt, pow-mono, pow-add, shl-exact, shl-shr, shr-shr, sh
 use borrow.Author.Tests.{eq-eqb, ne-eqb, lt-ltb, le-ltb}
 use Rattle.parity.specs.Finite.{one}
 use Rattle.parity.specs.Matrix.{bitOf}
+use Rattle.parity.proofs.Sums.{byte-one}
 
 -- digit i of a word, 0 or 1
 abbrev digit : ℕ → ℕ → ℕ
@@ -126,12 +127,7 @@ bit-clear k a t i l m = bit-and a (2 ^ k - 1 - 2 ^ t) i ∙ rw (bit-not k (2 ^ t
 -- the lowest bit, and those above it
 pub low-bit : (w : ℕ) → one (bitOf w 0) ≡ w % 2
 unfolding bitOf
-low-bit w = rw (div-one w) (go (w % 2) (omega arith))
-  where
-    go : (r : ℕ) → r < 2 → one (eqb r 1) ≡ r
-    go zero k = refl
-    go (suc zero) k = refl
-    go (suc (suc r)) k = absurd (omega arith)
+low-bit w = rw (div-one w) (byte-one (w % 2) (omega arith))
 
 pub higher : (w i : ℕ) → bitOf w (1 + i) ≡ bitOf (w / 2) i
 unfolding bitOf

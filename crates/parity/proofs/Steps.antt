@@ -10,21 +10,11 @@ use Rattle.parity.specs.Finite.{one, count, any}
 use Rattle.parity.specs.Matrix.{Matrix}
 use Rattle.parity.specs.Words.{solved, loneCheck, loneBit, steps, agrees, inside, odd, residue, erased, isOne, peels, peeled, recoveredBits, leftBits}
 use Rattle.parity.proofs.Bools.{or-false-both, or-else, same-test}
-use Rattle.parity.proofs.Sums.{is-true, is-false, is, one≤1, all-at, all-not, count-two, count-cong, count-le, count-bound, any-of, least-at, count-at, sum-point}
+use Rattle.parity.proofs.Sums.{is-true, is-false, is, one≤1, byte-one, eqb-one, all-at, all-not, count-two, count-cong, count-le, count-bound, any-of, least-at, count-at, sum-point}
 use Rattle.parity.proofs.Split.{Stops}
 use Rattle.parity.proofs.Extend.{odd-only, inside-cong}
 use Rattle.parity.proofs.Residue.{Within, inside-le, inside-pos, outside, anySet-at, residue-of, residue-within, residue-stops, Solves, solve}
 use Rattle.parity.proofs.Peel.{peels-solved, peeled-left, peeled-value}
-
-ones-one : (a : Bool) → eqb (one a) 1 ≡ a
-ones-one true = refl
-ones-one false = refl
-
-byte : (a : ℕ) → a ≤ 2 → eqb a 2 ≡ false → one (eqb a 1) ≡ a
-byte zero k e = refl
-byte (suc zero) k e = refl
-byte (suc (suc zero)) k e = absurd (true≢false e)
-byte (suc (suc (suc a))) k e = absurd (omega arith)
 
 not-one : (a : ℕ) → eqb a 2 ≡ true → eqb a 1 ≡ false
 not-one a e = rw (eqb-true a 2 e)
@@ -84,7 +74,7 @@ module _ (h : Matrix) (N M : ℕ) (w₀ w : ℕ → ℕ) (S : Stage h N M w₀ w
         | no d ↦ rw (solved-other h N c b w i d) (S .holds s t u i k p)
       ];
       right = λ y s i k e. elim (ℕ-discrete i b) [
-        | yes q ↦ rw (q, solved-at h N c b w, ones-one) (step-right y s)
+        | yes q ↦ rw (q, solved-at h N c b w, eqb-one) (step-right y s)
         | no d ↦ rw (solved-other h N c b w i d) (S .right y s i k (rw (solved-other h N c b w i d) at e))
       ];
       known = λ i k e. elim (ℕ-discrete i b) [
@@ -116,7 +106,7 @@ module _ (h : Matrix) (N M : ℕ) (w₀ w : ℕ → ℕ) (S : Stage h N M w₀ w
       peels-solved h N M w₀ (isOne w) (solves-end e),
       λ b k. elim (is (erased w b)) [
         | is-true q ↦ peeled-left h N M w₀ (isOne w) (solves-end e) b (sym (ends b k) ∙ q) ∙ sym (eqb-true _ _ q)
-        | is-false q ↦ peeled-value h N M w₀ (isOne w) (solves-end e) b k (sym (ends b k) ∙ q) ∙ byte (w b) (S .bytes b k) q
+        | is-false q ↦ peeled-value h N M w₀ (isOne w) (solves-end e) b k (sym (ends b k) ∙ q) ∙ byte-one (w b) (omega (arith, S .bytes b k, eqb-false (w b) 2 q))
       ],
     )
 

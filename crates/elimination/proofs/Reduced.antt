@@ -12,7 +12,7 @@ use Rattle.parity.specs.Matrix.{Matrix}
 use Rattle.parity.specs.Words.{inside, odd}
 use Rattle.parity.proofs.Sums.{Is, is-true, is-false, is, any-of, any-at, count-cong, sum-cong, sum-zero, sum-point, sum-add, sum-at}
 use Rattle.parity.proofs.Split.{Even}
-use Rattle.parity.proofs.Extend.{odd-only}
+use Rattle.parity.proofs.Extend.{odd-added, odd-only}
 use Rattle.elimination.specs.Reduction.{Reduced, pivot}
 
 pub pivot-at : (r : ℕ) (at : ℕ → ℕ) (c : ℕ) → c < r → pivot r at (at c) ≡ true
@@ -46,10 +46,6 @@ pivot-count n (suc r) at l u =
       sum-at n (at r) 1 (l r (omega arith)),
       pivot-count n r at (λ c k. l c (omega arith)) (λ c d k i. u c d k (omega arith)),
     )
-
-odd-even : (s : ℕ) → (s + one (odd s)) % 2 ≡ 0
-unfolding odd
-odd-even s = elim (ℕ-discrete (s % 2) 1) [ yes q ↦ rw (eq-eqb _ _ q) (omega arith) | no d ↦ rw (ne-eqb _ _ d) (omega arith) ]
 
 module _ (g : Matrix) (n m : ℕ) (e : ℕ → Bool) (r : ℕ) (at : ℕ → ℕ) (R : Reduced g m e n r at) where
   -- a pivot has one check
@@ -103,7 +99,7 @@ module _ (g : Matrix) (n m : ℕ) (e : ℕ → Bool) (r : ℕ) (at : ℕ → ℕ
         λ c k l. rw (inside-rest c k l) at (t c l),
       ),
       λ t c k. elim (decLt c r) [
-        | yes l ↦ rw (inside-own c l, t .0 c l) (odd-even (inside g n c y))
+        | yes l ↦ rw (inside-own c l, t .0 c l) (odd-added (inside g n c y))
         | no l ↦ rw (inside-rest c (omega arith) k) (t .1 c (omega arith) k)
       ],
     )

@@ -18,7 +18,7 @@ abbrev pub Added : Matrix → ℕ → ℕ → ℕ → (ℕ → Bool) → Type 0
 Added h n m k x = (j : ℕ) → j < k → inside h (n + k) (m + j) x % 2 ≡ 0
 
 -- a number and its remainder modulo 2 make an even sum
-odd-added : (s : ℕ) → (s + one (odd s)) % 2 ≡ 0
+pub odd-added : (s : ℕ) → (s + one (odd s)) % 2 ≡ 0
 unfolding odd
 odd-added s = elim (ℕ-discrete (s % 2) 1) [ yes q ↦ rw (eq-eqb _ _ q) (omega arith) | no d ↦ rw (ne-eqb _ _ d) (omega arith) ]
 

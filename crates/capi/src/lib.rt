@@ -131,7 +131,7 @@ pub extern "C" fn parity_extend(
     ensures { λ r. ⌜ Passed (extendOutcome (now (words .entry)) n m k (now (sent .entry)) (now (word .entry)) .reply) (now (values .entry)) (now (values .exit)) r ⌝ }
     ensures { λ r. ⌜ now (word .exit) ≡ extendOutcome (now (words .entry)) n m k (now (sent .entry)) (now (word .entry)) .after ⌝ }
 {
-    let extension = word::extending::extend(words, n, m, k, sent, word);
+    let extension = word::extend(words, n, m, k, sent, word);
     pass::extension(extension, values)
 }
 

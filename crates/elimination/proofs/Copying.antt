@@ -51,17 +51,17 @@ row-written W ws u c A = record {
     ]
 
 -- check c is copied
-pub check-written : (W : ℕ) (ws w u : List ℕ) (c : ℕ) → Writing w u (c * W) (λ a. getD ws (c * 8 + a) 0) W → SameRows W ws w u c (c + 1)
-check-written W ws w u c A = record {
+pub check-written : (U W : ℕ) (ws w u : List ℕ) (c : ℕ) → Writing w u (c * W) (λ a. getD ws (c * U + a) 0) W → SameRows U W ws w u c (c + 1)
+check-written U W ws w u c A = record {
   copied = λ d i k l m. let e : d ≡ c = omega arith in rw e (A .done i m);
   kept = A .kept;
 }
 
-pub rows-none : (W : ℕ) (ws w : List ℕ) → SameRows W ws w w 0 0
-rows-none W ws w = record { copied = λ c i k l. absurd (omega arith); kept = λ a k. refl }
+pub rows-none : (U W : ℕ) (ws w : List ℕ) → SameRows U W ws w w 0 0
+rows-none U W ws w = record { copied = λ c i k l. absurd (omega arith); kept = λ a k. refl }
 
-pub rows-more : (W : ℕ) (ws w u v : List ℕ) (c : ℕ) → SameRows W ws w u 0 c → SameRows W ws u v c (c + 1) → SameRows W ws w v 0 (c + 1)
-rows-more W ws w u v c A B = record {
+pub rows-more : (U W : ℕ) (ws w u v : List ℕ) (c : ℕ) → SameRows U W ws w u 0 c → SameRows U W ws u v c (c + 1) → SameRows U W ws w v 0 (c + 1)
+rows-more U W ws w u v c A B = record {
   copied = λ d i k l m. elim (ℕ-discrete d c) [
     | yes s ↦ rw s (B .copied c i (omega arith) (omega arith) m)
     | no s ↦ let d<c : d < c = omega arith in B .kept (d * W + i) (digits-lt d<c m) ∙ A .copied d i k d<c m
@@ -70,5 +70,5 @@ rows-more W ws w u v c A B = record {
 }
 
 -- the rows have the bits of the lent matrix
-pub rows-lent : (W : ℕ) → W ≤ 8 → (ws w u : List ℕ) (m : ℕ) → SameRows W ws w u 0 m → (c b : ℕ) → c < m → b < W * 64 → lent W u c b ≡ lent 8 ws c b
-rows-lent W k ws w u m A c b l i = rw (lent-in W u c b i, lent-in 8 ws c b (omega arith), A .copied c (b / 64) (omega arith) l (word-in W b i))
+pub rows-lent : (U W : ℕ) → W ≤ U → (ws w u : List ℕ) (m : ℕ) → SameRows U W ws w u 0 m → (c b : ℕ) → c < m → b < W * 64 → lent W u c b ≡ lent U ws c b
+rows-lent U W k ws w u m A c b l i = rw (lent-in W u c b i, lent-in U ws c b (omega arith), A .copied c (b / 64) (omega arith) l (word-in W b i))

@@ -16,7 +16,7 @@ pub record RowOf (W : ℕ) (ws : List ℕ) (c : ℕ) (r : List ℕ) : Type 0 whe
   pub blank : Blank W r
   pub bits : lent W r 1 ≡ lent W ws c
 
--- Rows first to end are the first W words of the lent matrix's checks; the rows before them are as they were.
-pub record SameRows (W : ℕ) (ws before after : List ℕ) (first end : ℕ) : Type 0 where
-  pub copied : (c i : ℕ) → first ≤ c → c < end → i < W → getD after (c * W + i) 0 ≡ getD ws (c * 8 + i) 0
+-- Rows first to end are the first W words of checks that have U words each; the rows before them are as they were.
+pub record SameRows (U W : ℕ) (ws before after : List ℕ) (first end : ℕ) : Type 0 where
+  pub copied : (c i : ℕ) → first ≤ c → c < end → i < W → getD after (c * W + i) 0 ≡ getD ws (c * U + i) 0
   pub kept : (a : ℕ) → a < first * W → getD after a 0 ≡ getD before a 0

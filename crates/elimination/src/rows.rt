@@ -73,22 +73,22 @@ pub fn first_with(rows: &[u64], width: usize, checks: usize, first: usize, b: us
     c
 }
 
-// The first `width` words of check `c` of a lent matrix become check `c` of the rows.
-fn copy_check(words: &[u64], width: usize, c: usize, rows: &mut [u64])
-    requires { ⌜ (length (now words) ≡ 4096) × (width ≤ 8) × (c < 512) × (c * width + width ≤ length (now rows)) ⌝ }
-    ensures { λ _. ⌜ SameRows width (now (words .entry)) (now (rows .entry)) (now (rows .exit)) c (c + 1) ⌝ }
+// The first `width` of the `wide` words of check `c` become check `c` of the rows.
+fn copy_check(words: &[u64], wide: usize, width: usize, c: usize, rows: &mut [u64])
+    requires { ⌜ (c * wide + width ≤ length (now words)) × (c * width + width ≤ length (now rows)) ⌝ }
+    ensures { λ _. ⌜ SameRows wide width (now (words .entry)) (now (rows .entry)) (now (rows .exit)) c (c + 1) ⌝ }
 {
     for i in 0..width {
-        rows[c * width + i] = words[c * 8 + i];
+        rows[c * width + i] = words[c * wide + i];
     }
 }
 
-// The first `width` words of each check of a lent matrix become its row.
-pub fn copy(words: &[u64], width: usize, checks: usize, rows: &mut [u64])
-    requires { ⌜ (length (now words) ≡ 4096) × (width ≤ 8) × (checks ≤ 512) × (checks * width ≤ length (now rows)) ⌝ }
-    ensures { λ _. ⌜ SameRows width (now (words .entry)) (now (rows .entry)) (now (rows .exit)) 0 checks ⌝ }
+// The first `width` of the `wide` words of each check become its row.
+pub fn copy(words: &[u64], wide: usize, width: usize, checks: usize, rows: &mut [u64])
+    requires { ⌜ (checks * wide ≤ length (now words)) × (width ≤ wide) × (checks * width ≤ length (now rows)) ⌝ }
+    ensures { λ _. ⌜ SameRows wide width (now (words .entry)) (now (rows .entry)) (now (rows .exit)) 0 checks ⌝ }
 {
     for c in 0..checks {
-        copy_check(words, width, c, rows);
+        copy_check(words, wide, width, c, rows);
     }
 }

@@ -2,24 +2,21 @@
 use mathlib.Core.Path.{_≡_, refl, sym, ap, _∙_}
 use mathlib.Core.Bool.{true, false, not, _&&_, and-eq-true-iff, true≢false, false≢true}
 use mathlib.Core.List.{List}
-use Prim.Native.Nat.{ℕ, _+_, _*_, _≤_, _<_}
-use native.Mathlib.Nat.{zero-add, zero-mul}
+use Prim.Native.Nat.{ℕ, _+_, _≤_, _<_}
+use native.Mathlib.Nat.{zero-add}
 use native.Mathlib.Numerals.{add-one}
 use native.Mathlib.Omega.{arith}
 use native.Mathlib.Decide.{ℕ-discrete, decLt}
 use lib.Dec.{eqb, ltb}
 use lib.ListN.{getD, length, set, length-set}
 use lib.Seq.{getD-set-same, getD-set-other, ext-getD}
-use borrow.Author.Tests.{eq-eqb, eqb-true, lt-ltb, le-ltb, ltb-true}
+use borrow.Author.Tests.{eq-eqb, eqb-true, lt-ltb, ltb-true}
 use Rattle.parity.specs.Finite.{one, count, sum, listFrom}
-use Rattle.parity.specs.Matrix.{Matrix, lent}
+use Rattle.parity.specs.Matrix.{Matrix}
 use Rattle.parity.specs.Words.{isOne, inside, odd}
 use Rattle.parity.specs.Calls.{byteOf}
 use Rattle.parity.proofs.Sums.{is-true, is-false, is, count-suc, count-not, count-mono}
 use Rattle.parity.proofs.Packing.{length-listFrom, at-listFrom}
-use Rattle.parity.proofs.Lent.{lent-in, lent-out}
-use Rattle.parity.proofs.Sets.{inside-below}
-use Rattle.word.specs.Sets.{SetOf}
 use Rattle.elimination.specs.Reduction.{pivot}
 use Rattle.elimination.proofs.Reduced.{pivot-at, pivot-of, pivot-count}
 use Rattle.encode.specs.Filling.{pivotAt, Rising, placed, Placing, Filled}
@@ -29,15 +26,6 @@ pub is-listFrom : (n : ℕ) (f : ℕ → ℕ) (l : List ℕ) → length l ≡ n 
 is-listFrom n f l e h = ext-getD 0 l (listFrom 0 n f) (e ∙ sym (length-listFrom 0 n f)) (λ b k.
     let i : b < n = omega arith in
     h b i ∙ sym (at-listFrom 0 n f b i ∙ ap f (zero-add b)))
-
--- the set of a word's ones, in W of its eight words, counts as the ones do
-pub ones-inside : (W : ℕ) → W ≤ 8 → (w : List ℕ) → length w ≤ W * 64 → (s : List ℕ) → SetOf w 1 s → (g : Matrix) (c : ℕ)
-    → inside g (W * 64) c (lent W s 0) ≡ inside g (length w) c (isOne (byteOf w))
-ones-inside W k w l s S g c = inside-below g (W * 64) (length w) c (lent W s 0) (isOne (byteOf w)) l (λ b.
-    elim (decLt b (W * 64)) [
-      | yes i ↦ lent-in W s 0 b i ∙ rw (zero-mul W) (sym (lent-in 8 s 0 b (omega arith)) ∙ S .at b)
-      | no i ↦ lent-out W s 0 b (omega arith) ∙ rw (le-ltb b (length w) (omega arith))
-    ])
 
 -- placing the message
 module _ (n r : ℕ) (pivots : List ℕ) (A : Rising n r pivots) (message : ℕ → ℕ) where

@@ -42,10 +42,10 @@ unknown-at : (l : List ℕ) (n : ℕ) → l ≡ replicate 120 2 → n ≤ 120 �
 unknown-at l n e k b i = rw (getD-take {A = ℕ} n l b 0 i, e, getD-replicate {A = ℕ} 120 b 2 0 (omega arith))
 
 -- a copy has the codewords of the lent matrix
-copy-same : (ws w u : List ℕ) (n m : ℕ) → n ≤ 120 → SameRows 2 ws w u 0 m → Same (lent 8 ws) (lent 2 u) n m
+copy-same : (ws w u : List ℕ) (n m : ℕ) → n ≤ 120 → SameRows 8 2 ws w u 0 m → Same (lent 8 ws) (lent 2 u) n m
 unfolding evenChecks inside
 copy-same ws w u n m k C x = all-cong m (λ c l. ap (λ a. eqb (a % 2) 0)
-    (count-cong n (λ b i. rw (rows-lent 2 (omega arith) ws w u m C c b l (omega arith)))))
+    (count-cong n (λ b i. rw (rows-lent 8 2 (omega arith) ws w u m C c b l (omega arith)))))
 
 -- reduced in all bits below n
 every-reduced : (g : Matrix) (n m : ℕ) (e : ℕ → Bool) (r : ℕ) (at : ℕ → ℕ) → ((b : ℕ) → b < n → e b ≡ true) → Reduced g m e n r at → Reduced g m everyBit n r at
@@ -60,7 +60,7 @@ every-reduced g n m e r at f R = record {
   rest = λ c j k l i q. R .rest c j k l i (f j i);
 }
 
-pub eliminated : (ws w u : List ℕ) (g : Matrix) (l : List ℕ) (n m r : ℕ) (at : List ℕ) → n ≤ 120 → l ≡ replicate 120 2 → SameRows 2 ws w u 0 m
+pub eliminated : (ws w u : List ℕ) (g : Matrix) (l : List ℕ) (n m r : ℕ) (at : List ℕ) → n ≤ 120 → l ≡ replicate 120 2 → SameRows 8 2 ws w u 0 m
     → Reduction (lent 2 u) g (length (take n l)) m (erased (byteOf (take n l))) (length (take n l)) r at → Reduction (lent 8 ws) g n m everyBit n r at
 eliminated ws w u g l n m r at k e C R =
     let S : Reduction (lent 2 u) g n m (erased (byteOf (take n l))) n r at = rw (unknown-length l n e k) at R in

@@ -43,7 +43,7 @@ fn eliminate(words: &[u64], n: usize, m: usize, rows: &mut [u64], pivots: &mut [
     ensures { λ r. ⌜ Reduction (lent 8 (now (words .entry))) (lent 2 (now (rows .exit))) n m everyBit n r (now (pivots .exit)) ⌝ }
 {
     let all = unknown();
-    copy(words, 2, m, rows);
+    copy(words, 8, 2, m, rows);
     reduce(rows, 2, m, &all[..n], pivots)
 }
 

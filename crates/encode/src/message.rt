@@ -1,6 +1,6 @@
 // A message is put at the bits that are no pivots, and the pivots are filled in.
 use matrix::rows::is_odd;
-use word::sets::set_of;
+use word::sets::make_set;
 ghost use mathlib.Core.Path.{_≡_};
 ghost use mathlib.Core.Bool.{_&&_};
 ghost use Prim.Native.Nat.{_+_, _≤_};
@@ -49,7 +49,8 @@ pub fn fill(rows: &[u64], pivots: &[usize], r: usize, word: &mut [u8])
     requires { ⌜ (length (now rows) ≡ 240) × (r ≤ 120) × (r ≤ length (now pivots)) × (length (now word) ≤ 120) × Rising (length (now word)) r (now pivots) ⌝ }
     ensures { λ _. ⌜ Filled (lent 2 (now (rows .entry))) (length (now (word .entry))) r (now (pivots .entry)) r (byteOf (now (word .entry))) (byteOf (now (word .exit))) ⌝ }
 {
-    let ones = set_of(word, 1);
+    let mut ones = [0u64; 2];
+    make_set(word, 1, 2, &mut ones);
     for c in 0..r {
         let sum = byte(is_odd(rows, 2, c, &ones));
         let at = pivots[c];

@@ -2,7 +2,7 @@
 use mathlib.Core.Path.{_≡_, refl, sym, ap, _∙_, fun-ext}
 use mathlib.Core.Bool.{Bool, true, false, not, cond, _&&_}
 use mathlib.Core.List.{List, [], _∷_}
-use Prim.Native.Nat.{ℕ, zero, suc, _+_, _-_, _≤_, _<_}
+use Prim.Native.Nat.{ℕ, zero, suc, _+_, _*_, _-_, _≤_, _<_}
 use native.Mathlib.Nat.{zero-add}
 use native.Mathlib.Omega.{arith}
 use native.Mathlib.Decide.{decLt, ℕ-discrete}
@@ -49,15 +49,15 @@ count-part n p q w =
     go true = refl
     go false = refl
 
-module _ (h : Matrix) (M : ℕ) (w es os : List ℕ) (few : length w ≤ 512) (right : wrongByte 2 w ≡ false) (E : SetOf w 2 es) (O : SetOf w 1 os) where
+module _ (W : ℕ) (h : Matrix) (M : ℕ) (w es os : List ℕ) (few : length w ≤ W * 64) (right : wrongByte 2 w ≡ false) (E : SetOf W w 2 es) (O : SetOf W w 1 os) where
   -- the sets that the bytes make hold the word
-  bytes-held : held (lent 8 es 0) (lent 8 os 0) ≡ byteOf w
+  bytes-held : held (lent W es 0) (lent W os 0) ≡ byteOf w
   bytes-held = fun-ext (λ b. rw (E .at b, O .at b) (elim (decLt b (length w)) [
     | yes k ↦ rw (lt-ltb b (length w) k) (three (byteOf w b) (right-bytes 2 w .0 right b k))
     | no k ↦ rw (le-ltb b (length w) (omega arith), List·getD-eq-default w 0 {n = b} (omega arith))
   ]))
 
-  held-start : Held h (length w) M (byteOf w) (lent 8 es 0) (lent 8 os 0)
+  held-start : Held h (length w) M (byteOf w) (lent W es 0) (lent W os 0)
   held-start = record {
     apart = λ a p. elim (decLt a (length w)) [
       | yes k ↦
@@ -70,55 +70,55 @@ module _ (h : Matrix) (M : ℕ) (w es os : List ℕ) (few : length w ≤ 512) (r
     stage = rw bytes-held (stage-start h (length w) M (byteOf w) (right-bytes 2 w .0 right));
   }
 
-  module _ (e o : ℕ → Bool) (S : Settled h M (lent 8 es 0) (lent 8 os 0) e o) where
+  module _ (e o : ℕ → Bool) (S : Settled h (W * 64) M (lent W es 0) (lent W os 0) e o) where
     H : Held h (length w) M (byteOf w) e o
-    H = held-reached h (length w) M few (byteOf w) (lent 8 es 0) (lent 8 os 0) e o (S .reached) held-start
+    H = held-reached h (W * 64) (length w) M few (byteOf w) (lent W es 0) (lent W os 0) e o (S .reached) held-start
 
     D : Ended h (length w) M (byteOf w) (held e o)
-    D = held-ended h (length w) M few (byteOf w) e o H (S .over)
+    D = held-ended h (W * 64) (length w) M few (byteOf w) e o H (S .over)
 
-    decides : peels h (length w) M (byteOf w) ≡ agreeing h M e o
-    decides = D .answers ∙ held-agrees h (length w) M few (byteOf w) e o H
+    decides : peels h (length w) M (byteOf w) ≡ agreeing h (W * 64) M e o
+    decides = D .answers ∙ held-agrees h (W * 64) (length w) M few (byteOf w) e o H
 
-    left-count : leftBits h (length w) M (byteOf w) ≡ count 512 e
-    left-count = D .left ∙ ap (count (length w)) (erased-held e o) ∙ sym (count-short (length w) e few (H .short-e))
+    left-count : leftBits h (length w) M (byteOf w) ≡ count (W * 64) e
+    left-count = D .left ∙ ap (count (length w)) (erased-held e o) ∙ sym (count-short (W * 64) (length w) e few (H .short-e))
 
-    before-count : count 512 (lent 8 es 0) ≡ count (length w) (erased (byteOf w))
+    before-count : count (W * 64) (lent W es 0) ≡ count (length w) (erased (byteOf w))
     before-count =
-        count-short (length w) (lent 8 es 0) few (held-start .short-e)
+        count-short (W * 64) (length w) (lent W es 0) few (held-start .short-e)
         ∙ count-cong (length w) (λ b k. E .at b ∙ rw (lt-ltb b (length w) k))
 
-    recovered-count : recoveredBits h (length w) M (byteOf w) + count 512 e ≡ count 512 (lent 8 es 0)
+    recovered-count : recoveredBits h (length w) M (byteOf w) + count (W * 64) e ≡ count (W * 64) (lent W es 0)
     recovered-count =
-        let q : count (length w) (erased (held e o)) ≡ count 512 e = ap (count (length w)) (erased-held e o) ∙ sym (count-short (length w) e few (H .short-e)) in
+        let q : count (length w) (erased (held e o)) ≡ count (W * 64) e = ap (count (length w)) (erased-held e o) ∙ sym (count-short (W * 64) (length w) e few (H .short-e)) in
         let p = count-part (length w) (erased (byteOf w)) (erased (held e o)) (H .stage .shrinks) in
         let r = D .recovered in
         let t = before-count in
-        sum-up (recoveredBits h (length w) M (byteOf w)) (count 512 e) (count 512 (lent 8 es 0)) (count (length w) (λ b. erased (byteOf w) b && not (erased (held e o) b)))
+        sum-up (recoveredBits h (length w) M (byteOf w)) (count (W * 64) e) (count (W * 64) (lent W es 0)) (count (length w) (λ b. erased (byteOf w) b && not (erased (held e o) b)))
         (count (length w) (erased (held e o))) (count (length w) (erased (byteOf w))) r q p t
       where
         sum-up : (a b d x y z : ℕ) → a ≡ x → y ≡ b → x + y ≡ z → d ≡ z → a + b ≡ d
         sum-up a b d x y z p q r s = omega arith
 
-    pub word-refused : agreeing h M e o ≡ false → wordOutcome h M w ≡ record { reply = refusal 12 []; after = w }
+    pub word-refused : agreeing h (W * 64) M e o ≡ false → wordOutcome h M w ≡ record { reply = refusal 12 []; after = w }
     unfolding wordOutcome wordReply
     word-refused f = rw (decides ∙ f)
 
     -- the totals, from the sizes of the erased sets before and after
-    module _ (b l : ℕ) (p : b ≡ count 512 (lent 8 es 0)) (q : l ≡ count 512 e) where
+    module _ (b l : ℕ) (p : b ≡ count (W * 64) (lent W es 0)) (q : l ≡ count (W * 64) e) where
       pub fewer-left : l ≤ b
-      fewer-left = at-most (recoveredBits h (length w) M (byteOf w)) (count 512 e) (count 512 (lent 8 es 0)) recovered-count p q
+      fewer-left = at-most (recoveredBits h (length w) M (byteOf w)) (count (W * 64) e) (count (W * 64) (lent W es 0)) recovered-count p q
         where
           at-most : (a x y : ℕ) → a + x ≡ y → b ≡ y → l ≡ x → l ≤ b
           at-most a x y r s t = omega arith
 
       recovered-is : recoveredBits h (length w) M (byteOf w) ≡ b - l
-      recovered-is = taken-away (recoveredBits h (length w) M (byteOf w)) (count 512 e) (count 512 (lent 8 es 0)) recovered-count p q
+      recovered-is = taken-away (recoveredBits h (length w) M (byteOf w)) (count (W * 64) e) (count (W * 64) (lent W es 0)) recovered-count p q
         where
           taken-away : (a x y : ℕ) → a + x ≡ y → b ≡ y → l ≡ x → a ≡ b - l
           taken-away a x y r s t = omega arith
 
-      pub word-made : agreeing h M e o ≡ true → wordOutcome h M w ≡ record { reply = answer ((b - l) ∷ l ∷ []); after = listFrom 0 (length w) (held e o) }
+      pub word-made : agreeing h (W * 64) M e o ≡ true → wordOutcome h M w ≡ record { reply = answer ((b - l) ∷ l ∷ []); after = listFrom 0 (length w) (held e o) }
       unfolding wordOutcome wordReply
       word-made f =
           let a : peels h (length w) M (byteOf w) ≡ true = decides ∙ f in

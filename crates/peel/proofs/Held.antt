@@ -18,7 +18,7 @@ use Rattle.peel.specs.Next.{Lone, NoSingle}
 use Rattle.peel.specs.Steps.{held, Solved, Reached, start, next, agreeing}
 
 -- the machine's two sets, after the bit leaves the one and, where the check's ones are odd, enters the other
-module _ (h : Matrix) (c b : ℕ) (E O E' O' : Matrix) (p : E' ≡ put 0 b false E) where
+module _ (h : Matrix) (N c b : ℕ) (E O E' O' : Matrix) (p : E' ≡ put 0 b false E) where
   left-out : (a : ℕ) → E' 0 a ≡ (E 0 a && not (eqb a b))
   left-out a =
       ap (λ (g : Matrix). g 0 a) p ∙ (elim (ℕ-discrete a b) [
@@ -26,7 +26,7 @@ module _ (h : Matrix) (c b : ℕ) (E O E' O' : Matrix) (p : E' ≡ put 0 b false
         | no d ↦ rw (ne-eqb a b d, and-true) (put-place 0 b false E 0 a d)
       ])
 
-  pub solved-odd : odd (inside h 512 c (O 0)) ≡ true → O' ≡ put 0 b true O → Solved h c b (E 0) (O 0) (E' 0) (O' 0)
+  pub solved-odd : odd (inside h N c (O 0)) ≡ true → O' ≡ put 0 b true O → Solved h N c b (E 0) (O 0) (E' 0) (O' 0)
   solved-odd e q = record {
     gone = left-out;
     value = λ a. ap (λ (g : Matrix). g 0 a) q ∙ rw e (elim (ℕ-discrete a b) [
@@ -35,7 +35,7 @@ module _ (h : Matrix) (c b : ℕ) (E O E' O' : Matrix) (p : E' ≡ put 0 b false
     ]);
   }
 
-  pub solved-even : odd (inside h 512 c (O 0)) ≡ false → O' ≡ O → Solved h c b (E 0) (O 0) (E' 0) (O' 0)
+  pub solved-even : odd (inside h N c (O 0)) ≡ false → O' ≡ O → Solved h N c b (E 0) (O 0) (E' 0) (O' 0)
   solved-even e q = record {
     gone = left-out;
     value = λ a. ap (λ (g : Matrix). g 0 a) q ∙ rw (e, and-false, or-false);
@@ -49,9 +49,9 @@ one-less n b p q k f e g =
     omega (arith, rw (e, g) at s)
 
 -- a step leaves one erased bit less
-pub fewer : (h : Matrix) (M c b : ℕ) (e o e' o' : ℕ → Bool) → Lone h M e c b → Solved h c b e o e' o' → count 512 e ≡ suc (count 512 e')
-fewer h M c b e o e' o' L S =
-    one-less 512 b e e' (L .bit) (λ i d. S .gone i ∙ rw (ne-eqb i b d, and-true)) (L .gone) (S .gone b ∙ rw (eq-eqb b b refl, and-false))
+pub fewer : (h : Matrix) (N M c b : ℕ) (e o e' o' : ℕ → Bool) → Lone h N M e c b → Solved h N c b e o e' o' → count N e ≡ suc (count N e')
+fewer h N M c b e o e' o' L S =
+    one-less N b e e' (L .bit) (λ i d. S .gone i ∙ rw (ne-eqb i b d, and-true)) (L .gone) (S .gone b ∙ rw (eq-eqb b b refl, and-false))
 
 -- the erased bits of the word, and its ones
 pub erased-held : (e o : ℕ → Bool) → erased (held e o) ≡ e
@@ -74,11 +74,11 @@ ones-held e o f = fun-ext (λ a. go (e a) (o a) (f a))
 pub short-below : (N : ℕ) (s : ℕ → Bool) → ((a : ℕ) → N ≤ a → s a ≡ false) → (b : ℕ) → s b ≡ (ltb b N && s b)
 short-below N s f b = elim (decLt b N) [ yes k ↦ rw (lt-ltb b N k) | no k ↦ rw (le-ltb b N (omega arith), f b (omega arith)) ]
 
-pub inside-short : (h : Matrix) (N c : ℕ) (s : ℕ → Bool) → N ≤ 512 → ((a : ℕ) → N ≤ a → s a ≡ false) → inside h 512 c s ≡ inside h N c s
-inside-short h N c s l f = inside-below h 512 N c s s l (short-below N s f)
+pub inside-short : (h : Matrix) (B N c : ℕ) (s : ℕ → Bool) → N ≤ B → ((a : ℕ) → N ≤ a → s a ≡ false) → inside h B c s ≡ inside h N c s
+inside-short h B N c s l f = inside-below h B N c s s l (short-below N s f)
 
-pub count-short : (N : ℕ) (s : ℕ → Bool) → N ≤ 512 → ((a : ℕ) → N ≤ a → s a ≡ false) → count 512 s ≡ count N s
-count-short N s l f = count-end N 512 s l (λ b k m. f b k)
+pub count-short : (B N : ℕ) (s : ℕ → Bool) → N ≤ B → ((a : ℕ) → N ≤ a → s a ≡ false) → count B s ≡ count N s
+count-short B N s l f = count-end N B s l (λ b k m. f b k)
 
 -- The sets hold a stage of peeling w₀: none of their bits is at N or above, and none is in both.
 pub record Held (h : Matrix) (N M : ℕ) (w₀ : ℕ → ℕ) (e o : ℕ → Bool) : Type 0 where
@@ -87,8 +87,9 @@ pub record Held (h : Matrix) (N M : ℕ) (w₀ : ℕ → ℕ) (e o : ℕ → Boo
   pub short-o : (a : ℕ) → N ≤ a → o a ≡ false
   pub stage : Stage h N M w₀ (held e o)
 
-module _ (h : Matrix) (N M : ℕ) (few : N ≤ 512) (w₀ : ℕ → ℕ) where
-  module _ (e o e' o' : ℕ → Bool) (c b : ℕ) (H : Held h N M w₀ e o) (L : Lone h M e c b) (S : Solved h c b e o e' o') where
+-- The sets have room for B bits, of which the word has N.
+module _ (h : Matrix) (B N M : ℕ) (few : N ≤ B) (w₀ : ℕ → ℕ) where
+  module _ (e o e' o' : ℕ → Bool) (c b : ℕ) (H : Held h N M w₀ e o) (L : Lone h B M e c b) (S : Solved h B c b e o e' o') where
     bit-in : b < N
     bit-in = elim (decLt b N) [ yes k ↦ k | no k ↦ absurd (true≢false (sym (L .gone) ∙ H .short-e b (omega arith))) ]
 
@@ -96,7 +97,7 @@ module _ (h : Matrix) (N M : ℕ) (few : N ≤ 512) (w₀ : ℕ → ℕ) where
     solved-held : held e' o' ≡ solved h N c b (held e o)
     unfolding solved
     solved-held = fun-ext (λ a. rw (S .gone a, S .value a) (elim (ℕ-discrete a b) [
-      | yes q ↦ rw (q, eq-eqb b b refl, and-false, H .apart b (L .gone), ones-held e o (H .apart)) (ap (λ s. one (odd s)) (inside-short h N c o few (H .short-o)))
+      | yes q ↦ rw (q, eq-eqb b b refl, and-false, H .apart b (L .gone), ones-held e o (H .apart)) (ap (λ s. one (odd s)) (inside-short h B N c o few (H .short-o)))
       | no d ↦ rw (ne-eqb a b d, and-true, or-false)
     ]))
 
@@ -112,21 +113,21 @@ module _ (h : Matrix) (N M : ℕ) (few : N ≤ 512) (w₀ : ℕ → ℕ) where
       short-o = λ a k. S .value a ∙ rw (H .short-o a k, ne-eqb a b (λ q. omega (arith, bit-in)));
       stage = rw solved-held (step h N M w₀ (held e o) (H .stage) c b (L .check) bit-in (L .has)
           (ap (λ (s : ℕ → Bool). s b) (erased-held e o) ∙ L .gone)
-          (ap (inside h N c) (erased-held e o) ∙ sym (inside-short h N c e few (H .short-e)) ∙ L .only));
+          (ap (inside h N c) (erased-held e o) ∙ sym (inside-short h B N c e few (H .short-e)) ∙ L .only));
     }
 
   -- and so does each pair of sets that steps lead to
-  pub held-reached : (e o e' o' : ℕ → Bool) → Reached h M e o e' o' → Held h N M w₀ e o → Held h N M w₀ e' o'
+  pub held-reached : (e o e' o' : ℕ → Bool) → Reached h B M e o e' o' → Held h N M w₀ e o → Held h N M w₀ e' o'
   held-reached e o e' o' start H = H
   held-reached e o e' o' (next {e₁ = e₁} {o₁ = o₁} r c b L S) H = held-step e₁ o₁ e' o' c b (held-reached e o e₁ o₁ r H) L S
 
   module _ (e o : ℕ → Bool) (H : Held h N M w₀ e o) where
     -- the end
-    pub held-ended : NoSingle h M 0 e → Ended h N M w₀ (held e o)
+    pub held-ended : NoSingle h B M 0 e → Ended h N M w₀ (held e o)
     held-ended S =
         ended h N M w₀ (held e o) (H .stage) (λ c k q. S .none c (omega arith) k
-        (inside-short h N c e few (H .short-e) ∙ (rw erased-held at q)))
+        (inside-short h B N c e few (H .short-e) ∙ (rw erased-held at q)))
 
-    pub held-agrees : agrees h N M (held e o) ≡ agreeing h M e o
+    pub held-agrees : agrees h N M (held e o) ≡ agreeing h B M e o
     unfolding agrees agreeing
-    held-agrees = all-cong M (λ c k. rw (erased-held e o, ones-held e o (H .apart), inside-short h N c e few (H .short-e), inside-short h N c o few (H .short-o)))
+    held-agrees = all-cong M (λ c k. rw (erased-held e o, ones-held e o (H .apart), inside-short h B N c e few (H .short-e), inside-short h B N c o few (H .short-o)))

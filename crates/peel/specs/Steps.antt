@@ -1,4 +1,4 @@
--- Peeling on the sets of a word's erased bits and of its ones. Assumes nothing.
+-- Peeling on the sets of a word's erased bits and of its ones, with N bits and M checks. Assumes nothing.
 use mathlib.Core.Path.{_≡_}
 use mathlib.Core.Bool.{Bool, not, cond, _&&_, _||_}
 use mathlib.Core.List.{List}
@@ -15,25 +15,25 @@ abbrev pub held : (ℕ → Bool) → (ℕ → Bool) → ℕ → ℕ
 held e o b = cond (e b) 2 (one (o b))
 
 -- Bit b of check c is solved: it is erased no more, and becomes the sum modulo 2 of the check's ones.
-pub record Solved (h : Matrix) (c b : ℕ) (e o e' o' : ℕ → Bool) : Type 0 where
+pub record Solved (h : Matrix) (N c b : ℕ) (e o e' o' : ℕ → Bool) : Type 0 where
   pub gone : (a : ℕ) → e' a ≡ (e a && not (eqb a b))
-  pub value : (a : ℕ) → o' a ≡ (o a || (eqb a b && odd (inside h 512 c o)))
+  pub value : (a : ℕ) → o' a ≡ (o a || (eqb a b && odd (inside h N c o)))
 
 -- the sets that solving steps lead to
-pub data Reached (h : Matrix) (M : ℕ) (e o : ℕ → Bool) : (ℕ → Bool) → (ℕ → Bool) → Type 0 where
-  start : Reached h M e o e o
-  next : {e₁ o₁ e₂ o₂ : ℕ → Bool} → Reached h M e o e₁ o₁ → (c b : ℕ) → Lone h M e₁ c b → Solved h c b e₁ o₁ e₂ o₂ → Reached h M e o e₂ o₂
+pub data Reached (h : Matrix) (N M : ℕ) (e o : ℕ → Bool) : (ℕ → Bool) → (ℕ → Bool) → Type 0 where
+  start : Reached h N M e o e o
+  next : {e₁ o₁ e₂ o₂ : ℕ → Bool} → Reached h N M e o e₁ o₁ → (c b : ℕ) → Lone h N M e₁ c b → Solved h N c b e₁ o₁ e₂ o₂ → Reached h N M e o e₂ o₂
 
 -- steps lead there, and no check has exactly one erased bit
-pub record Settled (h : Matrix) (M : ℕ) (e o e' o' : ℕ → Bool) : Type 0 where
-  pub reached : Reached h M e o e' o'
-  pub over : NoSingle h M 0 e'
+pub record Settled (h : Matrix) (N M : ℕ) (e o e' o' : ℕ → Bool) : Type 0 where
+  pub reached : Reached h N M e o e' o'
+  pub over : NoSingle h N M 0 e'
 
 -- each check without an erased bit is even
-unfoldable pub agreeing : Matrix → ℕ → (ℕ → Bool) → (ℕ → Bool) → Bool
-agreeing h M e o = all M (λ c. not (eqb (inside h 512 c e) 0) || eqb (inside h 512 c o % 2) 0)
+unfoldable pub agreeing : Matrix → ℕ → ℕ → (ℕ → Bool) → (ℕ → Bool) → Bool
+agreeing h N M e o = all M (λ c. not (eqb (inside h N c e) 0) || eqb (inside h N c o % 2) 0)
 
 -- r says whether they are, and the word w becomes the one that the sets hold, or stays
-pub record Finished (h : Matrix) (M : ℕ) (e o : ℕ → Bool) (w : List ℕ) (r : Bool) (w' : List ℕ) : Type 0 where
-  pub told : r ≡ agreeing h M e o
+pub record Finished (h : Matrix) (N M : ℕ) (e o : ℕ → Bool) (w : List ℕ) (r : Bool) (w' : List ℕ) : Type 0 where
+  pub told : r ≡ agreeing h N M e o
   pub word : w' ≡ cond r (listFrom 0 (length w) (held e o)) w

@@ -1,4 +1,5 @@
 // What peeling comes to: whether the checks agree, and the word.
+use parity::Bit;
 use parity::Check;
 use word::sets::is_in;
 use word::sets::is_odd;
@@ -13,7 +14,7 @@ ghost use Rattle.peel.specs.Steps.{held, agreeing, Finished};
 // Whether each of the first `checks` checks without an erased bit is even.
 fn agree(words: &[u64], checks: usize, erased: &[u64], ones: &[u64]) -> bool
     requires { ⌜ (length (now words) ≡ 4096) × (checks ≤ 512) × (length (now erased) ≡ 8) × (length (now ones) ≡ 8) ⌝ }
-    ensures { λ r. ⌜ r ≡ agreeing (lent 8 (now (words .entry))) checks (lent 8 (now (erased .entry)) 0) (lent 8 (now (ones .entry)) 0) ⌝ }
+    ensures { λ r. ⌜ r ≡ agreeing (lent 8 (now (words .entry))) 512 checks (lent 8 (now (erased .entry)) 0) (lent 8 (now (ones .entry)) 0) ⌝ }
 {
     for c in 0..checks {
         if !touches(words, Check(c), erased) {
@@ -26,9 +27,9 @@ fn agree(words: &[u64], checks: usize, erased: &[u64], ones: &[u64]) -> bool
 }
 
 // The byte of bit `b`.
-fn byte_at(erased: &[u64], ones: &[u64], b: usize) -> u8
-    requires { ⌜ (length (now erased) ≡ 8) × (length (now ones) ≡ 8) × (b < 512) ⌝ }
-    ensures { λ r. ⌜ r ≡ held (lent 8 (now (erased .entry)) 0) (lent 8 (now (ones .entry)) 0) b ⌝ }
+fn byte_at(erased: &[u64], ones: &[u64], b: Bit) -> u8
+    requires { ⌜ (length (now erased) ≡ 8) × (length (now ones) ≡ 8) × (b .0 < 512) ⌝ }
+    ensures { λ r. ⌜ r ≡ held (lent 8 (now (erased .entry)) 0) (lent 8 (now (ones .entry)) 0) (b .0) ⌝ }
 {
     if is_in(erased, b) {
         return 2;
@@ -46,14 +47,14 @@ fn write(word: &mut [u8], erased: &[u64], ones: &[u64])
 {
     let n = word.len();
     for b in 0..n {
-        word[b] = byte_at(erased, ones, b);
+        word[b] = byte_at(erased, ones, Bit(b));
     }
 }
 
 // The word becomes the one that the sets hold if each check without an erased bit is even, and else stays. Whether they are.
 pub fn finish(words: &[u64], checks: usize, word: &mut [u8], erased: &[u64], ones: &[u64]) -> bool
     requires { ⌜ (length (now words) ≡ 4096) × (checks ≤ 512) × (length (now word) ≤ 512) × (length (now erased) ≡ 8) × (length (now ones) ≡ 8) ⌝ }
-    ensures { λ r. ⌜ Finished (lent 8 (now (words .entry))) checks (lent 8 (now (erased .entry)) 0) (lent 8 (now (ones .entry)) 0) (now (word .entry)) r (now (word .exit)) ⌝ }
+    ensures { λ r. ⌜ Finished (lent 8 (now (words .entry))) 512 checks (lent 8 (now (erased .entry)) 0) (lent 8 (now (ones .entry)) 0) (now (word .entry)) r (now (word .exit)) ⌝ }
 {
     let agreed = agree(words, checks, erased, ones);
     if agreed {

@@ -3,7 +3,7 @@ use matrix::ones::wide;
 use parity::Bit;
 use parity::Check;
 ghost use mathlib.Core.Path.{_≡_};
-ghost use Prim.Native.Nat.{_≤_};
+ghost use Prim.Native.Nat.{_*_, _≤_};
 ghost use lib.ListN.{length};
 ghost use Rattle.parity.specs.Matrix.{lent};
 ghost use Rattle.peel.specs.Next.{NextSingle};
@@ -14,22 +14,29 @@ pub enum Single {
     Nothing,
 }
 
-// The first check from `from` on with exactly one erased bit.
-pub fn next_single(words: &[u64], checks: usize, from: usize, erased: &[u64]) -> Single
-    requires { ⌜ (length (now words) ≡ 4096) × (checks ≤ 512) × (from ≤ checks) × (length (now erased) ≡ 8) ⌝ }
-    ensures { λ r. ⌜ NextSingle (lent 8 (now (words .entry))) checks from (lent 8 (now (erased .entry)) 0) r ⌝ }
+// The first check from `from` on with exactly one erased bit. Each check has `width` words, and so has the set.
+pub fn next_single(
+    words: &[u64],
+    width: usize,
+    checks: usize,
+    from: Check,
+    erased: &[u64],
+) -> Single
+    requires { ⌜ (checks * width ≤ length (now words)) × (checks ≤ 512) × (width ≤ length (now erased)) × (width ≤ 8) ⌝ }
+    ensures { λ r. ⌜ NextSingle (lent width (now (words .entry))) (width * 64) checks (from .0) (lent width (now (erased .entry)) 0) r ⌝ }
 {
-    let mut c = from;
+    let none = width * 64;
+    let mut c = from.0;
     'scan: loop {
-        if c == checks {
+        if checks <= c {
             break 'scan Single::Nothing;
         }
-        let mut at: usize = 512;
+        let mut at = none;
         let mut i: usize = 0;
-        'row: while i < 8 {
-            let mut x = words[c * 8 + i] & erased[i];
+        'row: while i < width {
+            let mut x = words[c * width + i] & erased[i];
             'bits: while x != 0 {
-                if at < 512 {
+                if at < none {
                     // a second erased bit
                     c += 1;
                     continue 'scan;
@@ -40,7 +47,7 @@ pub fn next_single(words: &[u64], checks: usize, from: usize, erased: &[u64]) ->
             }
             i += 1;
         }
-        if at < 512 {
+        if at < none {
             break 'scan Single::Found(Check(c), Bit(at));
         }
         c += 1;

@@ -15,7 +15,7 @@ ghost use Rattle.peel.specs.Steps.{Solved, Settled};
 // Bit `b`, the one erased bit of check `c`, becomes the sum modulo 2 of the check's ones.
 fn solve(words: &[u64], c: Check, b: Bit, erased: &mut [u64], ones: &mut [u64])
     requires { ⌜ (length (now words) ≡ 4096) × (c .0 < 512) × (b .0 < 512) × (length (now erased) ≡ 8) × (length (now ones) ≡ 8) ⌝ }
-    ensures { λ r. ⌜ Solved (lent 8 (now (words .entry))) (c .0) (b .0) (lent 8 (now (erased .entry)) 0) (lent 8 (now (ones .entry)) 0) (lent 8 (now (erased .exit)) 0) (lent 8 (now (ones .exit)) 0) ⌝ }
+    ensures { λ r. ⌜ Solved (lent 8 (now (words .entry))) 512 (c .0) (b .0) (lent 8 (now (erased .entry)) 0) (lent 8 (now (ones .entry)) 0) (lent 8 (now (erased .exit)) 0) (lent 8 (now (ones .exit)) 0) ⌝ }
 {
     let odd = is_odd(words, c, ones);
     let at = b.0;
@@ -29,21 +29,21 @@ fn solve(words: &[u64], c: Check, b: Bit, erased: &mut [u64], ones: &mut [u64])
 // whole pass that found none.
 pub fn settle(words: &[u64], checks: usize, erased: &mut [u64], ones: &mut [u64])
     requires { ⌜ (length (now words) ≡ 4096) × (checks ≤ 512) × (length (now erased) ≡ 8) × (length (now ones) ≡ 8) ⌝ }
-    ensures { λ r. ⌜ Settled (lent 8 (now (words .entry))) checks (lent 8 (now (erased .entry)) 0) (lent 8 (now (ones .entry)) 0) (lent 8 (now (erased .exit)) 0) (lent 8 (now (ones .exit)) 0) ⌝ }
+    ensures { λ r. ⌜ Settled (lent 8 (now (words .entry))) 512 checks (lent 8 (now (erased .entry)) 0) (lent 8 (now (ones .entry)) 0) (lent 8 (now (erased .exit)) 0) (lent 8 (now (ones .exit)) 0) ⌝ }
 {
-    let mut from: usize = 0;
+    let mut from = Check(0);
     loop {
-        let single = next_single(words, checks, from, erased);
+        let single = next_single(words, 8, checks, from, erased);
         match single {
             Single::Found(c, b) => {
                 solve(words, c, b, erased, ones);
-                from = c.0;
+                from = c;
             }
             Single::Nothing => {
-                if from == 0 {
+                if from.0 == 0 {
                     break;
                 }
-                from = 0;
+                from = Check(0);
             }
         }
     }

@@ -1,9 +1,9 @@
--- A set made of bytes, word by word. Assumes nothing.
+-- A set made of bytes, word by word, over the number W of words. Assumes nothing.
 use mathlib.Core.Path.{_≡_, _∙_}
 use mathlib.Core.Bool.{_&&_, and-false, or-true, or-false}
 use mathlib.Core.List.{List}
 use Prim.Native.Nat.{ℕ, _+_, _*_, _-_, _/_, _%_, _^_, _≤_, _<_, min, max}
-use native.Mathlib.Nat.{zero-add}
+use native.Mathlib.Nat.{zero-add, zero-mul}
 use native.Mathlib.Omega.{arith}
 use native.Mathlib.Decide.{ℕ-discrete, decLt}
 use lib.Bits.{bitOr}
@@ -13,6 +13,7 @@ use lib.Seq.{getD-set-same, getD-set-other}
 use borrow.Author.Tests.{eq-eqb, ne-eqb, lt-ltb, le-ltb}
 use Rattle.parity.specs.Matrix.{bitOf}
 use Rattle.parity.specs.Calls.{byteOf}
+use Rattle.parity.proofs.Sums.{below-next}
 use Rattle.parity.proofs.Digits.{bit-zero, bit-set}
 use Rattle.parity.proofs.Lent.{lent-in, lent-out}
 use Rattle.word.specs.Sets.{WordOf, SetOf}
@@ -23,13 +24,6 @@ pub record Upto (w : List ℕ) (v i x b : ℕ) : Type 0 where
 
 pub upto-none : (w : List ℕ) (v i : ℕ) → Upto w v i 0 (i * 64)
 upto-none w v i = record { at = λ j k. rw (le-ltb (i * 64 + j) (i * 64) (omega arith)) (bit-zero j) }
-
-below-next : (b c : ℕ) → (b ≡ c → ⊥) → ltb b (c + 1) ≡ ltb b c
-below-next b c d =
-    elim (decLt b c) [
-      | yes k ↦ rw (lt-ltb b c k, lt-ltb b (c + 1) (omega arith))
-      | no k ↦ rw (le-ltb b c (omega arith), le-ltb b (c + 1) (omega arith))
-    ]
 
 module _ (w : List ℕ) (v i x b : ℕ) (U : Upto w v i x b) where
   pub upto-in : i * 64 ≤ b → byteOf w b ≡ v → Upto w v i (bitOr x (2 ^ (b - i * 64))) (b + 1)
@@ -56,31 +50,31 @@ module _ (w : List ℕ) (v i x b : ℕ) (U : Upto w v i x b) where
     ]);
   }
 
--- the first n words of a set
-pub record Words (w : List ℕ) (v n : ℕ) (r : List ℕ) : Type 0 where
-  pub size : length r ≡ 8
+-- the first n of the W words of a set
+pub record Words (W : ℕ) (w : List ℕ) (v n : ℕ) (r : List ℕ) : Type 0 where
+  pub size : length r ≡ W
   pub word : (i : ℕ) → i < n → WordOf w v i (getD r i 0)
 
-pub words-none : (w : List ℕ) (v : ℕ) (r : List ℕ) → length r ≡ 8 → Words w v 0 r
-words-none w v r e = record { size = e; word = λ i k. absurd (omega arith) }
+pub words-none : (W : ℕ) (w : List ℕ) (v : ℕ) (r : List ℕ) → length r ≡ W → Words W w v 0 r
+words-none W w v r e = record { size = e; word = λ i k. absurd (omega arith) }
 
-module _ (w : List ℕ) (v n : ℕ) (r : List ℕ) (S : Words w v n r) where
-  pub words-more : (x : ℕ) → n < 8 → WordOf w v n x → Words w v (n + 1) (set r n x)
-  words-more x k W = record {
+module _ (W : ℕ) (w : List ℕ) (v n : ℕ) (r : List ℕ) (S : Words W w v n r) where
+  pub words-more : (x : ℕ) → n < W → WordOf w v n x → Words W w v (n + 1) (set r n x)
+  words-more x k O = record {
     size = length-set r n x ∙ S .size;
     word = λ i l. elim (ℕ-discrete i n) [
-      | yes q ↦ rw (q, getD-set-same r n x 0 (omega (arith, S .size))) W
+      | yes q ↦ rw (q, getD-set-same r n x 0 (omega (arith, S .size))) O
       | no d ↦ rw (getD-set-other r n i x 0 d) (S .word i (omega arith))
     ];
   }
 
-  pub words-all : n ≡ 8 → length w ≤ 512 → SetOf w v r
+  pub words-all : n ≡ W → length w ≤ W * 64 → SetOf W w v r
   words-all e l = record {
     size = S .size;
-    at = λ b. elim (decLt b 512) [
+    at = λ b. elim (decLt b (W * 64)) [
       | yes k ↦
           let q : b / 64 * 64 + b % 64 ≡ b = omega arith in
-          lent-in 8 r 0 b (omega arith) ∙ rw (zero-add (b / 64)) (rw q at (S .word (b / 64) (omega arith) .at (b % 64) (omega arith)))
-      | no k ↦ lent-out 8 r 0 b (omega arith) ∙ rw (le-ltb b (length w) (omega arith))
+          lent-in W r 0 b k ∙ rw (zero-mul W, zero-add (b / 64)) (rw q at (S .word (b / 64) (omega arith) .at (b % 64) (omega arith)))
+      | no k ↦ lent-out W r 0 b (omega arith) ∙ rw (le-ltb b (length w) (omega arith))
     ];
   }

@@ -2,7 +2,7 @@
 use mathlib.Core.Path.{_≡_, sym, ap, _∙_}
 use mathlib.Core.Bool.{Bool, true, false, not}
 use mathlib.Core.List.{List, [], _∷_}
-use Prim.Native.Nat.{ℕ, _+_, _%_, _≤_}
+use Prim.Native.Nat.{ℕ, _+_, _*_, _%_, _≤_}
 use lib.Dec.{eqb, ltb, leb}
 use lib.ListN.{length}
 use borrow.Author.Tests.{eq-eqb, ltb-true, lt-leb, le-leb}
@@ -22,9 +22,9 @@ use Rattle.word.specs.Answers.{admitReply}
 use Rattle.word.specs.Sets.{SetOf}
 
 -- the bits of a check that are in the set, of the bytes that there are
-pub set-inside : (h : Matrix) (c : ℕ) (w : List ℕ) (v : ℕ) (r : List ℕ) → SetOf w v r → length w ≤ 512
-    → inside h 512 c (lent 8 r 0) ≡ inside h (length w) c (λ b. eqb (byteOf w b) v)
-set-inside h c w v r S l = inside-below h 512 (length w) c (lent 8 r 0) (λ b. eqb (byteOf w b) v) l (S .at)
+pub set-inside : (W : ℕ) (h : Matrix) (c : ℕ) (w : List ℕ) (v : ℕ) (r : List ℕ) → SetOf W w v r → length w ≤ W * 64
+    → inside h (W * 64) c (lent W r 0) ≡ inside h (length w) c (λ b. eqb (byteOf w b) v)
+set-inside W h c w v r S l = inside-below h (W * 64) (length w) c (lent W r 0) (λ b. eqb (byteOf w b) v) l (S .at)
 
 module _ (h : Matrix) (M : ℕ) (w : List ℕ) where
   -- a byte above 1 is in no codeword
@@ -34,16 +34,16 @@ module _ (h : Matrix) (M : ℕ) (w : List ℕ) where
       let (b, k, p) = any-at (length w) (λ b. ltb 1 (byteOf w b)) e in
       rw (all-false (length w) (λ b. leb (byteOf w b) 1) b k (lt-leb (byteOf w b) 1 (ltb-true 1 (byteOf w b) p)))
 
-  module _ (r : List ℕ) (S : SetOf w 1 r) (l : length w ≤ 512) where
-    pub codeword-is : wrongByte 1 w ≡ false → evenChecks h 512 M (lent 8 r 0) ≡ codeword h (length w) M (byteOf w)
+  module _ (W : ℕ) (r : List ℕ) (S : SetOf W w 1 r) (l : length w ≤ W * 64) where
+    pub codeword-is : wrongByte 1 w ≡ false → evenChecks h (W * 64) M (lent W r 0) ≡ codeword h (length w) M (byteOf w)
     unfolding codeword evenChecks
     codeword-is e =
         rw (all-of (length w) (λ b. leb (byteOf w b) 1) (λ b k. le-leb (byteOf w b) 1 (right-bytes 1 w .0 e b k)))
-        (all-cong M (λ c k. ap (λ a. eqb (a % 2) 0) (set-inside h c w 1 r S l)))
+        (all-cong M (λ c k. ap (λ a. eqb (a % 2) 0) (set-inside W h c w 1 r S l)))
 
-    pub stopping-is : stopping h 512 M (lent 8 r 0) ≡ stopping h (length w) M (isOne (byteOf w))
+    pub stopping-is : stopping h (W * 64) M (lent W r 0) ≡ stopping h (length w) M (isOne (byteOf w))
     unfolding stopping
-    stopping-is = all-cong M (λ c k. ap (λ a. not (eqb a 1)) (set-inside h c w 1 r S l))
+    stopping-is = all-cong M (λ c k. ap (λ a. not (eqb a 1)) (set-inside W h c w 1 r S l))
 
 module _ (ws : List ℕ) (n m k : ℕ) (w : List ℕ) (top : ℕ) where
   -- what causes 1 to 4, 10 and 11 leave

@@ -7,8 +7,8 @@ use Rattle.parity.specs.Matrix.{Matrix}
 use Rattle.parity.specs.Words.{isOne, extended}
 use Rattle.parity.specs.Causes.{Reply, answer, refusalOf}
 use Rattle.parity.specs.Calls.{byteOf}
-use Rattle.word.specs.declared.extending.Extension.{Extension}
-use Rattle.word.specs.declared.extending.Extension.the-variants.{Written, Refused}
+use Rattle.word.specs.declared.Extension.{Extension}
+use Rattle.word.specs.declared.Extension.the-variants.{Written, Refused}
 
 abbrev pub extendReplyOf : Extension → Reply
 extendReplyOf Written = answer []

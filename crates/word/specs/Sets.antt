@@ -16,7 +16,7 @@ withByte w v b = ltb b (length w) && eqb (byteOf w b) v
 pub record WordOf (w : List ℕ) (v i x : ℕ) : Type 0 where
   pub at : (j : ℕ) → j < 64 → bitOf x j ≡ withByte w v (i * 64 + j)
 
--- the words r are their set
-pub record SetOf (w : List ℕ) (v : ℕ) (r : List ℕ) : Type 0 where
-  pub size : length r ≡ 8
-  pub at : (b : ℕ) → lent 8 r 0 b ≡ withByte w v b
+-- the W words r are their set
+pub record SetOf (W : ℕ) (w : List ℕ) (v : ℕ) (r : List ℕ) : Type 0 where
+  pub size : length r ≡ W
+  pub at : (b : ℕ) → lent W r 0 b ≡ withByte w v b

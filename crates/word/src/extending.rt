@@ -1,23 +1,14 @@
 // Extending: the sent bits, and then each added bit as the sum modulo 2 of the two lower bits of its added check.
-use crate::bytes::first_above;
-use matrix::Acceptance;
 use matrix::ones::next_one;
 use parity::Check;
-use parity::Refusal;
 ghost use mathlib.Core.Path.{_≡_};
 ghost use Prim.Native.Nat.{_+_, _<_, _≤_};
 ghost use lib.ListN.{length};
 ghost use Rattle.parity.specs.Finite.{one};
 ghost use Rattle.parity.specs.Matrix.{lent, cause};
 ghost use Rattle.parity.specs.Words.{isOne, inside, odd};
-ghost use Rattle.parity.specs.Calls.{byteOf, extendOutcome};
-ghost use Rattle.word.specs.Extending.{extendReplyOf, Copied, ExtendedTo, Bits, extendedBytes};
-
-// What extending answers.
-pub enum Extension {
-    Written,
-    Refused(Refusal),
-}
+ghost use Rattle.parity.specs.Calls.{byteOf};
+ghost use Rattle.word.specs.Extending.{Copied, ExtendedTo, Bits, extendedBytes};
 
 // The sent bytes are copied to the front of the word.
 fn copy_sent(sent: &[u8], word: &mut [u8])
@@ -51,42 +42,10 @@ fn add_bits(words: &[u64], n: usize, m: usize, k: usize, word: &mut [u8])
 }
 
 // The sent bits and the added bits.
-fn write_word(words: &[u64], n: usize, m: usize, k: usize, sent: &[u8], word: &mut [u8])
+pub fn write_word(words: &[u64], n: usize, m: usize, k: usize, sent: &[u8], word: &mut [u8])
     requires { ⌜ (cause (now words) n m k ≡ 0) × (length (now word) ≡ n + k) × (length (now sent) ≡ n) × Bits (now sent) n ⌝ }
     ensures { λ r. ⌜ now (word .exit) ≡ extendedBytes (lent 8 (now (words .entry))) n m k (now (sent .entry)) ⌝ }
 {
     copy_sent(sent, word);
     add_bits(words, n, m, k, word);
-}
-
-// Extends the `n` sent bits to the `n + k` bits of the word.
-pub fn extend(
-    words: &[u64],
-    n: usize,
-    m: usize,
-    k: usize,
-    sent: &[u8],
-    word: &mut [u8],
-) -> Extension
-    ensures { λ r. ⌜ (extendReplyOf r ≡ extendOutcome (now (words .entry)) n m k (now (sent .entry)) (now (word .entry)) .reply)
-        × (now (word .exit) ≡ extendOutcome (now (words .entry)) n m k (now (sent .entry)) (now (word .entry)) .after) ⌝ }
-{
-    let accepted = matrix::accept(words, n, m, k);
-    match accepted {
-        Acceptance::Refused(r) => Extension::Refused(r),
-        Acceptance::Accepted => {
-            if word.len() != n + k {
-                return Extension::Refused(Refusal::WrongLength);
-            }
-            if sent.len() != n {
-                return Extension::Refused(Refusal::WrongLength);
-            }
-            let place = first_above(sent, 1);
-            if place < sent.len() {
-                return Extension::Refused(Refusal::WrongByte { place });
-            }
-            write_word(words, n, m, k, sent, word);
-            Extension::Written
-        }
-    }
 }

@@ -1,9 +1,10 @@
-// Words and sets of bits, one byte for each bit: verifying, and testing stopping sets.
+// Words and sets of bits, one byte for each bit: verifying, extending, and testing stopping sets.
 pub mod bytes;
-pub mod extending;
+mod extending;
 pub mod sets;
 
 use crate::bytes::first_above;
+use crate::extending::write_word;
 use crate::sets::common;
 use crate::sets::is_odd;
 use crate::sets::set_of;
@@ -15,8 +16,9 @@ ghost use Prim.Native.Nat.{_<_, _≤_};
 ghost use lib.ListN.{length};
 ghost use Rattle.parity.specs.Matrix.{lent};
 ghost use Rattle.parity.specs.Words.{isOne, evenChecks, codeword, stopping};
-ghost use Rattle.parity.specs.Calls.{byteOf, verifyReply, isStoppingReply};
+ghost use Rattle.parity.specs.Calls.{byteOf, verifyReply, extendOutcome, isStoppingReply};
 ghost use Rattle.word.specs.Answers.{admissionReply, admitReply, verifyReplyOf, stoppingReplyOf};
+ghost use Rattle.word.specs.Extending.{extendReplyOf};
 
 // Whether a matrix and the bytes lent with it are taken.
 pub enum Admission {
@@ -28,6 +30,12 @@ pub enum Admission {
 pub enum Verified {
     Yes,
     No,
+    Refused(Refusal),
+}
+
+// What extending answers.
+pub enum Extension {
+    Written,
     Refused(Refusal),
 }
 
@@ -95,6 +103,38 @@ pub fn verify(words: &[u64], n: usize, m: usize, k: usize, word: &[u8]) -> Verif
                 return Verified::Yes;
             }
             Verified::No
+        }
+    }
+}
+
+// Extends the `n` sent bits to the `n + k` bits of the word.
+pub fn extend(
+    words: &[u64],
+    n: usize,
+    m: usize,
+    k: usize,
+    sent: &[u8],
+    word: &mut [u8],
+) -> Extension
+    ensures { λ r. ⌜ (extendReplyOf r ≡ extendOutcome (now (words .entry)) n m k (now (sent .entry)) (now (word .entry)) .reply)
+        × (now (word .exit) ≡ extendOutcome (now (words .entry)) n m k (now (sent .entry)) (now (word .entry)) .after) ⌝ }
+{
+    let accepted = matrix::accept(words, n, m, k);
+    match accepted {
+        Acceptance::Refused(r) => Extension::Refused(r),
+        Acceptance::Accepted => {
+            if word.len() != n + k {
+                return Extension::Refused(Refusal::WrongLength);
+            }
+            if sent.len() != n {
+                return Extension::Refused(Refusal::WrongLength);
+            }
+            let place = first_above(sent, 1);
+            if place < sent.len() {
+                return Extension::Refused(Refusal::WrongByte { place });
+            }
+            write_word(words, n, m, k, sent, word);
+            Extension::Written
         }
     }
 }

@@ -1,9 +1,10 @@
-// Sets of bits, as the eight words of a row of the matrix, and the bits of a check that are in one.
+// Sets of bits, as a row of words, and the bits of a check that are in one. The matrix has rows of eight words.
 use matrix::rows;
+use parity::Bit;
 use parity::Check;
 ghost use mathlib.Core.Path.{_≡_};
 ghost use mathlib.Core.Bool.{not};
-ghost use Prim.Native.Nat.{_<_, _≤_, min};
+ghost use Prim.Native.Nat.{_*_, _<_, _≤_, min};
 ghost use lib.Dec.{eqb};
 ghost use lib.ListN.{length};
 ghost use Rattle.parity.specs.Finite.{count};
@@ -37,24 +38,32 @@ fn word_of(bytes: &[u8], value: u8, i: usize) -> u64
     x
 }
 
-// The set of the bits whose byte is `value`.
-pub fn set_of(bytes: &[u8], value: u8) -> [u64; 8]
-    requires { ⌜ length (now bytes) ≤ 512 ⌝ }
-    ensures { λ r. ⌜ SetOf (now (bytes .entry)) value r ⌝ }
+// The `width` words of `set` become the set of the bits whose byte is `value`.
+pub fn make_set(bytes: &[u8], value: u8, width: usize, set: &mut [u64])
+    requires { ⌜ (length (now bytes) ≤ width * 64) × (length (now set) ≡ width) × (width ≤ 8) ⌝ }
+    ensures { λ r. ⌜ SetOf width (now (bytes .entry)) value (now (set .exit)) ⌝ }
 {
-    let mut set = [0u64; 8];
-    for i in 0..8 {
+    for i in 0..width {
         set[i] = word_of(bytes, value, i);
     }
+}
+
+// The set of the bits whose byte is `value`, as a row of the matrix.
+pub fn set_of(bytes: &[u8], value: u8) -> [u64; 8]
+    requires { ⌜ length (now bytes) ≤ 512 ⌝ }
+    ensures { λ r. ⌜ SetOf 8 (now (bytes .entry)) value r ⌝ }
+{
+    let mut set = [0u64; 8];
+    make_set(bytes, value, 8, &mut set);
     set
 }
 
 // Whether bit `b` is in the set.
-pub fn is_in(set: &[u64], b: usize) -> bool
-    requires { ⌜ (length (now set) ≡ 8) × (b < 512) ⌝ }
-    ensures { λ r. ⌜ r ≡ lent 8 (now (set .entry)) 0 b ⌝ }
+pub fn is_in(set: &[u64], b: Bit) -> bool
+    requires { ⌜ (length (now set) ≡ 8) × (b .0 < 512) ⌝ }
+    ensures { λ r. ⌜ r ≡ lent 8 (now (set .entry)) 0 (b .0) ⌝ }
 {
-    rows::contains(set, 8, 0, b)
+    rows::contains(set, 8, 0, b.0)
 }
 
 // How many bits of the set check `c` contains.

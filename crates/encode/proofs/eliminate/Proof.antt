@@ -21,7 +21,7 @@ slice-aggregate-reduce c = sym (unknown-length _ _ (c .before .before .before .b
 reduce-requires : tie.Need-reduce-requires
 reduce-requires c κs =
     let s = c .before .before .before .before .before .before .before .before .before .before .before in (
-      omega (arith, c .before .before .before .before .before .copy .kept .1 .1 .1 .0),
+      omega (arith, c .before .before .before .before .before .copy .kept .1 .1 .1 .1 .0),
       omega arith,
       rw (unknown-length _ (s .args .n) (c .before .before .before .before .before .before .before .unknown .ensures) (s .pre .1)) (omega arith),
       omega arith,

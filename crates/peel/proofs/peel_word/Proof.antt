@@ -47,7 +47,7 @@ returns c = let g = c .before .before .before in
     let z = t .before .before .before in
     let s = z .before .before .before .before .before .before .before .before in
     let f = not-true (g .finish .result) (c .if1 .taken) in
-    let r = word-refused (lent 8 (s .args .words .now)) (s .args .checks) (s .args .word .now) _ _ (s .pre .2) (s .pre .3) (z .before .before .before .before .set-of .ensures) (z .before .before .set-of2 .ensures) _ _ (t .settle .ensures)
+    let r = word-refused 8 (lent 8 (s .args .words .now)) (s .args .checks) (s .args .word .now) _ _ (s .pre .2) (s .pre .3) (z .before .before .before .before .set-of .ensures) (z .before .before .set-of2 .ensures) _ _ (t .settle .ensures)
     (sym (g .finish .ensures .told) ∙ f) in
     (sym (ap (λ (o : Outcome). o .reply) r), (rw f at (g .finish .ensures .word)) ∙ sym (ap (λ (o : Outcome). o .after) r))
 
@@ -62,7 +62,7 @@ sub-t31 c = let g = c .before .before .before .before .before in
     let t = g .before .before .before .before .before .before in
     let z = t .before .before .before in
     let s = z .before .before .before .before .before .before .before .before in
-    fewer-left (lent 8 (s .args .words .now)) (s .args .checks) (s .args .word .now) _ _ (s .pre .2) (s .pre .3) (z .before .before .before .before .set-of .ensures) (z .before .before .set-of2 .ensures) _ _ (t .settle .ensures) _ _ (z .size .ensures) (c .size2 .ensures)
+    fewer-left 8 (lent 8 (s .args .words .now)) (s .args .checks) (s .args .word .now) _ _ (s .pre .2) (s .pre .3) (z .before .before .before .before .set-of .ensures) (z .before .before .set-of2 .ensures) _ _ (t .settle .ensures) _ _ (z .size .ensures) (c .size2 .ensures)
 
 same-length-2 : tie.Need-same-length-2
 same-length-2 c = search needs
@@ -73,7 +73,7 @@ returns-2 c = let g = c .before .before .before .before .before in
     let z = t .before .before .before in
     let s = z .before .before .before .before .before .before .before .before in
     let f = not-false (g .finish .result) (c .before .before .if1 .left) in
-    let r = word-made (lent 8 (s .args .words .now)) (s .args .checks) (s .args .word .now) _ _ (s .pre .2) (s .pre .3) (z .before .before .before .before .set-of .ensures) (z .before .before .set-of2 .ensures) _ _ (t .settle .ensures)
+    let r = word-made 8 (lent 8 (s .args .words .now)) (s .args .checks) (s .args .word .now) _ _ (s .pre .2) (s .pre .3) (z .before .before .before .before .set-of .ensures) (z .before .before .set-of2 .ensures) _ _ (t .settle .ensures)
     _ _ (z .size .ensures) (c .size2 .ensures) (sym (g .finish .ensures .told) ∙ f) in
     (sym (ap (λ (o : Outcome). o .reply) r), (rw f at (g .finish .ensures .word)) ∙ sym (ap (λ (o : Outcome). o .after) r))
 

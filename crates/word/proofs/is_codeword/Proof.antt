@@ -28,7 +28,7 @@ returns-2 : tie.Need-returns-2
 returns-2 c = let s = c .before .before .before .before .before .before .before in
     let e = c .before .before .before in
     c .all-even .ensures
-    ∙ codeword-is (lent 8 (s .args .words .now)) (s .args .checks) (s .args .bytes .now) _ (c .before .before .set-of .ensures) (omega (arith, s .pre))
+    ∙ codeword-is (lent 8 (s .args .words .now)) (s .args .checks) (s .args .bytes .now) 8 _ (c .before .before .set-of .ensures) (omega (arith, s .pre))
     (byte-right (s .args .bytes .now) 1 _ (e .before .first-above .ensures) (λ k. omega (arith, e .if1 .left)))
 
 pub is-codeword-spec : {M : Type 1} → statement M

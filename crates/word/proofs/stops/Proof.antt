@@ -18,7 +18,7 @@ none-single-requires c κs = search needs
 
 returns : tie.Need-returns
 returns c = let s = c .before .before .before .before .before in
-    c .none-single .ensures ∙ stopping-is (lent 8 (s .args .words .now)) (s .args .checks) (s .args .bytes .now) _ (c .before .before .set-of .ensures) (omega (arith, s .pre))
+    c .none-single .ensures ∙ stopping-is (lent 8 (s .args .words .now)) (s .args .checks) (s .args .bytes .now) 8 _ (c .before .before .set-of .ensures) (omega (arith, s .pre))
 
 pub stops-spec : {M : Type 1} → statement M
 stops-spec =

@@ -11,19 +11,19 @@ use Rattle.elimination.proofs.rows.copy.Statement.{statement}
 use Rattle.elimination.proofs.rows.copy.Tie as tie
 
 abbrev Inv-loop : tie.InvT-loop
-Inv-loop words width checks rows₀ c₀ rows c = (c ≤ checks) × (length rows ≡ length rows₀) × SameRows width words rows₀ rows 0 c
+Inv-loop words wide width checks rows₀ c₀ rows c = (c ≤ checks) × (length rows ≡ length rows₀) × SameRows wide width words rows₀ rows 0 c
 
 abbrev μ-loop : tie.MeasureT-loop
-μ-loop words width checks rows₀ c₀ rows c = checks - c
+μ-loop words wide width checks rows₀ c₀ rows c = checks - c
 
 loop-holds : tie.Need-loop-holds Inv-loop μ-loop
-loop-holds c = (omega arith, refl, rows-none _ _ _)
+loop-holds c = (omega arith, refl, rows-none _ _ _ _)
 
 copy-check-requires : tie.Need-copy-check-requires Inv-loop μ-loop
 copy-check-requires c κs =
     let s = c .before .before .before .before .before in
     let l = c .before .before .loop in
-    (s .pre .0, s .pre .1, omega arith, omega (arith, l .inv .1, row-room (s .args .width) (l .c) (s .args .checks) (omega arith)))
+    (omega (arith, row-room (s .args .wide) (l .c) (s .args .checks) (omega arith)), omega (arith, l .inv .1, row-room (s .args .width) (l .c) (s .args .checks) (omega arith)))
 
 add-c : tie.Need-add-c Inv-loop μ-loop
 add-c c = omega arith
@@ -35,7 +35,7 @@ loop-again : tie.Need-loop-again Inv-loop μ-loop
 loop-again c =
     let l = c .before .before .before .before .before .loop in
     let E = c .before .before .copy-check in
-    (omega arith, E .kept .1 .1 .1 .0 ∙ l .inv .1, rows-more _ _ _ _ _ _ (l .inv .2) (E .ensures))
+    (omega arith, E .kept .1 .1 .1 .1 .0 ∙ l .inv .1, rows-more _ _ _ _ _ _ _ (l .inv .2) (E .ensures))
 
 same-length : tie.Need-same-length Inv-loop μ-loop
 same-length c = search needs

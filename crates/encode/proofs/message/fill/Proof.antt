@@ -1,6 +1,7 @@
 -- `message::fill` meets its contract. Assumes nothing.
-use Rattle.encode.proofs.Filling.{fill-start, fill-more, ones-inside}
+use Rattle.encode.proofs.Filling.{fill-start, fill-more}
 use Rattle.encode.specs.Filling.{Filled}
+use Rattle.word.proofs.Told.{set-inside}
 use Rattle.parity.specs.Calls.{byteOf}
 use Rattle.parity.specs.Matrix.{lent}
 use Rattle.parity.specs.Words.{odd}
@@ -20,8 +21,11 @@ Inv-loop rows pivots r word₀ ones c₀ word c =
 abbrev μ-loop : tie.MeasureT-loop
 μ-loop rows pivots r word₀ ones c₀ word c = r - c
 
-set-of-requires : tie.Need-set-of-requires Inv-loop μ-loop
-set-of-requires c κs = search needs
+slice-aggregate-make-set : tie.Need-slice-aggregate-make-set Inv-loop μ-loop
+slice-aggregate-make-set c = search needs
+
+make-set-requires : tie.Need-make-set-requires Inv-loop μ-loop
+make-set-requires c κs = search needs
 
 loop-holds : tie.Need-loop-holds Inv-loop μ-loop
 loop-holds c = (omega arith, refl, fill-start _ _ _ _ _)
@@ -30,7 +34,7 @@ slice-aggregate-is-odd : tie.Need-slice-aggregate-is-odd Inv-loop μ-loop
 slice-aggregate-is-odd c = search needs
 
 is-odd-requires : tie.Need-is-odd-requires Inv-loop μ-loop
-is-odd-requires c κs = (omega arith, omega (arith, c .before .before .before .set-of .ensures .size))
+is-odd-requires c κs = (omega arith, omega (arith, c .before .before .before .before .make-set .ensures .size))
 
 byte-requires : tie.Need-byte-requires Inv-loop μ-loop
 byte-requires c κs = search needs
@@ -44,7 +48,7 @@ shared-slice-read-at c = search needs
 slice-write-word : tie.Need-slice-write-word Inv-loop μ-loop
 slice-write-word c =
     let l = c .before .before .before .before .before .loop in
-    let s = c .before .before .before .before .before .before .before .before .before .before .before in
+    let s = c .before .before .before .before .before .before .before .before .before .before .before .before .before in
     omega (arith, s .pre .4 .low (l .c) (omega arith), l .inv .1)
 
 add-c : tie.Need-add-c Inv-loop μ-loop
@@ -56,8 +60,9 @@ loop-less c = search needs
 loop-again : tie.Need-loop-again Inv-loop μ-loop
 loop-again c =
     let l = c .before .before .before .before .before .loop in
-    let s = c .before .before .before .before .before .before .before .before .before .before .before in
-    let sum = ones-inside 2 (omega arith) (s .args .word .now) (omega arith) _ (c .before .before .before .before .before .before .set-of .ensures) (lent 2 (s .args .rows .now)) (l .c) in (
+    let s = c .before .before .before .before .before .before .before .before .before .before .before .before .before in
+    let set = c .before .before .before .before .before .before .before in
+    let sum = set-inside 2 (lent 2 (s .args .rows .now)) (l .c) (s .args .word .now) 1 _ (set .make-set .ensures) (omega arith) in (
       omega arith,
       length-set (l .word) _ _ ∙ l .inv .1,
       fill-more _ _ _ _ (s .pre .4) _ _ (l .word) (l .inv .2) (omega arith) (l .inv .1) _ (c .before .byte .ensures ∙ ap one (c .before .before .is-odd .ensures ∙ ap odd sum)),
@@ -69,7 +74,7 @@ same-length c = search needs
 returns : tie.Need-returns Inv-loop μ-loop
 returns c =
     let l = c .before .loop in
-    let e : l .c ≡ c .before .before .before .before .before .before .before .args .r = omega arith in
+    let e : l .c ≡ c .before .before .before .before .before .before .before .before .before .args .r = omega arith in
     rw e at (l .inv .2)
 
 pub fill-spec : {M : Type 1} → statement M
@@ -78,7 +83,8 @@ fill-spec =
     (tie.spec
     Inv-loop
     μ-loop
-    set-of-requires
+    slice-aggregate-make-set
+    make-set-requires
     loop-holds
     slice-aggregate-is-odd
     is-odd-requires

@@ -16,7 +16,7 @@ use Rattle.peel.proofs.result.agree.Statement.{statement}
 use Rattle.peel.proofs.result.agree.Tie as tie
 
 abbrev Inv-loop : tie.InvT-loop
-Inv-loop words checks erased ones c₀ c = (c ≤ checks) × (agreeing (lent 8 words) c (lent 8 erased 0) (lent 8 ones 0) ≡ true)
+Inv-loop words checks erased ones c₀ c = (c ≤ checks) × (agreeing (lent 8 words) 512 c (lent 8 erased 0) (lent 8 ones 0) ≡ true)
 
 abbrev μ-loop : tie.MeasureT-loop
 μ-loop words checks erased ones c₀ c = checks - c

@@ -1,65 +1,74 @@
 -- `scan::next_single` meets its contract. Assumes nothing.
-use Rattle.peel.proofs.Seen.{none-more}
 use mathlib.Core.Bool.{and-eq-true-iff}
 use mathlib.Core.Path.{_≡_, refl, _∙_}
 use Prim.Native.Nat.{_+_, _*_, _-_, _≤_, _<_}
 use native.Mathlib.Omega.{arith}
 use borrow.Author.Needs.{needs}
 use Rattle.parity.specs.Matrix.{lent}
+use Rattle.parity.proofs.Lent.{row-room}
 use Rattle.parity.proofs.Ones.{trailing-lowest}
 use Rattle.parity.proofs.Rest.{rest-less}
 use Rattle.peel.specs.Next.{NoSingle}
-use Rattle.peel.proofs.Seen.{Row, Bits, row-start, bits-start, bits-end, bits-first, bits-second, row-one, row-none}
+use Rattle.peel.proofs.Seen.{Row, Bits, row-start, bits-start, bits-end, bits-first, bits-second, row-one, row-none, none-more, none-all}
 use Rattle.peel.proofs.scan.next_single.Statement.{statement}
 use Rattle.peel.proofs.scan.next_single.Tie as tie
 
 abbrev Inv-bits : tie.InvT-bits
-Inv-bits words checks from erased c₀ at₀ i x₀ c at x = (c ≡ c₀) × (i < 8) × Bits words erased c at i x
+Inv-bits words width checks erased none c₀ at₀ i x₀ c at x = (c ≡ c₀) × (i < width) × Bits width words erased c at i x
 
 abbrev μ-bits : tie.MeasureT-bits
-μ-bits words checks from erased c₀ at₀ i x₀ c at x = x
+μ-bits words width checks erased none c₀ at₀ i x₀ c at x = x
 
 abbrev Inv-row : tie.InvT-row
-Inv-row words checks from erased c₀ at₀ i₀ c at i = (c ≡ c₀) × (i ≤ 8) × Row words erased c at i
+Inv-row words width checks erased none c₀ at₀ i₀ c at i = (c ≡ c₀) × (i ≤ width) × Row width words erased c at i
 
 abbrev μ-row : tie.MeasureT-row
-μ-row words checks from erased c₀ at₀ i₀ c at i = 8 - i
+μ-row words width checks erased none c₀ at₀ i₀ c at i = width - i
 
 abbrev Inv-scan : tie.InvT-scan
-Inv-scan words checks from erased c₀ c = (from ≤ c) × (c ≤ checks) × NoSingle (lent 8 words) c from (lent 8 erased 0)
+Inv-scan words width checks erased none c₀ c = NoSingle (lent width words) (width * 64) c c₀ (lent width erased 0)
 
 abbrev μ-scan : tie.MeasureT-scan
-μ-scan words checks from erased c₀ c = checks - c
+μ-scan words width checks erased none c₀ c = checks - c
+
+mul-none : tie.Need-mul-none Inv-bits μ-bits Inv-row μ-row Inv-scan μ-scan
+mul-none c = omega arith
 
 scan-holds : tie.Need-scan-holds Inv-bits μ-bits Inv-row μ-row Inv-scan μ-scan
-scan-holds c = (omega arith, omega arith, record { none = λ d k l e. absurd (omega arith) })
+scan-holds c = record { none = λ d k l e. absurd (omega arith) }
 
 row-holds : tie.Need-row-holds Inv-bits μ-bits Inv-row μ-row Inv-scan μ-scan
-row-holds c = (refl, omega arith, row-start _ _ _)
+row-holds c = (refl, omega arith, row-start _ _ _ _)
 
 mul-x : tie.Need-mul-x Inv-bits μ-bits Inv-row μ-row Inv-scan μ-scan
-mul-x c = omega arith
+mul-x c = let r = c .before in
+    let s = r .before .before .before .before .before in
+    omega (arith, row-room (s .args .width) (r .row .c) (s .args .checks) (omega arith))
 
 add-x : tie.Need-add-x Inv-bits μ-bits Inv-row μ-row Inv-scan μ-scan
-add-x c = omega arith
+add-x c = let r = c .before in
+    let s = r .before .before .before .before .before in
+    omega (arith, row-room (s .args .width) (r .row .c) (s .args .checks) (omega arith))
 
 mul-x-2 : tie.Need-mul-x-2 Inv-bits μ-bits Inv-row μ-row Inv-scan μ-scan
-mul-x-2 c = omega arith
+mul-x-2 c = let r = c .before in
+    let s = r .before .before .before .before .before in
+    omega (arith, row-room (s .args .width) (r .row .c) (s .args .checks) (omega arith))
 
 shared-slice-read-x : tie.Need-shared-slice-read-x Inv-bits μ-bits Inv-row μ-row Inv-scan μ-scan
-shared-slice-read-x c = omega arith
+shared-slice-read-x c = let r = c .before .before in
+    let s = r .before .before .before .before .before in
+    omega (arith, row-room (s .args .width) (r .row .c) (s .args .checks) (omega arith))
 
 mul-x-3 : tie.Need-mul-x-3 Inv-bits μ-bits Inv-row μ-row Inv-scan μ-scan
 mul-x-3 c = omega arith
 
-shared-slice-read-x-2 :
-    tie.Need-shared-slice-read-x-2 Inv-bits μ-bits Inv-row μ-row Inv-scan μ-scan
+shared-slice-read-x-2 : tie.Need-shared-slice-read-x-2 Inv-bits μ-bits Inv-row μ-row Inv-scan μ-scan
 shared-slice-read-x-2 c = omega arith
 
 bits-holds : tie.Need-bits-holds Inv-bits μ-bits Inv-row μ-row Inv-scan μ-scan
 bits-holds c = let l = c .before .before .before .row in
-    let s = c .before .before .before .before .before .before .before .before in
-    (refl, omega arith, bits-start _ _ _ _ _ (omega arith) (l .inv .2) (c .before .shared-slice-known3 .given (l .c * 8 + l .i) .fits))
+    (refl, omega arith, bits-start _ _ _ _ _ _ (omega arith) (l .inv .2) (c .before .shared-slice-known3 .given _ .fits))
 
 add-c : tie.Need-add-c Inv-bits μ-bits Inv-row μ-row Inv-scan μ-scan
 add-c c = omega arith
@@ -73,7 +82,7 @@ scan-again c = let b = c .before .before in
     let a = r .before .before in
     let L = trailing-lowest 64 _ (b .bits .inv .2 .fits) (c .before .bits-test .taken) in
     let e : b .bits .c ≡ a .scan .c = b .bits .inv .0 ∙ r .row .inv .0 in
-    (omega arith, omega arith, none-more _ _ _ _ (rw (← e) at (a .scan .inv .2)) (bits-second _ _ _ _ _ (b .bits .inv .1) _ (b .bits .inv .2) _ L (c .if2 .taken)))
+    none-more _ _ _ _ _ (rw (← e) at (a .scan .inv)) (bits-second _ _ _ _ _ _ (b .bits .inv .1) _ (b .bits .inv .2) _ L (c .if2 .taken))
 
 wide-requires : tie.Need-wide-requires Inv-bits μ-bits Inv-row μ-row Inv-scan μ-scan
 wide-requires c κs = search needs
@@ -95,7 +104,7 @@ bits-less c = rest-less _ (c .before .before .bits-test .taken)
 bits-again : tie.Need-bits-again Inv-bits μ-bits Inv-row μ-row Inv-scan μ-scan
 bits-again c = let b = c .before .before .before in
     let L = trailing-lowest 64 _ (b .bits .inv .2 .fits) (c .before .before .bits-test .taken) in
-    (b .bits .inv .0, b .bits .inv .1, rw (c .wide .ensures) (bits-first _ _ _ _ _ (b .bits .inv .1) _ (b .bits .inv .2) _ L (λ k. omega (arith, c .before .if2 .left))))
+    (b .bits .inv .0, b .bits .inv .1, rw (c .wide .ensures) (bits-first _ _ _ _ _ _ (b .bits .inv .1) _ (b .bits .inv .2) _ L (λ k. omega (arith, c .before .if2 .left))))
 
 add-i : tie.Need-add-i Inv-bits μ-bits Inv-row μ-row Inv-scan μ-scan
 add-i c = omega arith
@@ -106,7 +115,7 @@ row-less c = omega arith
 row-again : tie.Need-row-again Inv-bits μ-bits Inv-row μ-row Inv-scan μ-scan
 row-again c = let b = c .before in
     let r = b .before .before .before .before in
-    (b .bits .inv .0 ∙ r .row .inv .0, omega arith, bits-end _ _ _ _ _ (b .bits .inv .1) _ (b .bits .inv .2) (c .bits-test .left))
+    (b .bits .inv .0 ∙ r .row .inv .0, omega arith, bits-end _ _ _ _ _ _ (b .bits .inv .1) _ (b .bits .inv .2) (c .bits-test .left))
 
 add-c-2 : tie.Need-add-c-2 Inv-bits μ-bits Inv-row μ-row Inv-scan μ-scan
 add-c-2 c = omega arith
@@ -118,18 +127,19 @@ scan-again-2 : tie.Need-scan-again-2 Inv-bits μ-bits Inv-row μ-row Inv-scan μ
 scan-again-2 c = let r = c .before .before in
     let a = r .before .before in
     let e = r .row .inv .0 in
-    let i : r .row .i ≡ 8 = omega arith in
-    (omega arith, omega arith, none-more _ _ _ _ (rw (← e) at (a .scan .inv .2)) (row-none _ _ _ _ _ i (r .row .inv .2) (λ k. omega (arith, c .if3 .left))))
+    let i : r .row .i ≡ a .before .before .before .args .width = omega arith in
+    none-more _ _ _ _ _ (rw (← e) at (a .scan .inv)) (row-none _ _ _ _ _ _ i (r .row .inv .2) (λ k. omega (arith, c .if3 .left)))
 
 returns : tie.Need-returns Inv-bits μ-bits Inv-row μ-row Inv-scan μ-scan
-returns c = rw (← c .if1 .taken) (c .before .scan .inv .2)
+returns c = none-all _ _ _ _ _ _ (c .if1 .taken) (c .before .scan .inv)
 
 returns-2 : tie.Need-returns-2 Inv-bits μ-bits Inv-row μ-row Inv-scan μ-scan
 returns-2 c = let r = c .before .before in
-    let s = c .before .before .before .before .before .before .before in
-    let i : r .row .i ≡ 8 = omega arith in
-    let (p, q) = and-eq-true-iff (lent 8 (s .args .words .now) (r .row .c) (r .row .at)) (lent 8 (s .args .erased .now) 0 (r .row .at)) .0 (r .row .inv .2 .here (c .if3 .taken)) in
-    record { check = omega arith; bit = c .if3 .taken; has = p; gone = q; only = row-one _ _ _ _ _ i (r .row .inv .2) (c .if3 .taken) }
+    let s = r .before .before .before .before .before in
+    let W = s .args .width in
+    let i : r .row .i ≡ W = omega arith in
+    let (p, q) = and-eq-true-iff (lent W (s .args .words .now) (r .row .c) (r .row .at)) (lent W (s .args .erased .now) 0 (r .row .at)) .0 (r .row .inv .2 .here (c .if3 .taken)) in
+    record { check = omega arith; bit = c .if3 .taken; has = p; gone = q; only = row-one _ _ _ _ _ _ i (r .row .inv .2) (c .if3 .taken) }
 
 pub next-single-spec : {M : Type 1} → statement M
 next-single-spec =
@@ -141,6 +151,7 @@ next-single-spec =
     μ-row
     Inv-scan
     μ-scan
+    mul-none
     scan-holds
     row-holds
     mul-x

@@ -19,18 +19,18 @@ less-work : (a b : ℕ) (x y : Bool) → a ≡ suc b → 2 * b + one x < 2 * a +
 less-work a b x y e = omega (arith, one≤1 x)
 
 abbrev Inv-loop : tie.InvT-loop
-Inv-loop words checks erased₀ ones₀ from₀ erased ones from = (from ≤ checks) × (length erased ≡ 8) × (length ones ≡ 8) × Reached (lent 8 words) checks (lent 8 erased₀ 0) (lent 8 ones₀ 0) (lent 8 erased 0) (lent 8 ones 0)
+Inv-loop words checks erased₀ ones₀ from₀ erased ones from = (length erased ≡ 8) × (length ones ≡ 8) × Reached (lent 8 words) 512 checks (lent 8 erased₀ 0) (lent 8 ones₀ 0) (lent 8 erased 0) (lent 8 ones 0)
 
 abbrev μ-loop : tie.MeasureT-loop
-μ-loop words checks erased₀ ones₀ from₀ erased ones from = 2 * count 512 (lent 8 erased 0) + one (ltb 0 from)
+μ-loop words checks erased₀ ones₀ from₀ erased ones from = 2 * count 512 (lent 8 erased 0) + one (ltb 0 (from .0))
 
 loop-holds : tie.Need-loop-holds Inv-loop μ-loop
 loop-holds c = let s = c .before .before .before in
-    (omega arith, s .pre .2, s .pre .3, start)
+    (s .pre .2, s .pre .3, start)
 
 next-single-requires : tie.Need-next-single-requires Inv-loop μ-loop
 next-single-requires c κs = let s = c .before .before .before .before .before in
-    (s .pre .0, s .pre .1, c .before .loop .inv .0, c .before .loop .inv .1)
+    (omega arith, s .pre .1, omega (arith, c .before .loop .inv .0), omega arith)
 
 enum-known-single : tie.Need-enum-known-single Inv-loop μ-loop
 enum-known-single c = search needs
@@ -40,44 +40,43 @@ solve-requires c κs = let s = c .before .before .before .before .before .before
     let l = c .before .before .before .before .before .before .before .loop in
     let g = c .before .before .before in
     let L = rw (g .single .given .1) at (g .before .before .next-single .ensures) in
-    (s .pre .0, omega (arith, L .check, s .pre .1), L .bit, l .inv .1, l .inv .2)
+    (s .pre .0, omega (arith, L .check, s .pre .1), L .bit, l .inv .0, l .inv .1)
 
 loop-less : tie.Need-loop-less Inv-loop μ-loop
 loop-less c = let g = c .before .before .before .before .before .before .before .before in
     let L = rw (g .single .given .1) at (g .before .before .next-single .ensures) in
-    less-work _ _ (ltb 0 (g .single .given .0 .0 .0)) (ltb 0 (g .before .before .before .before .loop .from)) (fewer _ _ _ _ _ _ _ _ L (c .before .before .before .before .solve .ensures))
+    less-work _ _ (ltb 0 (g .single .given .0 .0 .0)) (ltb 0 (g .before .before .before .before .loop .from .0)) (fewer _ _ _ _ _ _ _ _ _ L (c .before .before .before .before .solve .ensures))
 
 loop-again : tie.Need-loop-again Inv-loop μ-loop
 loop-again c = let g = c .before .before .before .before .before .before .before .before in
     let l = g .before .before .before .before .loop in
     let L = rw (g .single .given .1) at (g .before .before .next-single .ensures) in
     let v = c .before .before .before .before in
-    (omega (arith, L .check), v .solve .kept .1 .1 .1 .0 ∙ l .inv .1, v .solve .kept .1 .1 .1 .1 .0 ∙ l .inv .2, next (l .inv .3) _ _ L (v .solve .ensures))
+    (v .solve .kept .1 .1 .1 .0 ∙ l .inv .0, v .solve .kept .1 .1 .1 .1 .0 ∙ l .inv .1, next (l .inv .2) _ _ L (v .solve .ensures))
 
 enum-told : tie.Need-enum-told Inv-loop μ-loop
 enum-told c = search needs
 
 loop-less-2 : tie.Need-loop-less-2 Inv-loop μ-loop
-loop-less-2 c = let l = c .before .before .before .before .before .loop in
-    let p : 0 < l .from = omega arith in
-    rw (lt-ltb 0 (l .from) p) (omega arith)
+loop-less-2 c = let l = c .before .before .before .before .before .before .loop in
+    let p : 0 < l .from .0 = omega arith in
+    rw (lt-ltb 0 (l .from .0) p) (omega arith)
 
 loop-again-2 : tie.Need-loop-again-2 Inv-loop μ-loop
-loop-again-2 c = let l = c .before .before .before .before .before .loop in
-    (omega arith, l .inv .1, l .inv .2, l .inv .3)
+loop-again-2 c = c .before .before .before .before .before .before .loop .inv
 
 same-length : tie.Need-same-length Inv-loop μ-loop
-same-length c = let s = c .before .before .before .before .before .before .before .before .before in
-    c .before .before .before .before .before .loop .inv .1 ∙ sym (s .pre .2)
+same-length c = let l = c .before .before .before .before .before .before in
+    l .loop .inv .0 ∙ sym (l .before .before .before .before .pre .2)
 
 same-length-2 : tie.Need-same-length-2 Inv-loop μ-loop
-same-length-2 c = let s = c .before .before .before .before .before .before .before .before .before in
-    c .before .before .before .before .before .loop .inv .2 ∙ sym (s .pre .3)
+same-length-2 c = let l = c .before .before .before .before .before .before in
+    l .loop .inv .1 ∙ sym (l .before .before .before .before .pre .3)
 
 returns : tie.Need-returns Inv-loop μ-loop
-returns c = let l = c .before .before .before .before .before in
-    let N = rw (c .before .enum-told .given .1) at (c .before .before .before .next-single .ensures) in
-    record { reached = l .loop .inv .3; over = rw (c .if1 .taken) at N }
+returns c = let l = c .before .before .before .before .before .before in
+    let N = rw (c .before .before .enum-told .given .1) at (c .before .before .before .before .next-single .ensures) in
+    record { reached = l .loop .inv .2; over = rw (c .if1 .taken) at N }
 
 pub settle-spec : {M : Type 1} → statement M
 settle-spec =

@@ -1,20 +1,19 @@
--- `sets::set_of` meets its contract. Assumes nothing.
-use mathlib.Core.Path.{refl}
+-- `sets::make_set` meets its contract. Assumes nothing.
 use Prim.Native.Nat.{_-_, _≤_}
 use native.Mathlib.Omega.{arith}
 use borrow.Author.Needs.{needs}
 use Rattle.word.proofs.Making.{Words, words-none, words-more, words-all}
-use Rattle.word.proofs.sets.set_of.Statement.{statement}
-use Rattle.word.proofs.sets.set_of.Tie as tie
+use Rattle.word.proofs.sets.make_set.Statement.{statement}
+use Rattle.word.proofs.sets.make_set.Tie as tie
 
 abbrev Inv-loop : tie.InvT-loop
-Inv-loop bytes value set₀ i₀ set i = (i ≤ 8) × Words bytes value i set
+Inv-loop bytes value width set₀ i₀ set i = (i ≤ width) × Words width bytes value i set
 
 abbrev μ-loop : tie.MeasureT-loop
-μ-loop bytes value set₀ i₀ set i = 8 - i
+μ-loop bytes value width set₀ i₀ set i = width - i
 
 loop-holds : tie.Need-loop-holds Inv-loop μ-loop
-loop-holds c = (omega arith, words-none _ _ _ refl)
+loop-holds c = (omega arith, words-none _ _ _ _ (search needs))
 
 word-of-requires : tie.Need-word-of-requires Inv-loop μ-loop
 word-of-requires c κs = search needs
@@ -22,8 +21,8 @@ word-of-requires c κs = search needs
 mul-set : tie.Need-mul-set Inv-loop μ-loop
 mul-set c = omega arith
 
-array-write-set : tie.Need-array-write-set Inv-loop μ-loop
-array-write-set c = omega (arith, c .before .before .loop .inv .1 .size)
+slice-write-set : tie.Need-slice-write-set Inv-loop μ-loop
+slice-write-set c = omega (arith, c .before .before .loop .inv .1 .size)
 
 add-i : tie.Need-add-i Inv-loop μ-loop
 add-i c = omega arith
@@ -33,13 +32,16 @@ loop-less c = omega arith
 
 loop-again : tie.Need-loop-again Inv-loop μ-loop
 loop-again c = let l = c .before .before .loop in
-    (omega arith, words-more _ _ _ _ (l .inv .1) _ (omega arith) (c .word-of .ensures))
+    (omega arith, words-more _ _ _ _ _ (l .inv .1) _ (omega arith) (c .word-of .ensures))
+
+same-length : tie.Need-same-length Inv-loop μ-loop
+same-length c = search needs
 
 returns : tie.Need-returns Inv-loop μ-loop
-returns c = words-all _ _ _ _ (c .before .loop .inv .1) (omega arith) (omega arith)
+returns c = words-all _ _ _ _ _ (c .before .loop .inv .1) (omega arith) (omega arith)
 
-pub set-of-spec : {M : Type 1} → statement M
-set-of-spec =
+pub make-set-spec : {M : Type 1} → statement M
+make-set-spec =
     tie.close
     (tie.spec
     Inv-loop
@@ -47,8 +49,9 @@ set-of-spec =
     loop-holds
     word-of-requires
     mul-set
-    array-write-set
+    slice-write-set
     add-i
     loop-less
     loop-again
+    same-length
     returns)

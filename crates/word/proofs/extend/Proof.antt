@@ -1,4 +1,4 @@
--- `extending::extend` meets its contract. Assumes nothing.
+-- `extend` meets its contract. Assumes nothing.
 use mathlib.Core.Path.{sym, ap, _∙_}
 use native.Mathlib.Omega.{arith}
 use Rattle.matrix.specs.Acceptance.{acceptanceReply}
@@ -9,8 +9,8 @@ use Rattle.word.specs.Extending.{extendedBytes}
 use Rattle.word.proofs.Above.{byte-wrong, byte-right}
 use Rattle.word.proofs.Outcome.{extend-refused, word-length, sent-length, sent-byte}
 use borrow.Author.Needs.{needs}
-use Rattle.word.proofs.extending.extend.Statement.{statement}
-use Rattle.word.proofs.extending.extend.Tie as tie
+use Rattle.word.proofs.extend.Statement.{statement}
+use Rattle.word.proofs.extend.Tie as tie
 
 accept-requires : tie.Need-accept-requires
 accept-requires c κs = search needs

@@ -69,9 +69,8 @@ pub fn rank(words: &[u64], n: usize, m: usize, k: usize) -> Ranked
             if k != 0 {
                 return Ranked::Refused(Refusal::AddedBits);
             }
-            Ranked::Rank {
-                rank: rank_of(words, n, m),
-            }
+            let rank = rank_of(words, n, m);
+            Ranked::Rank { rank }
         }
     }
 }

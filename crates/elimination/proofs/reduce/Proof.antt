@@ -17,23 +17,23 @@ use Rattle.elimination.proofs.reduce.Tie as tie
 
 abbrev Inv-loop : tie.InvT-loop
 Inv-loop rows₀ width checks word pivots₀ r₀ b₀ b-end rows pivots r b =
-    (b-end ≡ length word) × (b ≤ b-end) × (length rows ≡ length rows₀) × (length pivots ≡ length pivots₀)
+    (b ≤ b-end) × (length rows ≡ length rows₀) × (length pivots ≡ length pivots₀)
     × Reduction (lent width rows₀) (lent width rows) (length word) checks (erased (byteOf word)) b r pivots
 
 abbrev μ-loop : tie.MeasureT-loop
 μ-loop rows₀ width checks word pivots₀ r₀ b₀ b-end rows pivots r b = b-end - b
 
 loop-holds : tie.Need-loop-holds Inv-loop μ-loop
-loop-holds c = (refl, omega arith, refl, refl, reduction-start _ _ _ _ _)
+loop-holds c = (omega arith, refl, refl, reduction-start _ _ _ _ _)
 
 shared-slice-read-if1 : tie.Need-shared-slice-read-if1 Inv-loop μ-loop
-shared-slice-read-if1 c = search needs
+shared-slice-read-if1 c = omega arith
 
 first-with-requires : tie.Need-first-with-requires Inv-loop μ-loop
 first-with-requires c κs = search needs
 
 make-pivot-requires : tie.Need-make-pivot-requires Inv-loop μ-loop
-make-pivot-requires c κs = search needs
+make-pivot-requires c κs = (search needs, c .before .before .first-with .ensures)
 
 mul-pivots : tie.Need-mul-pivots Inv-loop μ-loop
 mul-pivots c = search needs
@@ -53,32 +53,29 @@ loop-less c = search needs
 loop-again : tie.Need-loop-again Inv-loop μ-loop
 loop-again c =
     let l = c .before .before .before .loop in
-    let R = l .inv .4 in
+    let R = l .inv .3 in
     ⊎-elim
     (λ w.
     let F = w .2 .ensures in
     rw (w .8, w .9, w .10) (
-      l .inv .0,
       omega arith,
-      w .5 .kept .0 ∙ l .inv .2,
-      simp length-set (l .inv .3),
+      w .5 .kept .0 ∙ l .inv .1,
+      simp length-set (l .inv .2),
       reduction-pivot _ _ _ _ _ _ _ _ R _ _ (eq-eqb _ _ (w .0 .taken)) (F .from) (w .3 .taken) (omega (arith, F .from, w .3 .taken)) (w .5 .ensures),
     ))
     (⊎-elim
     (λ w.
     let F = w .2 .ensures in
     rw (w .4, w .5, w .6) (
-      l .inv .0,
       omega arith,
+      l .inv .1,
       l .inv .2,
-      l .inv .3,
       reduction-none _ _ _ _ _ _ _ _ R (λ i k q t. F .none i k (omega (arith, w .3 .left))),
     ))
     (λ w. rw (w .1, w .2, w .3) (
-      l .inv .0,
       omega arith,
+      l .inv .1,
       l .inv .2,
-      l .inv .3,
       reduction-none _ _ _ _ _ _ _ _ R (λ i k q t. absurd (false≢true (sym (ne-eqb _ _ (w .0 .left)) ∙ t))),
     )))
     (c .if1 .came)
@@ -93,7 +90,7 @@ returns : tie.Need-returns Inv-loop μ-loop
 returns c =
     let l = c .before .loop in
     let e : l .b ≡ length (c .before .before .before .before .before .args .word .now) = omega arith in
-    rw e at (l .inv .4)
+    rw e at (l .inv .3)
 
 pub reduce-spec : {M : Type 1} → statement M
 reduce-spec =

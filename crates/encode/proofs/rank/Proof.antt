@@ -3,6 +3,7 @@ use Rattle.encode.proofs.Told.{rank-first, rank-added, rank-told}
 use Rattle.matrix.specs.Acceptance.{acceptanceReply}
 use Rattle.parity.proofs.Refused.{accepted-words}
 use mathlib.Core.Path.{sym, ap, _∙_}
+use native.Mathlib.Omega.{arith}
 use borrow.Author.Needs.{needs}
 use Rattle.encode.proofs.rank.Statement.{statement}
 use Rattle.encode.proofs.rank.Tie as tie
@@ -26,7 +27,7 @@ rank-of-requires : tie.Need-rank-of-requires
 rank-of-requires c κs =
     let s = c .before .before .before .before .before in
     let A = accepted-words (s .args .words .now) (s .args .n) (s .args .m) (s .args .k) (ap acceptanceReply (sym (c .before .enum-told .given .1)) ∙ c .before .before .before .accept .ensures) in
-    (A .words, A .sound .n120, A .sound .m120)
+    (A .words, omega (arith, A .sound .n120, A .sound .m120), omega (arith, A .sound .n120, A .sound .m120))
 
 returns-2 : tie.Need-returns-2
 returns-2 c =

@@ -9,30 +9,29 @@ use native.Mathlib.Decide.{ℕ-discrete, decLt}
 use native.Mathlib.Omega.{arith}
 use lib.Arith.{le-zero}
 use lib.Bits.{bitAnd, and-le-l}
-use lib.Count.{ones as onesOf}
 use lib.Dec.{eqb, ltb}
 use lib.ListN.{getD, length, set, drop, length-append}
 use lib.Seq.{sets, sets-eq, length-sets}
 use borrow.Author.Tests.{eq-eqb, ne-eqb, lt-ltb, le-ltb, ltb-false, not-true}
-use Rattle.parity.specs.Finite.{one, sum, count}
+use Rattle.parity.specs.Finite.{sum, count}
 use Rattle.parity.specs.Matrix.{Matrix, bitOf, lent}
 use Rattle.parity.specs.Record.{bitWords, checkWords, written}
 use Rattle.parity.proofs.Sums.{count-cong, count-mono}
 use Rattle.parity.proofs.Digits.{bit-zero}
-use Rattle.parity.proofs.Lent.{lent-word, count-add, ones-count}
+use Rattle.parity.proofs.Lent.{lent-word}
 use Rattle.parity.proofs.Ones.{Lowest}
 use Rattle.parity.proofs.Rest.{rest-bit}
-use Rattle.parity.proofs.Writing.{length-check, checks-wider}
+use Rattle.parity.proofs.Writing.{length-one, length-bits, length-check, checks-wider}
 use Rattle.parity.proofs.Accept.{Accepted}
 use Rattle.record.specs.Write.{wordOnes, checkOf, plainRecord, Wrote}
 
--- the weight of a check with no bit at 128 or above, by its two words
-pub two-words : (ws : List ℕ) → ((i : ℕ) → getD ws i 0 < 2 ^ 64) → (c : ℕ)
-    → count 128 (lent 8 ws c) ≡ onesOf (getD ws (c * 8) 0) + onesOf (getD ws (c * 8 + 1) 0)
-two-words ws u c =
-    let a = count-cong 64 {p = lent 8 ws c} {q = bitOf (getD ws (c * 8) 0)} (λ j l. let e : c * 8 + 0 ≡ c * 8 = omega arith in let f : 0 * 64 + j ≡ j = omega arith in rw (e, f) at (lent-word 8 ws c 0 j (omega arith) l)) in
-    let b = count-cong 64 {p = λ j. lent 8 ws c (64 + j)} {q = bitOf (getD ws (c * 8 + 1) 0)} (λ j l. let f : 1 * 64 + j ≡ 64 + j = omega arith in rw f at (lent-word 8 ws c 1 j (omega arith) l)) in
-    omega (arith, count-add 64 64 (lent 8 ws c), ones-count 64 (getD ws (c * 8) 0) (u (c * 8)), ones-count 64 (getD ws (c * 8 + 1) 0) (u (c * 8 + 1)))
+-- the bits of a check in common with itself
+pub weight-self : (N : ℕ) (s : ℕ → Bool) → count N (λ t. s t && s t) ≡ count N s
+weight-self N s = count-cong N (λ t l. both (s t))
+  where
+    both : (x : Bool) → (x && x) ≡ x
+    both true = refl
+    both false = refl
 
 -- stores, one list after another
 pub sets-append : (l : List ℕ) (p : ℕ) (vs us : List ℕ) → sets l p (vs ++ us) ≡ sets (sets l p vs) (p + length vs) us
@@ -55,10 +54,6 @@ pub wrote-length : (old new : List ℕ) (p r : ℕ) (ws : List ℕ) → Wrote ol
 wrote-length old new p r ws A = rw (A .stored) (length-sets old p ws)
 
 -- the words of a word's ones
-length-one : (b : Bool) (w : ℕ) → length (cond b (w ∷ []) []) ≡ one b
-length-one true w = refl
-length-one false w = refl
-
 pub length-ones : (first x b : ℕ) → length (wordOnes first x b) ≡ count b (bitOf x)
 unfolding wordOnes count sum
 length-ones first x zero = refl
@@ -155,26 +150,34 @@ bits-word s x a (suc b) f =
     let e : 3 * 2 ^ 28 + (a + b) ≡ 3 * 2 ^ 28 + a + b = omega arith in
     rw (add-suc a b, bits-word s x a b (λ i l. f i (omega arith)), f b (omega arith), e) (append-assoc (bitWords s a) (wordOnes (3 * 2 ^ 28 + a) x b) _)
 
-module _ (ws : List ℕ) (u : (i : ℕ) → getD ws i 0 < 2 ^ 64) (c : ℕ) where
-  pub check-parts : checkOf ws c ≡ (2 * 2 ^ 28 + (onesOf (getD ws (c * 8) 0) + onesOf (getD ws (c * 8 + 1) 0)))
-      ∷ wordOnes (3 * 2 ^ 28) (getD ws (c * 8) 0) 64 ++ wordOnes (3 * 2 ^ 28 + 64) (getD ws (c * 8 + 1) 0) 64
-  unfolding checkOf
-  check-parts = rw (two-words ws u c, bits-word (lent 8 ws c) (getD ws (c * 8 + 1) 0) 64 64 high, bits-word (lent 8 ws c) (getD ws (c * 8) 0) 0 64 low) (unfold bitWords in refl)
-    where
-      low : (i : ℕ) → i < 64 → lent 8 ws c (0 + i) ≡ bitOf (getD ws (c * 8) 0) i
-      low i l = let e : c * 8 + 0 ≡ c * 8 = omega arith in let f : 0 * 64 + i ≡ 0 + i = omega arith in rw (e, f) at (lent-word 8 ws c 0 i (omega arith) l)
+-- the bits of a check in one word more
+module _ (W : ℕ) (ws : List ℕ) (c i : ℕ) where
+  pub row-next : i < W → bitWords (lent W ws c) ((i + 1) * 64) ≡ bitWords (lent W ws c) (i * 64) ++ wordOnes (3 * 2 ^ 28 + i * 64) (getD ws (c * W + i) 0) 64
+  row-next k =
+      let e : (i + 1) * 64 ≡ i * 64 + 64 = omega arith in
+      rw e (bits-word (lent W ws c) (getD ws (c * W + i) 0) (i * 64) 64 (λ j l. lent-word W ws c i j k l))
 
-      high : (i : ℕ) → i < 64 → lent 8 ws c (64 + i) ≡ bitOf (getD ws (c * 8 + 1) 0) i
-      high i l = let f : 1 * 64 + i ≡ 64 + i = omega arith in rw f at (lent-word 8 ws c 1 i (omega arith) l)
+  -- has room where the first `used` words have it
+  pub bits-room : (used : ℕ) → i < used → used ≤ W
+      → length (bitWords (lent W ws c) (i * 64)) + length (wordOnes (3 * 2 ^ 28 + i * 64) (getD ws (c * W + i) 0) 64) ≤ length (bitWords (lent W ws c) (used * 64))
+  bits-room used k l =
+      let a = ap length (row-next (omega arith)) ∙ length-append (bitWords (lent W ws c) (i * 64)) (wordOnes (3 * 2 ^ 28 + i * 64) (getD ws (c * W + i) 0) 64) in
+      omega (arith, length-bits (lent W ws c) ((i + 1) * 64), length-bits (lent W ws c) (used * 64), count-mono ((i + 1) * 64) (used * 64) (lent W ws c) (omega arith))
 
-  pub check-length : length (checkOf ws c)
-      ≡ 1 + length (wordOnes (3 * 2 ^ 28) (getD ws (c * 8) 0) 64) + length (wordOnes (3 * 2 ^ 28 + 64) (getD ws (c * 8 + 1) 0) 64)
-  check-length = ap length check-parts ∙ omega (arith, length-append (wordOnes (3 * 2 ^ 28) (getD ws (c * 8) 0) 64) (wordOnes (3 * 2 ^ 28 + 64) (getD ws (c * 8 + 1) 0) 64))
+-- the words of a check: one that opens it, and its bits
+pub check-length : (s : ℕ → Bool) (N : ℕ) → length (checkOf s N) ≡ 1 + length (bitWords s N)
+unfolding checkOf
+check-length s N = omega arith
+
+pub wrote-check : (s : ℕ → Bool) (N x : ℕ) (old new : List ℕ) (p r : ℕ) → x ≡ count N s → Wrote (set old p (2 * 2 ^ 28 + x)) new (p + 1) (bitWords s N) r → Wrote old new p (checkOf s N) r
+unfolding checkOf
+wrote-check s N x old new p r e A =
+    rw (← e) (wrote-more old (set old p (2 * 2 ^ 28 + x)) new p (p + 1) r ((2 * 2 ^ 28 + x) ∷ []) (bitWords s N) (wrote-one old p (2 * 2 ^ 28 + x)) A)
 
 -- the checks
-pub checks-next : (ws : List ℕ) (c : ℕ) → checkWords (lent 8 ws) 128 (c + 1) ≡ checkWords (lent 8 ws) 128 c ++ checkOf ws c
+pub checks-next : (h : Matrix) (N c : ℕ) → checkWords h N (c + 1) ≡ checkWords h N c ++ checkOf (h c) N
 unfolding checkWords checkOf
-checks-next ws c = rw (add-one c)
+checks-next h N c = rw (add-one c)
 
 pub checks-mono : (h : Matrix) (n c m : ℕ) → c ≤ m → length (checkWords h n c) ≤ length (checkWords h n m)
 checks-mono h n c zero k = rw (le-zero k) (omega arith)
@@ -182,23 +185,21 @@ checks-mono h n c (suc m) k =
     elim (ℕ-discrete c (suc m)) [ yes q ↦ rw q (omega arith) | no d ↦ omega (arith, checks-mono h n c m (omega arith), length-check h n m) ]
 
 -- the whole record
-pub plain-length : (ws : List ℕ) (n m : ℕ) → length (plainRecord ws n m) ≡ length (checkWords (lent 8 ws) 128 m) + 2
+pub plain-length : (h : Matrix) (N n m : ℕ) → length (plainRecord h N n m) ≡ length (checkWords h N m) + 2
 unfolding plainRecord
-plain-length ws n m = omega (arith, length-append (checkWords (lent 8 ws) 128 m) ((15 * 2 ^ 28) ∷ []))
+plain-length h N n m = omega (arith, length-append (checkWords h N m) ((15 * 2 ^ 28) ∷ []))
 
-pub wrote-plain : (ws : List ℕ) (n m a b : ℕ) (old new : List ℕ) (q : ℕ) → a ≡ m → b ≡ n
-    → Wrote (set old 0 (2 ^ 28 + a * 256 + b)) new 1 (checkWords (lent 8 ws) 128 m) q
-    → Wrote old (set new q (15 * 2 ^ 28)) 0 (plainRecord ws n m) (q + 1)
+pub wrote-plain : (h : Matrix) (N n m a b : ℕ) (old new : List ℕ) (q : ℕ) → a ≡ m → b ≡ n
+    → Wrote (set old 0 (2 ^ 28 + a * 256 + b)) new 1 (checkWords h N m) q
+    → Wrote old (set new q (15 * 2 ^ 28)) 0 (plainRecord h N n m) (q + 1)
 unfolding plainRecord
-wrote-plain ws n m a b old new q e f A =
+wrote-plain h N n m a b old new q e f A =
     rw (← e, ← f) (wrote-more old (set old 0 (2 ^ 28 + a * 256 + b)) (set new q (15 * 2 ^ 28)) 0 1 (q + 1) ((2 ^ 28 + a * 256 + b) ∷ []) _
-    (wrote-one old 0 (2 ^ 28 + a * 256 + b)) (wrote-more _ new _ 1 q (q + 1) (checkWords (lent 8 ws) 128 a) ((15 * 2 ^ 28) ∷ []) (rw (← e) at A) (wrote-one new q (15 * 2 ^ 28))))
+    (wrote-one old 0 (2 ^ 28 + a * 256 + b)) (wrote-more _ new _ 1 q (q + 1) (checkWords h N a) ((15 * 2 ^ 28) ∷ []) (rw (← e) at A) (wrote-one new q (15 * 2 ^ 28))))
 
-pub plain-written : (ws : List ℕ) (n m : ℕ) → Accepted ws n m 0 → plainRecord ws n m ≡ written (lent 8 ws) n m
+pub plain-written : (ws : List ℕ) (N n m : ℕ) → n ≤ N → Accepted ws n m 0 → plainRecord (lent 8 ws) N n m ≡ written (lent 8 ws) n m
 unfolding plainRecord written
-plain-written ws n m A =
-    let S = A .sound in
-    rw (checks-wider (lent 8 ws) n 128 m (omega (arith, S .n120)) (λ d b k. S .clean .bits d b (omega arith)))
+plain-written ws N n m k A = rw (checks-wider (lent 8 ws) n N m k (λ d b l. A .sound .clean .bits d b (omega arith)))
 
 -- what stands afterwards, where the record is long enough
 pub wrote-first : (old new : List ℕ) (ws : List ℕ) (r : ℕ) → Wrote old new 0 ws r → length ws ≤ length old → new ≡ ws ++ drop (length ws) old

@@ -1,7 +1,7 @@
--- Filling the matrix's words: no ones, the two words of a check, and the checks one after another. Assumes nothing.
+-- Filling the matrix's words: no ones, the bits of a row, and the checks one after another. Assumes nothing.
 use mathlib.Core.Path.{_≡_, refl, sym, ap, _∙_, fun-ext}
 use mathlib.Core.Bool.{true, false}
-use mathlib.Core.List.{List, [], _∷_}
+use mathlib.Core.List.{List}
 use Prim.Native.Nat.{ℕ, zero, suc, _+_, _*_, _-_, _/_, _%_, _^_, _≤_, _<_}
 use native.Mathlib.Nat.{add-zero, add-suc, zero-add}
 use native.Mathlib.Numerals.{add-one}
@@ -9,15 +9,14 @@ use native.Mathlib.Decide.{ℕ-discrete, decLt}
 use native.Mathlib.Omega.{arith}
 use lib.Bits.{bitOr}
 use lib.ListN.{getD, length, set, length-set, List·getD-eq-default}
-use lib.Seq.{getD-set-same, getD-set-other}
-use borrow.Author.Tests.{eq-eqb}
-use Rattle.parity.specs.Matrix.{Matrix, lent, put}
+use lib.Seq.{getD-set-same, getD-set-other, set-getD, set-set}
+use Rattle.parity.specs.Matrix.{Matrix, lent}
 use Rattle.parity.specs.Record.{payload, openWord, loaded, loading}
 use Rattle.parity.proofs.Digits.{bit-zero}
-use Rattle.parity.proofs.Lent.{put-row, lent-in, lent-out, lent-empty, raised-put}
+use Rattle.parity.proofs.Lent.{lent-in, lent-out, raised-put}
 use Rattle.parity.proofs.Reading.{readingAt, bits, opens, read-open, read-bit, loads-more, loads-open, loads-bit, loads-end}
 use Rattle.record.specs.Read.{puts}
-use Rattle.record.specs.Fill.{Zeroed, Payloads, RowOf, Checks, Filled}
+use Rattle.record.specs.Fill.{Zeroed, Payloads, Checks, Filled}
 
 abbrev none : Matrix
 none c b = false
@@ -31,107 +30,54 @@ zeroed-next ws i k Z = record {
   ];
 }
 
-pub zeroed-none : (ws : List ℕ) → length ws ≡ 4096 → Zeroed ws 4096 → lent 8 ws ≡ none
-zeroed-none ws e Z = fun-ext (λ c. fun-ext (λ b. at c b))
+pub zeroed-none : (W : ℕ) (ws : List ℕ) → Zeroed ws (length ws) → lent W ws ≡ none
+zeroed-none W ws Z = fun-ext (λ c. fun-ext (λ b. at c b))
   where
     word : (i : ℕ) → getD ws i 0 ≡ 0
-    word i = elim (decLt i 4096) [ yes k ↦ Z .none i k | no k ↦ List·getD-eq-default ws 0 {n = i} (omega arith) ]
+    word i = elim (decLt i (length ws)) [ yes k ↦ Z .none i k | no k ↦ List·getD-eq-default ws 0 {n = i} (omega arith) ]
 
-    at : (c b : ℕ) → lent 8 ws c b ≡ false
+    at : (c b : ℕ) → lent W ws c b ≡ false
     at c b =
-        elim (decLt b 512) [
-          | yes k ↦ lent-in 8 ws c b k ∙ rw (word (c * 8 + b / 64)) (bit-zero (b % 64))
-          | no k ↦ lent-out 8 ws c b (omega arith)
+        elim (decLt b (W * 64)) [
+          | yes k ↦ lent-in W ws c b k ∙ rw (word (c * W + b / 64)) (bit-zero (b % 64))
+          | no k ↦ lent-out W ws c b (omega arith)
         ]
 
--- the two words of a check
-pub row-none : (source : List ℕ) (from : ℕ) → RowOf source from 0 0 0
+-- j bits are put into row c of `old`, where x, the word at place `at`, is yet to be stored in `new`
+pub record Held (W : ℕ) (source : List ℕ) (from j c : ℕ) (old new : List ℕ) (at x : ℕ) : Type 0 where
+  pub same : length new ≡ length old
+  pub inside : at < length old
+  pub holds : lent W (set new at x) ≡ puts source c from j (lent W old)
+
+pub held-none : (W : ℕ) (source : List ℕ) (from c : ℕ) (ws : List ℕ) (at : ℕ) → at < length ws → Held W source from 0 c ws ws at (getD ws at 0)
 unfolding puts
-row-none source from = record { holds = fun-ext (λ c. fun-ext (λ b. lent-empty 2 2 (0 ∷ 0 ∷ []) refl c b)) }
+held-none W source from c ws at k = record { same = refl; inside = k; holds = rw (set-getD ws at 0) }
 
-module _ (source : List ℕ) (from j low high : ℕ) (R : RowOf source from j low high) where
-  abbrev x : ℕ
-  x = payload (getD source (from + j) 0)
+module _ (W : ℕ) (source : List ℕ) (from j c : ℕ) (old new : List ℕ) (at x : ℕ) (H : Held W source from j c old new at x) (room : c * W + W ≤ length old) where
+  abbrev b : ℕ
+  b = payload (getD source (from + j) 0)
 
-  pub row-low : x < 64 → RowOf source from (j + 1) (bitOr low (2 ^ x)) high
-  unfolding puts
-  row-low k =
-      let e : 0 * 2 + x / 64 ≡ 0 = omega arith in
-      let f : x % 64 ≡ x = omega arith in
-      record { holds = rw (add-one j, ← R .holds) (rw (e, f) at (raised-put 2 (low ∷ high ∷ []) 0 x (rw e (omega arith)) (omega arith))) }
+  module _ (k : b < W * 64) where
+    place : c * W + b / 64 < length (set new at x)
+    place = let l = length-set new at x in omega (arith, H .same)
 
-  pub row-high : 64 ≤ x → x < 128 → RowOf source from (j + 1) low (bitOr high (2 ^ (x - 64)))
-  unfolding puts
-  row-high k l =
-      let e : 0 * 2 + x / 64 ≡ 1 = omega arith in
-      let f : x % 64 ≡ x - 64 = omega arith in
-      record { holds = rw (add-one j, ← R .holds) (rw (e, f) at (raised-put 2 (low ∷ high ∷ []) 0 x (rw e (omega arith)) (omega arith))) }
+    -- a bit of the same word
+    pub held-same : c * W + b / 64 ≡ at → Held W source from (j + 1) c old new at (bitOr x (2 ^ (b % 64)))
+    unfolding puts
+    held-same e = record {
+      same = H .same;
+      inside = H .inside;
+      holds = rw (add-one j, ← H .holds) (rw (e, getD-set-same new at x 0 (omega (arith, H .same, H .inside)), set-set new at x (bitOr x (2 ^ (b % 64)))) at (raised-put W (set new at x) c b place k));
+    }
 
--- putting bits into a check changes no other check
-puts-other : (source : List ℕ) (c from j : ℕ) (h : Matrix) (d b : ℕ) → (d ≡ c → ⊥) → puts source c from j h d b ≡ h d b
-unfolding puts
-puts-other source c from zero h d b n = refl
-puts-other source c from (suc j) h d b n = put-row c _ true (puts source c from j h) d b n ∙ puts-other source c from j h d b n
-
--- and makes an empty one the check with just these bits
-puts-row : (source : List ℕ) (c from j : ℕ) (h : Matrix) (b : ℕ) → ((a : ℕ) → h c a ≡ false) → puts source c from j h c b ≡ puts source 0 from j none 0 b
-unfolding puts put
-puts-row source c from zero h b e = e b
-puts-row source c from (suc j) h b e = rw (eq-eqb c c refl, puts-row source c from j h b e)
-
--- its two words, stored
-module _ (ws : List ℕ) (c low high : ℕ) (e : length ws ≡ 4096) (k : c < 512) (f : (a : ℕ) → lent 8 ws c a ≡ false) where
-  abbrev after : List ℕ
-  after = set (set ws (c * 8) low) (c * 8 + 1) high
-
-  -- words other than the two
-  old-word : (d b : ℕ) → (d * 8 + b / 64 ≡ c * 8 → ⊥) → (d * 8 + b / 64 ≡ c * 8 + 1 → ⊥) → lent 8 after d b ≡ lent 8 ws d b
-  old-word d b p q =
-      elim (decLt b 512) [
-        | no l ↦ lent-out 8 after d b (omega arith) ∙ sym (lent-out 8 ws d b (omega arith))
-        | yes l ↦
-            lent-in 8 after d b l
-            ∙ rw (getD-set-other (set ws (c * 8) low) (c * 8 + 1) (d * 8 + b / 64) high 0 q, getD-set-other ws (c * 8) (d * 8 + b / 64) low 0 p) (sym (lent-in 8 ws d b l))
-      ]
-
-  low-word : getD after (c * 8) 0 ≡ low
-  low-word = getD-set-other (set ws (c * 8) low) (c * 8 + 1) (c * 8) high 0 (λ q. omega arith) ∙ getD-set-same ws (c * 8) low 0 (omega arith)
-
-  high-word : getD after (c * 8 + 1) 0 ≡ high
-  high-word = getD-set-same (set ws (c * 8) low) (c * 8 + 1) high 0 (omega (arith, length-set ws (c * 8) low))
-
-  stored-row : (b : ℕ) → lent 8 after c b ≡ lent 2 (low ∷ high ∷ []) 0 b
-  stored-row b =
-      elim (decLt b 128) [
-        | no l ↦ old-word c b (λ q. omega arith) (λ q. omega arith) ∙ f b ∙ sym (lent-out 2 (low ∷ high ∷ []) 0 b (omega arith))
-        | yes l ↦ lent-in 8 after c b (omega arith) ∙ rw (lent-in 2 (low ∷ high ∷ []) 0 b (omega arith)) (elim (decLt b 64) [
-          | yes t ↦
-              let p : c * 8 + b / 64 ≡ c * 8 = omega arith in
-              let q : 0 * 2 + b / 64 ≡ 0 = omega arith in
-              rw (p, q, low-word)
-          | no t ↦
-              let p : c * 8 + b / 64 ≡ c * 8 + 1 = omega arith in
-              let q : 0 * 2 + b / 64 ≡ 1 = omega arith in
-              rw (p, q, high-word)
-        ])
-      ]
-
-  pub stored-puts : (source : List ℕ) (from j : ℕ) → RowOf source from j low high → lent 8 after ≡ puts source c from j (lent 8 ws)
-  stored-puts source from j R = fun-ext (λ d. fun-ext (λ b. at d b))
-    where
-      old : (d b : ℕ) → (d ≡ c → ⊥) → lent 8 after d b ≡ lent 8 ws d b
-      old d b n =
-          elim (decLt b 512) [
-            | no l ↦ lent-out 8 after d b (omega arith) ∙ sym (lent-out 8 ws d b (omega arith))
-            | yes l ↦ old-word d b (λ q. n (omega arith)) (λ q. n (omega arith))
-          ]
-
-      at : (d b : ℕ) → lent 8 after d b ≡ puts source c from j (lent 8 ws) d b
-      at d b =
-          elim (ℕ-discrete d c) [
-            | yes q ↦ rw q (stored-row b ∙ ap (λ (h : Matrix). h 0 b) (R .holds) ∙ sym (puts-row source c from j (lent 8 ws) b f))
-            | no n ↦ old d b n ∙ sym (puts-other source c from j (lent 8 ws) d b n)
-          ]
+    -- a bit of another word
+    pub held-other : Held W source from (j + 1) c old (set new at x) (c * W + b / 64) (bitOr (getD (set new at x) (c * W + b / 64) 0) (2 ^ (b % 64)))
+    unfolding puts
+    held-other = record {
+      same = length-set new at x ∙ H .same;
+      inside = omega arith;
+      holds = rw (add-one j, ← H .holds) (raised-put W (set new at x) c b place k);
+    }
 
 -- the ones of a check of a record that loads, j of them read
 pub record BitsIn (n m : ℕ) (source : List ℕ) (from c j d : ℕ) (g : Matrix) (n′ m′ : ℕ) (h : Matrix) : Type 0 where
@@ -172,12 +118,10 @@ pub record Filling (m : ℕ) (source : List ℕ) (p c : ℕ) (ws : List ℕ) : T
   pub loads : loading source ≡ loaded n m matrix
   pub low : ℕ
   pub rest : readingAt n m source p c 0 low (lent 8 ws) ≡ loaded n m matrix
-  pub empty : (d b : ℕ) → c ≤ d → lent 8 ws d b ≡ false
 
-pub filling-none : (m : ℕ) (source ws : List ℕ) → Checks m source → length ws ≡ 4096 → Zeroed ws 4096 → Filling m source 1 0 ws
-filling-none m source ws C e Z =
+pub filling-none : (m : ℕ) (source ws : List ℕ) → Checks m source → Zeroed ws (length ws) → Filling m source 1 0 ws
+filling-none m source ws C Z =
     let L = C .loads in
-    let z = zeroed-none ws e Z in
     record {
       n = C .n;
       few = L .few;
@@ -185,8 +129,7 @@ filling-none m source ws C e Z =
       matrix = L .matrix;
       loads = L .loads;
       low = 0;
-      rest = rw z (sym (L .start) ∙ L .loads);
-      empty = λ d b k. rw z;
+      rest = rw (zeroed-none 8 ws Z) (sym (L .start) ∙ L .loads);
     }
 
 module _ (m : ℕ) (source : List ℕ) (p c : ℕ) (ws : List ℕ) (F : Filling m source p c ws) (l : c < m) where
@@ -204,23 +147,20 @@ module _ (m : ℕ) (source : List ℕ) (p c : ℕ) (ws : List ℕ) (F : Filling 
       bits-in (F .n) m source (p + 1) (suc c) (payload (getD source p 0)) 0 0 (lent 8 ws) (F .n) m (F .matrix)
       (rw (add-zero (payload (getD source p 0)), add-one p) (sym (read-open (F .n) m source p c (F .low) (lent 8 ws) filling-more l opened) ∙ F .rest))
 
-  pub filling-payloads : Payloads source (p + 1) (payload (getD source p 0))
+  pub filling-payloads : Payloads source (p + 1) (payload (getD source p 0)) (8 * 64)
   filling-payloads = record { inside = omega (arith, all-in .inside); below = λ j k. omega (arith, all-in .below j k, F .few) }
 
-  pub filling-next : (low high : ℕ) → length ws ≡ 4096 → RowOf source (p + 1) (payload (getD source p 0)) low high
-      → Filling m source (p + 1 + payload (getD source p 0)) (c + 1) (set (set ws (c * 8) low) (c * 8 + 1) high)
-  filling-next low high e R =
-      let s = stored-puts ws c low high e (omega (arith, F .checks)) (λ a. F .empty c a (omega arith)) source (p + 1) (payload (getD source p 0)) R in
-      record {
-        n = F .n;
-        few = F .few;
-        checks = F .checks;
-        matrix = F .matrix;
-        loads = F .loads;
-        low = all-in .low;
-        rest = let t : suc c - 1 ≡ c = omega arith in rw (s, add-one c) (rw t at (all-in .rest));
-        empty = λ d b k. rw s (puts-other source c (p + 1) (payload (getD source p 0)) (lent 8 ws) d b (λ q. omega arith) ∙ F .empty d b (omega arith));
-      }
+  pub filling-next : (new : List ℕ) → lent 8 new ≡ puts source c (p + 1) (payload (getD source p 0)) (lent 8 ws)
+      → Filling m source (p + 1 + payload (getD source p 0)) (c + 1) new
+  filling-next new s = record {
+    n = F .n;
+    few = F .few;
+    checks = F .checks;
+    matrix = F .matrix;
+    loads = F .loads;
+    low = all-in .low;
+    rest = let t : suc c - 1 ≡ c = omega arith in rw (s, add-one c) (rw t at (all-in .rest));
+  }
 
 pub filling-end : (m : ℕ) (source : List ℕ) (p : ℕ) (ws : List ℕ) → Filling m source p m ws → Filled source ws
 filling-end m source p ws F =

@@ -1,26 +1,20 @@
 -- What filling the matrix's words from a record answers. Assumes nothing.
 use mathlib.Core.Path.{_≡_}
-use mathlib.Core.Bool.{false}
-use mathlib.Core.List.{List, [], _∷_}
+use mathlib.Core.List.{List}
 use Prim.Native.Nat.{ℕ, _+_, _≤_, _<_}
 use lib.ListN.{getD, length}
 use Rattle.parity.specs.Matrix.{Matrix, lent}
 use Rattle.parity.specs.Record.{payload, loaded, loading}
-use Rattle.record.specs.Read.{puts}
 use Rattle.record.specs.Judge.{Loads}
 
 -- the first i words are 0
 pub record Zeroed (words : List ℕ) (i : ℕ) : Type 0 where
   pub none : (j : ℕ) → j < i → getD words j 0 ≡ 0
 
--- the payloads of `count` words from place `from` on are below 128
-pub record Payloads (source : List ℕ) (from count : ℕ) : Type 0 where
+-- the payloads of `count` words from place `from` on are below N
+pub record Payloads (source : List ℕ) (from count N : ℕ) : Type 0 where
   pub inside : from + count ≤ length source
-  pub below : (j : ℕ) → j < count → payload (getD source (from + j) 0) < 128
-
--- two words that hold the check with these bits
-pub record RowOf (source : List ℕ) (from count low high : ℕ) : Type 0 where
-  pub holds : lent 2 (low ∷ high ∷ []) ≡ puts source 0 from count (λ c b. false)
+  pub below : (j : ℕ) → j < count → payload (getD source (from + j) 0) < N
 
 -- a record of m checks that loads
 pub record Checks (m : ℕ) (source : List ℕ) : Type 0 where

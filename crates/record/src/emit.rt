@@ -1,28 +1,37 @@
-// Writing the words of a record.
-use matrix::ones::wide;
+// Writing the words of a record. No check has a one beyond its first `used` words.
+use matrix::rows::common;
 ghost use mathlib.Core.Path.{_≡_};
-ghost use Prim.Native.Nat.{_+_, _^_, _≤_, _<_};
-ghost use lib.Count.{ones as onesOf};
+ghost use Prim.Native.Nat.{_+_, _*_, _^_, _≤_, _<_};
 ghost use lib.ListN.{length};
+ghost use Rattle.parity.specs.Finite.{count};
 ghost use Rattle.parity.specs.Matrix.{lent};
-ghost use Rattle.parity.specs.Record.{checkWords};
+ghost use Rattle.parity.specs.Record.{bitWords, checkWords};
 ghost use Rattle.record.specs.Write.{wordOnes, checkOf, plainRecord, Wrote};
 
-// How many ones two words have.
-fn ones(low: u64, high: u64) -> u32
-    ensures { λ r. ⌜ r ≡ onesOf low + onesOf high ⌝ }
+// A number below 2^28, as part of a record word.
+fn narrow(x: usize) -> u32
+    requires { ⌜ x < 2 ^ 28 ⌝ }
+    ensures { λ r. ⌜ r ≡ x ⌝ }
 {
-    u64::count_ones(low) + u64::count_ones(high)
+    x as u32
 }
 
-// How many words the record of a matrix with no bit at 128 or above takes.
-pub fn needed(words: &[u64], m: usize) -> usize
-    requires { ⌜ (length (now words) ≡ 4096) × (m ≤ 120) ⌝ }
-    ensures { λ r. ⌜ r ≡ length (checkWords (lent 8 (now (words .entry))) 128 m) + 2 ⌝ }
+// How many bits check `c` contains in its first `used` words: those that it has in common with itself.
+fn weight(words: &[u64], used: usize, c: usize) -> usize
+    requires { ⌜ (length (now words) ≡ 4096) × (used ≤ 8) × (c < 512) ⌝ }
+    ensures { λ r. ⌜ r ≡ count (used * 64) (lent 8 (now (words .entry)) c) ⌝ }
+{
+    common(words, c, words, c, 8, used)
+}
+
+// How many words the record takes.
+pub fn needed(words: &[u64], used: usize, m: usize) -> usize
+    requires { ⌜ (length (now words) ≡ 4096) × (used ≤ 8) × (m ≤ 120) ⌝ }
+    ensures { λ r. ⌜ r ≡ length (checkWords (lent 8 (now (words .entry))) (used * 64) m) + 2 ⌝ }
 {
     let mut total: usize = 2;
     for c in 0..m {
-        total += 1 + wide(ones(words[c * 8], words[c * 8 + 1]));
+        total += 1 + weight(words, used, c);
     }
     total
 }
@@ -42,46 +51,55 @@ fn put_word(x: u64, first: u32, target: &mut [u32], p: usize) -> usize
     at
 }
 
-// Writes a check from place `p` on, and answers the place behind it.
-fn put_check(words: &[u64], c: usize, target: &mut [u32], p: usize) -> usize
-    requires { ⌜ (length (now words) ≡ 4096) × (c < 512) × (p + length (checkOf (now words) c) ≤ length (now target)) ⌝ }
-    ensures { λ r. ⌜ Wrote (now (target .entry)) (now (target .exit)) p (checkOf (now (words .entry)) c) r ⌝ }
+// Writes the bits of row `c` in its first `used` words from place `p` on, and answers the place behind them.
+fn put_row(rows: &[u64], width: usize, used: usize, c: usize, target: &mut [u32], p: usize) -> usize
+    requires { ⌜ (c * width + width ≤ length (now rows)) × (used ≤ width) × (width ≤ 8) ⌝ }
+    requires { ⌜ p + length (bitWords (lent width (now rows) c) (used * 64)) ≤ length (now target) ⌝ }
+    ensures { λ r. ⌜ Wrote (now (target .entry)) (now (target .exit)) p (bitWords (lent width (now (rows .entry)) c) (used * 64)) r ⌝ }
 {
-    let low = words[c * 8];
-    let high = words[c * 8 + 1];
-    let weight = ones(low, high);
-    target[p] = 0x2000_0000 + weight;
-    let middle = put_word(low, 0x3000_0000, target, p + 1);
-    put_word(high, 0x3000_0040, target, middle)
+    let mut at = p;
+    for i in 0..used {
+        at = put_word(
+            rows[c * width + i],
+            0x3000_0000 + narrow(i * 64),
+            target,
+            at,
+        );
+    }
+    at
+}
+
+// Writes a check from place `p` on, and answers the place behind it.
+fn put_check(words: &[u64], used: usize, c: usize, target: &mut [u32], p: usize) -> usize
+    requires { ⌜ (length (now words) ≡ 4096) × (used ≤ 8) × (c < 512) ⌝ }
+    requires { ⌜ p + length (checkOf (lent 8 (now words) c) (used * 64)) ≤ length (now target) ⌝ }
+    ensures { λ r. ⌜ Wrote (now (target .entry)) (now (target .exit)) p (checkOf (lent 8 (now (words .entry)) c) (used * 64)) r ⌝ }
+{
+    target[p] = 0x2000_0000 + narrow(weight(words, used, c));
+    put_row(words, 8, used, c, target, p + 1)
 }
 
 // Writes `m` checks from place 1 on, and answers the place behind them.
-fn put_checks(words: &[u64], m: usize, target: &mut [u32]) -> usize
-    requires { ⌜ (length (now words) ≡ 4096) × (m ≤ 120) × (1 + length (checkWords (lent 8 (now words)) 128 m) ≤ length (now target)) ⌝ }
-    ensures { λ r. ⌜ Wrote (now (target .entry)) (now (target .exit)) 1 (checkWords (lent 8 (now (words .entry))) 128 m) r ⌝ }
+fn put_checks(words: &[u64], used: usize, m: usize, target: &mut [u32]) -> usize
+    requires { ⌜ (length (now words) ≡ 4096) × (used ≤ 8) × (m ≤ 120) ⌝ }
+    requires { ⌜ 1 + length (checkWords (lent 8 (now words)) (used * 64) m) ≤ length (now target) ⌝ }
+    ensures { λ r. ⌜ Wrote (now (target .entry)) (now (target .exit)) 1 (checkWords (lent 8 (now (words .entry))) (used * 64) m) r ⌝ }
 {
     let mut p = 1;
     for c in 0..m {
-        p = put_check(words, c, target, p);
+        p = put_check(words, used, c, target, p);
     }
     p
 }
 
-// A number below 256, as part of a record word.
-fn narrow(x: usize) -> u32
-    requires { ⌜ x < 256 ⌝ }
-    ensures { λ r. ⌜ r ≡ x ⌝ }
-{
-    x as u32
-}
-
-// Writes the record of a matrix with no bit at 128 or above, and answers how many words it took.
-pub fn put_record(words: &[u64], n: usize, m: usize, target: &mut [u32]) -> usize
-    requires { ⌜ (length (now words) ≡ 4096) × (n ≤ 120) × (m ≤ 120) × (length (plainRecord (now words) n m) ≤ length (now target)) ⌝ }
-    ensures { λ r. ⌜ Wrote (now (target .entry)) (now (target .exit)) 0 (plainRecord (now (words .entry)) n m) r ⌝ }
+// Writes the record, and answers how many words it took.
+pub fn put_record(words: &[u64], used: usize, n: usize, m: usize, target: &mut [u32]) -> usize
+    requires { ⌜ (length (now words) ≡ 4096) × (used ≤ 8) × (n ≤ 120) × (m ≤ 120) ⌝ }
+    requires { ⌜ length (plainRecord (lent 8 (now words)) (used * 64) n m) ≤ length (now target) ⌝ }
+    ensures { λ r. ⌜ Wrote (now (target .entry)) (now (target .exit)) 0 (plainRecord (lent 8 (now (words .entry))) (used * 64) n m) r ⌝ }
 {
     target[0] = 0x1000_0000 + narrow(m) * 256 + narrow(n);
-    let end = put_checks(words, m, target);
+    let end = put_checks(words, used, m, target);
     target[end] = 0xf000_0000;
     end + 1
 }

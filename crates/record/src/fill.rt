@@ -1,41 +1,40 @@
 // Filling the matrix's words from a record that was judged right.
 use crate::words::payload;
 ghost use mathlib.Core.Path.{_≡_};
+ghost use Prim.Native.Nat.{_+_, _*_, _≤_, _<_};
 ghost use lib.ListN.{length};
-ghost use Rattle.record.specs.Fill.{Zeroed, Payloads, RowOf, Checks, Filled};
-
-// The ones of a check among its first 128 bits.
-pub struct Row {
-    low: u64,
-    high: u64,
-}
+ghost use Rattle.parity.specs.Matrix.{lent};
+ghost use Rattle.record.specs.Read.{puts};
+ghost use Rattle.record.specs.Fill.{Zeroed, Payloads, Checks, Filled};
 
 // No check contains a bit.
 fn clear(words: &mut [u64])
-    requires { ⌜ length (now words) ≡ 4096 ⌝ }
-    ensures { λ r. ⌜ Zeroed (now (words .exit)) 4096 ⌝ }
+    ensures { λ r. ⌜ Zeroed (now (words .exit)) (length (now (words .entry))) ⌝ }
 {
-    for i in 0..4096 {
+    for i in 0..words.len() {
         words[i] = 0;
     }
 }
 
-// The check that contains the bits of `count` words from place `from` on.
-fn gather(source: &[u32], from: usize, count: usize) -> Row
-    requires { ⌜ Payloads (now source) from count ⌝ }
-    ensures { λ r. ⌜ RowOf (now (source .entry)) from count (r .low) (r .high) ⌝ }
+// Puts the bits of `count` words from place `from` on into row `c`. A word of the row is stored when a bit of another word comes.
+fn fill_row(source: &[u32], from: usize, count: usize, rows: &mut [u64], width: usize, c: usize)
+    requires { ⌜ Payloads (now source) from count (width * 64) ⌝ }
+    requires { ⌜ (c * width + width ≤ length (now rows)) × (0 < width) ⌝ }
+    ensures { λ r. ⌜ lent width (now (rows .exit)) ≡ puts (now (source .entry)) c from count (lent width (now (rows .entry))) ⌝ }
 {
-    let mut low: u64 = 0;
-    let mut high: u64 = 0;
+    let mut at = c * width;
+    let mut x = rows[at];
     for i in 0..count {
         let b = payload(source[from + i]);
-        if b < 64 {
-            low = low | (1 << b);
-        } else {
-            high = high | (1 << (b - 64));
+        let place = c * width + b / 64;
+        if place != at {
+            rows[at] = x;
+            at = place;
+            x = rows[at];
         }
+        x = x | (1 << (b % 64));
     }
-    Row { low, high }
+    rows[at] = x;
 }
 
 // The words of the matrix that a record of `m` checks holds.
@@ -47,9 +46,7 @@ pub fn fill(source: &[u32], words: &mut [u64], m: usize)
     let mut p = 1;
     for c in 0..m {
         let count = payload(source[p]);
-        let ones = gather(source, p + 1, count);
-        words[c * 8] = ones.low;
-        words[c * 8 + 1] = ones.high;
+        fill_row(source, p + 1, count, words, 8, c);
         p = p + 1 + count;
     }
 }

@@ -57,10 +57,11 @@ pub fn write(words: &[u64], n: usize, m: usize, k: usize, record: &mut [u32]) ->
     if 0 < k {
         return Writing::Refused(Refusal::AddedBits);
     }
-    let used = needed(words, m);
+    let row = (n + 63) / 64;
+    let used = needed(words, row, m);
     if record.len() < used {
         return Writing::Refused(Refusal::RecordTooShort { needed: used });
     }
-    put_record(words, n, m, record);
+    put_record(words, row, n, m, record);
     Writing::Written { used }
 }

@@ -2,100 +2,65 @@
 use mathlib.Core.Path.{_∙_}
 use Prim.Native.Nat.{_+_, _*_}
 use native.Mathlib.Omega.{arith}
-use lib.Count.{ones-le}
-use lib.ListN.{getD, length-set}
-use Rattle.record.proofs.Emitting.{wrote-one, wrote-more, wrote-length, check-parts, check-length}
+use lib.ListN.{length-set}
+use Rattle.parity.specs.Matrix.{lent}
+use Rattle.parity.proofs.Sums.{count-bound}
+use Rattle.record.proofs.Emitting.{wrote-length, check-length, wrote-check}
 use borrow.Author.Needs.{needs}
 use Rattle.record.proofs.emit.put_check.Statement.{statement}
 use Rattle.record.proofs.emit.put_check.Tie as tie
 
-mul-low : tie.Need-mul-low
-mul-low c = search needs
+weight-requires : tie.Need-weight-requires
+weight-requires c κs = search needs
 
-mul-low-2 : tie.Need-mul-low-2
-mul-low-2 c = search needs
-
-shared-slice-read-low : tie.Need-shared-slice-read-low
-shared-slice-read-low c = search needs
-
-mul-high : tie.Need-mul-high
-mul-high c = search needs
-
-add-high : tie.Need-add-high
-add-high c = search needs
-
-mul-high-2 : tie.Need-mul-high-2
-mul-high-2 c = search needs
-
-shared-slice-read-high : tie.Need-shared-slice-read-high
-shared-slice-read-high c = search needs
-
-ones-requires : tie.Need-ones-requires
-ones-requires c κs = search needs
+narrow-requires : tie.Need-narrow-requires
+narrow-requires c κs =
+    let s = c .before .before .before in
+    omega (arith, s .pre .0, c .weight .ensures, count-bound (s .args .used * 64) (lent 8 (s .args .words .now) (s .args .c)))
 
 add-target : tie.Need-add-target
 add-target c =
-    let s = c .before .before .before .before .before in
-    let k = c .before .shared-slice-known3 .given in
-    omega (arith, c .ones .ensures, ones-le 64 (getD (s .args .words .now) (s .args .c * 8) 0) (k (s .args .c * 8) .fits), ones-le 64 (getD (s .args .words .now) (s .args .c * 8 + 1) 0) (k (s .args .c * 8 + 1) .fits))
+    let s = c .before .before .before .before in
+    omega (arith, s .pre .0, c .narrow .ensures, c .before .weight .ensures, count-bound (s .args .used * 64) (lent 8 (s .args .words .now) (s .args .c)))
 
 mul-target : tie.Need-mul-target
 mul-target c = search needs
 
 slice-write-target : tie.Need-slice-write-target
 slice-write-target c =
-    let s = c .before .before .before .before .before in
-    let u = check-length (s .args .words .now) (λ i. c .before .shared-slice-known3 .given i .fits) (s .args .c) in
-    omega (arith, s .pre .2)
+    let s = c .before .before .before .before in
+    omega (arith, s .pre .1, check-length (lent 8 (s .args .words .now) (s .args .c)) (s .args .used * 64))
 
-add-put-word : tie.Need-add-put-word
-add-put-word c = search needs
+add-put-row : tie.Need-add-put-row
+add-put-row c = search needs
 
-put-word-requires : tie.Need-put-word-requires
-put-word-requires c κs =
-    let s = c .before .before .before .before .before .before in
-    let u = check-length (s .args .words .now) (λ i. c .before .before .shared-slice-known3 .given i .fits) (s .args .c) in
-    (omega (arith, s .pre .2, length-set (s .args .target .now) (s .args .p) (536870912 + c .before .ones .result)), omega arith)
-
-put-word-requires-2 : tie.Need-put-word-requires-2
-put-word-requires-2 c κs =
-    let s = c .before .before .before .before .before .before .before .before .before .before in
-    let u = check-length (s .args .words .now) (λ i. c .before .before .before .before .before .before .shared-slice-known3 .given i .fits) (s .args .c) in
-    let o = c .before .before .before .put-word in (
-      omega (arith, s .pre .2, o .ensures .place, wrote-length _ _ _ _ _ (o .ensures), length-set (s .args .target .now) (s .args .p) (536870912 + c .before .before .before .before .before .ones .result)),
-      omega arith,
+put-row-requires : tie.Need-put-row-requires
+put-row-requires c κs =
+    let s = c .before .before .before .before .before in (
+      (omega (arith, s .pre .0), s .pre .0 .1, omega arith),
+      omega (arith, s .pre .1, check-length (lent 8 (s .args .words .now) (s .args .c)) (s .args .used * 64), length-set (s .args .target .now) (s .args .p) (536870912 + c .before .narrow .result)),
     )
 
 same-length : tie.Need-same-length
 same-length c =
-    let s = c .before .before .before .before .before .before .before .before .before .before .before .before .before in
-    wrote-length _ _ _ _ _ (c .before .before .put-word2 .ensures) ∙ wrote-length _ _ _ _ _ (c .before .before .before .before .before .before .put-word .ensures)
-    ∙ length-set (s .args .target .now) (s .args .p) (536870912 + c .before .before .before .before .before .before .before .before .ones .result)
+    let s = c .before .before .before .before .before .before .before .before in
+    wrote-length _ _ _ _ _ (c .before .before .put-row .ensures) ∙ length-set (s .args .target .now) (s .args .p) (536870912 + c .before .before .before .before .narrow .result)
 
 returns : tie.Need-returns
 returns c =
-    let s = c .before .before .before .before .before .before .before .before .before .before .before .before .before in
-    rw (check-parts (s .args .words .now) (λ i. c .before .before .before .before .before .before .before .before .before .shared-slice-known3 .given i .fits) (s .args .c))
-    (wrote-more _ _ _ _ _ _ _ _ (wrote-one (s .args .target .now) (s .args .p) _)
-    (rw (← c .before .before .before .before .before .before .before .before .ones .ensures) (wrote-more _ _ _ _ _ _ _ _ (c .before .before .before .before .before .before .put-word .ensures) (c .before .before .put-word2 .ensures))))
+    let n = c .before .before .before .before in
+    wrote-check _ _ _ _ _ _ _ (n .narrow .ensures ∙ n .before .weight .ensures) (c .before .before .put-row .ensures)
 
 pub put-check-spec : {M : Type 1} → statement M
 put-check-spec =
     tie.close
     (tie.spec
-    mul-low
-    mul-low-2
-    shared-slice-read-low
-    mul-high
-    add-high
-    mul-high-2
-    shared-slice-read-high
-    ones-requires
+    weight-requires
+    narrow-requires
     add-target
     mul-target
     slice-write-target
-    add-put-word
-    put-word-requires
-    put-word-requires-2
+    add-put-row
+    put-row-requires
     same-length
     returns)

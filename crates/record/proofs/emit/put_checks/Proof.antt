@@ -1,6 +1,6 @@
 -- `emit::put_checks` meets its contract. Assumes nothing.
 use mathlib.Core.Path.{_≡_, ap, _∙_}
-use Prim.Native.Nat.{_+_, _-_, _≤_}
+use Prim.Native.Nat.{_+_, _*_, _-_, _≤_}
 use native.Mathlib.Omega.{arith}
 use lib.ListN.{length, length-append}
 use Rattle.parity.specs.Matrix.{lent}
@@ -11,10 +11,10 @@ use Rattle.record.proofs.emit.put_checks.Statement.{statement}
 use Rattle.record.proofs.emit.put_checks.Tie as tie
 
 abbrev Inv-loop : tie.InvT-loop
-Inv-loop words m target₀ p₀ c₀ target p c = (c ≤ m) × Wrote target₀ target 1 (checkWords (lent 8 words) 128 c) p
+Inv-loop words used m target₀ p₀ c₀ target p c = (c ≤ m) × Wrote target₀ target 1 (checkWords (lent 8 words) (used * 64) c) p
 
 abbrev μ-loop : tie.MeasureT-loop
-μ-loop words m target₀ p₀ c₀ target p c = m - c
+μ-loop words used m target₀ p₀ c₀ target p c = m - c
 
 loop-holds : tie.Need-loop-holds Inv-loop μ-loop
 loop-holds c = unfold checkWords in (omega arith, wrote-none _ _)
@@ -24,10 +24,10 @@ put-check-requires c κs =
     let s = c .before .before .before .before .before in
     let l = c .before .before .loop in
     let h = lent 8 (s .args .words .now) in
-    let e = ap length (checks-next (s .args .words .now) (l .c)) ∙ length-append (checkWords h 128 (l .c)) (checkOf (s .args .words .now) (l .c)) in (
-      s .pre .0,
-      omega arith,
-      omega (arith, s .pre .2, l .inv .1 .place, wrote-length _ _ _ _ _ (l .inv .1), checks-mono h 128 (l .c + 1) (s .args .m) (omega arith)),
+    let N = s .args .used * 64 in
+    let e = ap length (checks-next h N (l .c)) ∙ length-append (checkWords h N (l .c)) (checkOf (h (l .c)) N) in (
+      (s .pre .0 .0, s .pre .0 .1, omega arith),
+      omega (arith, s .pre .1, l .inv .1 .place, wrote-length _ _ _ _ _ (l .inv .1), checks-mono h N (l .c + 1) (s .args .m) (omega arith)),
     )
 
 add-c : tie.Need-add-c Inv-loop μ-loop
@@ -40,7 +40,7 @@ loop-again : tie.Need-loop-again Inv-loop μ-loop
 loop-again c =
     let l = c .before .before .before .before .before .loop in
     let s = c .before .before .before .before .before .before .before .before in
-    (omega arith, rw (checks-next (s .args .words .now) (l .c)) (wrote-more _ _ _ _ _ _ _ _ (l .inv .1) (c .before .before .put-check .ensures)))
+    (omega arith, rw (checks-next (lent 8 (s .args .words .now)) (s .args .used * 64) (l .c)) (wrote-more _ _ _ _ _ _ _ _ (l .inv .1) (c .before .before .put-check .ensures)))
 
 same-length : tie.Need-same-length Inv-loop μ-loop
 same-length c = wrote-length _ _ _ _ _ (c .before .loop .inv .1)

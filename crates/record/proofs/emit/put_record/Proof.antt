@@ -3,6 +3,7 @@ use mathlib.Core.Path.{_≡_, _∙_}
 use Prim.Native.Nat.{_+_, _*_, _<_, _≤_}
 use native.Mathlib.Omega.{arith}
 use lib.ListN.{length, length-set}
+use Rattle.parity.specs.Matrix.{lent}
 use Rattle.record.proofs.Emitting.{wrote-length, plain-length, wrote-plain}
 use borrow.Author.Needs.{needs}
 use Rattle.record.proofs.emit.put_record.Statement.{statement}
@@ -30,24 +31,23 @@ add-target-2 c = search needs
 slice-write-target : tie.Need-slice-write-target
 slice-write-target c =
     let s = c .before .before .before .before in
-    let k : 0 < length (s .args .target .now) = omega (arith, s .pre .3, plain-length (s .args .words .now) (s .args .n) (s .args .m)) in
+    let k : 0 < length (s .args .target .now) = omega (arith, s .pre .1, plain-length (lent 8 (s .args .words .now)) (s .args .used * 64) (s .args .n) (s .args .m)) in
     k
 
 put-checks-requires : tie.Need-put-checks-requires
 put-checks-requires c κs =
     let s = c .before .before .before .before .before in (
-      s .pre .0,
-      s .pre .2,
-      omega (arith, s .pre .3, plain-length (s .args .words .now) (s .args .n) (s .args .m), length-set (s .args .target .now) 0 (268435456 + c .before .before .narrow .result * 256 + c .before .narrow2 .result)),
+      (s .pre .0 .0, s .pre .0 .1, s .pre .0 .3),
+      omega (arith, s .pre .1, plain-length (lent 8 (s .args .words .now)) (s .args .used * 64) (s .args .n) (s .args .m), length-set (s .args .target .now) 0 (268435456 + c .before .before .narrow .result * 256 + c .before .narrow2 .result)),
     )
 
 -- the end word has a place
 room : (c : lts.After-slice-known2 (narrow-reads.Asked, narrow-reads.Learnt, put-checks-reads.Asked, put-checks-reads.Learnt) reads.Pre reads.Post)
-    → (c .before .before .put-checks .result + 1 ≤ length (c .before .before .before .before .before .before .before .before .args .target .now)) × (length (c .before .before .put-checks .last .1 .1 .0) ≡ length (c .before .before .before .before .before .before .before .before .args .target .now))
+    → (c .before .before .put-checks .result + 1 ≤ length (c .before .before .before .before .before .before .before .before .args .target .now)) × (length (c .before .before .put-checks .last .1 .1 .1 .0) ≡ length (c .before .before .before .before .before .before .before .before .args .target .now))
 room c =
     let s = c .before .before .before .before .before .before .before .before in
     let o = c .before .before .put-checks .ensures in (
-      omega (arith, s .pre .3, o .place, plain-length (s .args .words .now) (s .args .n) (s .args .m)),
+      omega (arith, s .pre .1, o .place, plain-length (lent 8 (s .args .words .now)) (s .args .used * 64) (s .args .n) (s .args .m)),
       wrote-length _ _ _ _ _ o ∙ length-set (s .args .target .now) 0 (268435456 + c .before .before .before .before .before .narrow .result * 256 + c .before .before .before .before .narrow2 .result),
     )
 
@@ -61,10 +61,10 @@ add-result : tie.Need-add-result
 add-result c = let k = room c .0 in omega arith
 
 same-length : tie.Need-same-length
-same-length c = length-set (c .before .before .put-checks .last .1 .1 .0) (c .before .before .put-checks .result) 4026531840 ∙ room c .1
+same-length c = length-set (c .before .before .put-checks .last .1 .1 .1 .0) (c .before .before .put-checks .result) 4026531840 ∙ room c .1
 
 returns : tie.Need-returns
-returns c = wrote-plain _ _ _ _ _ _ _ _ (c .before .before .before .before .before .narrow .ensures) (c .before .before .before .before .narrow2 .ensures) (c .before .before .put-checks .ensures)
+returns c = wrote-plain _ _ _ _ _ _ _ _ _ (c .before .before .before .before .before .narrow .ensures) (c .before .before .before .before .narrow2 .ensures) (c .before .before .put-checks .ensures)
 
 pub put-record-spec : {M : Type 1} → statement M
 put-record-spec =

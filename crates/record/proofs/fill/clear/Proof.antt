@@ -1,5 +1,5 @@
 -- `fill::clear` meets its contract. Assumes nothing.
-use mathlib.Core.Path.{_≡_, _∙_}
+use mathlib.Core.Path.{_≡_, refl, _∙_}
 use Prim.Native.Nat.{_-_, _≤_}
 use native.Mathlib.Omega.{arith}
 use borrow.Author.Needs.{needs}
@@ -10,13 +10,13 @@ use Rattle.record.proofs.fill.clear.Statement.{statement}
 use Rattle.record.proofs.fill.clear.Tie as tie
 
 abbrev Inv-loop : tie.InvT-loop
-Inv-loop words₀ i₀ words i = (i ≤ 4096) × (length words ≡ 4096) × Zeroed words i
+Inv-loop words₀ i₀ i-end words i = (i ≤ i-end) × (i-end ≡ length words₀) × (length words ≡ length words₀) × Zeroed words i
 
 abbrev μ-loop : tie.MeasureT-loop
-μ-loop words₀ i₀ words i = 4096 - i
+μ-loop words₀ i₀ i-end words i = i-end - i
 
 loop-holds : tie.Need-loop-holds Inv-loop μ-loop
-loop-holds c = (omega arith, c .pre, record { none = λ j k. absurd (omega arith) })
+loop-holds c = (omega arith, refl, refl, record { none = λ j k. absurd (omega arith) })
 
 mul-words : tie.Need-mul-words Inv-loop μ-loop
 mul-words c = omega arith
@@ -33,7 +33,7 @@ loop-less c = omega arith
 loop-again : tie.Need-loop-again Inv-loop μ-loop
 loop-again c =
     let l = c .before .loop in
-    (omega arith, length-set (l .words) (l .i) 0 ∙ l .inv .1, zeroed-next _ _ (omega arith) (l .inv .2))
+    (omega arith, l .inv .1, length-set (l .words) (l .i) 0 ∙ l .inv .2, zeroed-next _ _ (omega arith) (l .inv .3))
 
 same-length : tie.Need-same-length Inv-loop μ-loop
 same-length c = search needs
@@ -41,8 +41,8 @@ same-length c = search needs
 returns : tie.Need-returns Inv-loop μ-loop
 returns c =
     let l = c .before .loop in
-    let e : l .i ≡ 4096 = omega arith in
-    rw e at (l .inv .2)
+    let e : l .i ≡ length (c .before .before .args .words .now) = omega arith in
+    rw e at (l .inv .3)
 
 pub clear-spec : {M : Type 1} → statement M
 clear-spec =

@@ -1,0 +1,15 @@
+-- `emit::weight` meets its contract. Assumes nothing.
+use mathlib.Core.Path.{_∙_}
+use borrow.Author.Needs.{needs}
+use Rattle.record.proofs.Emitting.{weight-self}
+use Rattle.record.proofs.emit.weight.Statement.{statement}
+use Rattle.record.proofs.emit.weight.Tie as tie
+
+common-requires : tie.Need-common-requires
+common-requires c κs = search needs
+
+returns : tie.Need-returns
+returns c = c .common .ensures ∙ weight-self _ _
+
+pub weight-spec : {M : Type 1} → statement M
+weight-spec = tie.close (tie.spec common-requires returns)

@@ -25,14 +25,6 @@ use Rattle.parity.proofs.Writing.{length-one, length-bits, length-check, checks
 use Rattle.parity.proofs.Accept.{Accepted}
 use Rattle.record.specs.Write.{wordOnes, checkOf, plainRecord, Wrote}
 
--- the bits of a check in common with itself
-pub weight-self : (N : ℕ) (s : ℕ → Bool) → count N (λ t. s t && s t) ≡ count N s
-weight-self N s = count-cong N (λ t l. both (s t))
-  where
-    both : (x : Bool) → (x && x) ≡ x
-    both true = refl
-    both false = refl
-
 -- stores, one list after another
 pub sets-append : (l : List ℕ) (p : ℕ) (vs us : List ℕ) → sets l p (vs ++ us) ≡ sets (sets l p vs) (p + length vs) us
 sets-append l p [] us = rw (add-zero p)

@@ -43,47 +43,75 @@ zeroed-none W ws Z = fun-ext (λ c. fun-ext (λ b. at c b))
           | no k ↦ lent-out W ws c b (omega arith)
         ]
 
--- j bits are put into row c of `old`, where x, the word at place `at`, is yet to be stored in `new`
-pub record Held (W : ℕ) (source : List ℕ) (from j c : ℕ) (old new : List ℕ) (at x : ℕ) : Type 0 where
+-- j of the bits are put into row c of `old`, where x, the row's word `hand`, is yet to be stored in `new`; the other bits are none of earlier words
+pub record Held (W : ℕ) (source : List ℕ) (from count j c : ℕ) (old new : List ℕ) (at top x : ℕ) : Type 0 where
+  pub hand : ℕ
   pub same : length new ≡ length old
-  pub inside : at < length old
+  pub inside : hand < W
+  pub place : at ≡ c * W + hand
+  pub end : top ≡ (hand + 1) * 64
+  pub later : (t : ℕ) → j ≤ t → t < count → hand * 64 ≤ payload (getD source (from + t) 0)
   pub holds : lent W (set new at x) ≡ puts source c from j (lent W old)
 
-pub held-none : (W : ℕ) (source : List ℕ) (from c : ℕ) (ws : List ℕ) (at : ℕ) → at < length ws → Held W source from 0 c ws ws at (getD ws at 0)
+pub held-none : (W : ℕ) (source : List ℕ) (from count c : ℕ) (ws : List ℕ) → 0 < W → Held W source from count 0 c ws ws (c * W) 64 (getD ws (c * W) 0)
 unfolding puts
-held-none W source from c ws at k = record { same = refl; inside = k; holds = rw (set-getD ws at 0) }
+held-none W source from count c ws k = record {
+  hand = 0;
+  same = refl;
+  inside = k;
+  place = sym (add-zero (c * W));
+  end = refl;
+  later = λ t l m. omega arith;
+  holds = rw (set-getD ws (c * W) 0);
+}
 
-module _ (W : ℕ) (source : List ℕ) (from j c : ℕ) (old new : List ℕ) (at x : ℕ) (H : Held W source from j c old new at x) (room : c * W + W ≤ length old) where
+module _ (W : ℕ) (source : List ℕ) (from count j c : ℕ) (old new : List ℕ) (at top x : ℕ) (H : Held W source from count j c old new at top x)
+    (room : c * W + W ≤ length old) (P : Payloads source from count (W * 64)) (l : j < count) where
   abbrev b : ℕ
   b = payload (getD source (from + j) 0)
 
-  module _ (k : b < W * 64) where
-    place : c * W + b / 64 < length (set new at x)
-    place = let l = length-set new at x in omega (arith, H .same)
+  held-inside : at < length old
+  held-inside = omega (arith, H .place, H .inside)
 
-    -- a bit of the same word
-    pub held-same : c * W + b / 64 ≡ at → Held W source from (j + 1) c old new at (bitOr x (2 ^ (b % 64)))
-    unfolding puts
-    held-same e = record {
-      same = H .same;
-      inside = H .inside;
-      holds = rw (add-one j, ← H .holds) (rw (e, getD-set-same new at x 0 (omega (arith, H .same, H .inside)), set-set new at x (bitOr x (2 ^ (b % 64)))) at (raised-put W (set new at x) c b place k));
-    }
+  put-place : c * W + b / 64 < length (set new at x)
+  put-place = let k = length-set new at x in omega (arith, H .same, P .below j l)
 
-    -- a bit of another word
-    pub held-other : Held W source from (j + 1) c old (set new at x) (c * W + b / 64) (bitOr (getD (set new at x) (c * W + b / 64) 0) (2 ^ (b % 64)))
-    unfolding puts
-    held-other = record {
-      same = length-set new at x ∙ H .same;
-      inside = omega arith;
-      holds = rw (add-one j, ← H .holds) (raised-put W (set new at x) c b place k);
-    }
+  -- a bit of the word in hand
+  pub held-same : b < top → Held W source from count (j + 1) c old new at top (bitOr x (2 ^ (b % 64)))
+  unfolding puts
+  held-same k =
+      let q : b / 64 ≡ H .hand = omega (arith, H .end, H .later j (omega arith) l) in
+      let e : c * W + b / 64 ≡ at = rw q (sym (H .place)) in
+      record {
+        hand = H .hand;
+        same = H .same;
+        inside = H .inside;
+        place = H .place;
+        end = H .end;
+        later = λ t i m. H .later t (omega arith) m;
+        holds = rw (add-one j, ← H .holds) (rw (e, getD-set-same new at x 0 (omega (arith, H .same, held-inside)), set-set new at x (bitOr x (2 ^ (b % 64)))) at (raised-put W (set new at x) c b put-place (P .below j l)));
+      }
+
+  -- a bit of a later word
+  pub held-other : Held W source from count (j + 1) c old (set new at x) (c * W + b / 64) ((b / 64 + 1) * 64) (bitOr (getD (set new at x) (c * W + b / 64) 0) (2 ^ (b % 64)))
+  unfolding puts
+  held-other = record {
+    hand = b / 64;
+    same = length-set new at x ∙ H .same;
+    inside = omega (arith, P .below j l);
+    place = refl;
+    end = refl;
+    later = λ t i m. omega (arith, P .rising j t (omega arith) m);
+    holds = rw (add-one j, ← H .holds) (raised-put W (set new at x) c b put-place (P .below j l));
+  }
 
 -- the ones of a check of a record that loads, j of them read
 pub record BitsIn (n m : ℕ) (source : List ℕ) (from c j d : ℕ) (g : Matrix) (n′ m′ : ℕ) (h : Matrix) : Type 0 where
   pub inside : from + j < length source
   pub below : (i : ℕ) → i < j → payload (getD source (from + i) 0) < n
+  pub rising : (i k : ℕ) → i < k → k < j → payload (getD source (from + i) 0) < payload (getD source (from + k) 0)
   pub low : ℕ
+  pub last : (i : ℕ) → i < j → payload (getD source (from + i) 0) < low
   pub rest : readingAt n m source (from + j) c d low (puts source (c - 1) from j g) ≡ loaded n′ m′ h
 
 pub bits-in : (n m : ℕ) (source : List ℕ) (from c j d low : ℕ) (g : Matrix) (n′ m′ : ℕ) (h : Matrix) → readingAt n m source from c (j + d) low g ≡ loaded n′ m′ h
@@ -92,7 +120,9 @@ unfolding puts
 bits-in n m source from c zero d low g n′ m′ h e = record {
   inside = rw (add-zero from) (loads-more n m source from c low g n′ m′ h (0 + d) e);
   below = λ i k. absurd (omega arith);
+  rising = λ i k l t. absurd (omega arith);
   low = low;
+  last = λ i k. absurd (omega arith);
   rest = rw (add-zero from) (rw (zero-add d) at e);
 }
 bits-in n m source from c (suc j) d low g n′ m′ h e =
@@ -105,7 +135,9 @@ bits-in n m source from c (suc j) d low g n′ m′ h e =
     record {
       inside = rw (add-suc from j) (loads-more n m source (suc (from + j)) c _ _ n′ m′ h d r);
       below = λ i k. elim (ℕ-discrete i j) [ yes q ↦ rw q t | no q ↦ B .below i (omega arith) ];
+      rising = λ i k l q. elim (ℕ-discrete k j) [ yes s ↦ rw s (omega (arith, B .last i (omega arith), b)) | no s ↦ B .rising i k l (omega arith) ];
       low = suc (payload (getD source (from + j) 0));
+      last = λ i k. elim (ℕ-discrete i j) [ yes q ↦ rw q (omega arith) | no q ↦ omega (arith, B .last i (omega arith), b) ];
       rest = rw (add-suc from j) r;
     }
 
@@ -148,7 +180,7 @@ module _ (m : ℕ) (source : List ℕ) (p c : ℕ) (ws : List ℕ) (F : Filling 
       (rw (add-zero (payload (getD source p 0)), add-one p) (sym (read-open (F .n) m source p c (F .low) (lent 8 ws) filling-more l opened) ∙ F .rest))
 
   pub filling-payloads : Payloads source (p + 1) (payload (getD source p 0)) (8 * 64)
-  filling-payloads = record { inside = omega (arith, all-in .inside); below = λ j k. omega (arith, all-in .below j k, F .few) }
+  filling-payloads = record { inside = omega (arith, all-in .inside); below = λ j k. omega (arith, all-in .below j k, F .few); rising = all-in .rising }
 
   pub filling-next : (new : List ℕ) → lent 8 new ≡ puts source c (p + 1) (payload (getD source p 0)) (lent 8 ws)
       → Filling m source (p + 1 + payload (getD source p 0)) (c + 1) new

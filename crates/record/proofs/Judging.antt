@@ -1,11 +1,12 @@
--- Judging a check and the end of a record. Assumes nothing.
+-- Judging the first word of a record, a check and the end. Assumes nothing.
 use mathlib.Core.Path.{_≡_, refl, ap, _∙_}
-use mathlib.Core.Bool.{true, false, and-false}
+use mathlib.Core.Bool.{true, false, and-false, and-eq-true-iff}
 use mathlib.Core.List.{List, [], _∷_}
 use Prim.Native.Nat.{ℕ, suc, _+_, _-_, _/_, _%_, _≤_, _<_}
 use native.Mathlib.Numerals.{add-one}
 use native.Mathlib.Decide.{decLt}
 use native.Mathlib.Omega.{arith}
+use lib.Dec.{eqb}
 use lib.ListN.{getD, length, drop}
 use borrow.Author.Tests.{eq-eqb, ne-eqb}
 use Rattle.parity.specs.Matrix.{Matrix, inRange}
@@ -14,7 +15,7 @@ use Rattle.parity.proofs.Sums.{is-true, is-false, is}
 use Rattle.parity.proofs.Accept.{ranges}
 use Rattle.parity.proofs.Reading.{readingAt, read-missing, read-open, not-open, read-end, not-end, not-bit, end-last, end-more}
 use Rattle.record.specs.Read.{puts, BitsRead}
-use Rattle.record.specs.Judge.{Complete, Stops, Reached, Loads}
+use Rattle.record.specs.Judge.{Gives, Complete, Stops, Reached, Loads}
 
 -- the first word
 pub head-kind : (w : ℕ) → (kindOf w ≡ 1 → ⊥) → headWord w ≡ false
@@ -29,6 +30,16 @@ head-range w d =
       | is-true e ↦ let (a, b, f, g) = ranges (payload w % 256) (payload w / 256) 0 .0 e in absurd (d (a, b, f))
     ]
 
+pub head-yes : (w : ℕ) → kindOf w ≡ 1 → 1 ≤ payload w % 256 → payload w % 256 ≤ 120 → payload w / 256 ≤ 120 → headWord w ≡ true
+unfolding headWord
+head-yes w e a b d = rw (eq-eqb (kindOf w) 1 e, ranges (payload w % 256) (payload w / 256) 0 .1 (a, b, d, omega arith))
+
+head-sizes : (w : ℕ) → headWord w ≡ true → (payload w % 256 ≤ 120) × (payload w / 256 ≤ 120)
+unfolding headWord
+head-sizes w e =
+    let (a, b, d, f) = ranges (payload w % 256) (payload w / 256) 0 .0 (and-eq-true-iff (eqb (kindOf w) 1) _ .0 e .1) in
+    (b, d)
+
 pub load-empty : (source : List ℕ) → length source ≡ 0 → loading source ≡ faulty 0
 unfolding loading
 load-empty [] e = refl
@@ -39,19 +50,20 @@ unfolding loading
 load-other [] k e = absurd (k refl)
 load-other (w ∷ ws) k e = rw e
 
-pub load-head : (source : List ℕ) (n m : ℕ) → (length source ≡ 0 → ⊥) → kindOf (getD source 0 0) ≡ 1 → payload (getD source 0 0) % 256 ≡ n → payload (getD source 0 0) / 256 ≡ m
-    → 1 ≤ n → n ≤ 120 → m ≤ 120 → Reached n m source 1 0
-unfolding loading headWord
-load-head [] n m k e f g a b d = absurd (k refl)
-load-head (w ∷ ws) n m k e f g a b d = record {
-  few = b;
-  checks = d;
-  start = rw (eq-eqb (kindOf w) 1 e, f, g, ranges n m 0 .1 (a, b, d, omega arith));
-  inside = omega arith;
-  low = 0;
-  matrix = λ c b. false;
-  reached = rw (eq-eqb (kindOf w) 1 e, f, g, ranges n m 0 .1 (a, b, d, omega arith));
-}
+pub load-head : (source : List ℕ) (n m : ℕ) → (length source ≡ 0 → ⊥) → Gives (getD source 0 0) n m → Reached n m source 1 0
+unfolding loading
+load-head [] n m k G = absurd (k refl)
+load-head (w ∷ ws) n m k G =
+    let (a, b) = head-sizes w (G .right) in
+    record {
+      few = rw (← G .bits) a;
+      checks = rw (← G .checks) b;
+      start = rw (G .right, G .bits, G .checks);
+      inside = omega arith;
+      low = 0;
+      matrix = λ c b. false;
+      reached = rw (G .right, G .bits, G .checks);
+    }
 
 pub stop-missing : (n : ℕ) (source : List ℕ) (p : ℕ) → length source ≤ p → Stops n source p p
 stop-missing n source p k = record { stops = λ m c below h l. read-missing n m source p c below h 0 k }

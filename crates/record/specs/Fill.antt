@@ -11,10 +11,11 @@ use Rattle.record.specs.Judge.{Loads}
 pub record Zeroed (words : List ℕ) (i : ℕ) : Type 0 where
   pub none : (j : ℕ) → j < i → getD words j 0 ≡ 0
 
--- the payloads of `count` words from place `from` on are below N
+-- the payloads of `count` words from place `from` on rise, and are below N
 pub record Payloads (source : List ℕ) (from count N : ℕ) : Type 0 where
   pub inside : from + count ≤ length source
   pub below : (j : ℕ) → j < count → payload (getD source (from + j) 0) < N
+  pub rising : (i j : ℕ) → i < j → j < count → payload (getD source (from + i) 0) < payload (getD source (from + j) 0)
 
 -- a record of m checks that loads
 pub record Checks (m : ℕ) (source : List ℕ) : Type 0 where

@@ -1,15 +1,27 @@
--- What judging a record answers, of a check and of the whole. Assumes nothing.
+-- What judging a record answers, of its first word, of a check and of the whole. Assumes nothing.
 use mathlib.Core.Path.{_≡_}
-use mathlib.Core.Bool.{false}
+use mathlib.Core.Bool.{true, false}
 use mathlib.Core.List.{List}
-use Prim.Native.Nat.{ℕ, suc, _≤_, _<_}
+use Prim.Native.Nat.{ℕ, suc, _/_, _%_, _≤_, _<_}
 use lib.ListN.{length, drop}
 use Rattle.parity.specs.Matrix.{Matrix}
-use Rattle.parity.specs.Record.{faulty, loaded, reading, loading}
+use Rattle.parity.specs.Record.{payload, headWord, faulty, loaded, reading, loading}
+use Rattle.record.specs.declared.judge.First.{First}
+use Rattle.record.specs.declared.judge.First.the-variants.{Sizes, Faulty}
 use Rattle.record.specs.declared.judge.Step.{Step}
 use Rattle.record.specs.declared.judge.Step.the-variants.{Next, Stop}
 use Rattle.record.specs.declared.judge.Judged.{Judged}
 use Rattle.record.specs.declared.judge.Judged.the-variants.{Right, Stopped}
+
+-- The first word gives n and m.
+pub record Gives (w n m : ℕ) : Type 0 where
+  pub right : headWord w ≡ true
+  pub bits : payload w % 256 ≡ n
+  pub checks : payload w / 256 ≡ m
+
+abbrev pub FirstRead : ℕ → First → Type 0
+FirstRead w (Sizes n m) = Gives w n m
+FirstRead w Faulty = headWord w ≡ false
 
 -- Reading, at place p with a check to open, comes to place q with that check complete.
 pub record Complete (n : ℕ) (source : List ℕ) (p q : ℕ) : Type 0 where

@@ -16,20 +16,22 @@ fn clear(words: &mut [u64])
     }
 }
 
-// Puts the bits of `count` words from place `from` on into row `c`. A word of the row is stored when a bit of another word comes.
+// Puts the rising bits of `count` words from place `from` on into row `c`. The word in hand, whose bits are below `top`, is stored when a
+// bit of a later one comes.
 fn fill_row(source: &[u32], from: usize, count: usize, rows: &mut [u64], width: usize, c: usize)
     requires { ⌜ Payloads (now source) from count (width * 64) ⌝ }
     requires { ⌜ (c * width + width ≤ length (now rows)) × (0 < width) ⌝ }
     ensures { λ r. ⌜ lent width (now (rows .exit)) ≡ puts (now (source .entry)) c from count (lent width (now (rows .entry))) ⌝ }
 {
     let mut at = c * width;
+    let mut top = 64;
     let mut x = rows[at];
     for i in 0..count {
         let b = payload(source[from + i]);
-        let place = c * width + b / 64;
-        if place != at {
+        if top <= b {
             rows[at] = x;
-            at = place;
+            at = c * width + b / 64;
+            top = (b / 64 + 1) * 64;
             x = rows[at];
         }
         x = x | (1 << (b % 64));

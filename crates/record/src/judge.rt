@@ -4,12 +4,18 @@ use crate::words::read;
 ghost use Prim.Native.Nat.{_+_, _≤_};
 ghost use lib.ListN.{length};
 ghost use Rattle.record.specs.Read.{BitsRead};
-ghost use Rattle.record.specs.Judge.{CheckRead, Reached, Judges};
+ghost use Rattle.record.specs.Judge.{FirstRead, CheckRead, Reached, Judges};
 
 // What comes of judging a record.
 pub enum Judged {
     Right { n: usize, m: usize },
     Stopped { place: usize },
+}
+
+// What comes of judging the first word.
+pub enum First {
+    Sizes { n: usize, m: usize },
+    Faulty,
 }
 
 // What comes of judging a check: the place behind it, or of its faulty word.
@@ -101,6 +107,27 @@ fn checks(source: &[u32], n: usize, m: usize) -> Judged
     last(source, n, m, p)
 }
 
+// Judges the first word.
+fn head(w: u32) -> First
+    ensures { λ r. ⌜ FirstRead w r ⌝ }
+{
+    let Word::Head(x) = read(w) else {
+        return First::Faulty;
+    };
+    let n = x % 256;
+    let m = x / 256;
+    if n < 1 {
+        return First::Faulty;
+    }
+    if 120 < n {
+        return First::Faulty;
+    }
+    if 120 < m {
+        return First::Faulty;
+    }
+    First::Sizes { n, m }
+}
+
 // Judges a record.
 pub fn judge(source: &[u32]) -> Judged
     ensures { λ r. ⌜ Judges (now (source .entry)) r ⌝ }
@@ -108,19 +135,8 @@ pub fn judge(source: &[u32]) -> Judged
     if source.len() == 0 {
         return Judged::Stopped { place: 0 };
     }
-    let Word::Head(x) = read(source[0]) else {
+    let First::Sizes { n, m } = head(source[0]) else {
         return Judged::Stopped { place: 0 };
     };
-    let n = x % 256;
-    let m = x / 256;
-    if n < 1 {
-        return Judged::Stopped { place: 0 };
-    }
-    if 120 < n {
-        return Judged::Stopped { place: 0 };
-    }
-    if 120 < m {
-        return Judged::Stopped { place: 0 };
-    }
     checks(source, n, m)
 }

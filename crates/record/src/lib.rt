@@ -16,6 +16,9 @@ ghost use mathlib.Core.Path.{_≡_};
 ghost use Rattle.parity.specs.Calls.{loadOutcome, writeOutcome};
 ghost use Rattle.record.specs.Replies.{loadReplyOf, writeReplyOf};
 
+// How many words of a check have ones where k = 0: bits are below 120.
+const IN_USE: usize = 2;
+
 // What loading answers.
 pub enum Loading {
     Loaded { n: usize, m: usize },
@@ -57,11 +60,10 @@ pub fn write(words: &[u64], n: usize, m: usize, k: usize, record: &mut [u32]) ->
     if 0 < k {
         return Writing::Refused(Refusal::AddedBits);
     }
-    let row = (n + 63) / 64;
-    let used = needed(words, row, m);
+    let used = needed(words, IN_USE, m);
     if record.len() < used {
         return Writing::Refused(Refusal::RecordTooShort { needed: used });
     }
-    put_record(words, row, n, m, record);
+    put_record(words, IN_USE, n, m, record);
     Writing::Written { used }
 }

@@ -1,6 +1,6 @@
 -- `write` meets its contract. Assumes nothing.
 use mathlib.Core.Path.{_≡_, sym, ap, _∙_}
-use Prim.Native.Nat.{_+_, _*_, _/_, _≤_}
+use Prim.Native.Nat.{_≤_}
 use native.Mathlib.Omega.{arith}
 use lib.ListN.{length}
 use Rattle.parity.specs.Matrix.{lent, cause}
@@ -54,11 +54,8 @@ plain c =
     let z : c .before .before .before .before .before .before .args .k ≡ 0 = omega arith in
     accepts _ _ _ 0 .0 (rw z at (accepted (c .before)))
 
-add-row : tie.Need-add-row
-add-row c = omega (arith, plain c .sound .n120)
-
 needed-requires : tie.Need-needed-requires
-needed-requires c κs = let A = plain c in (A .words, omega (arith, A .sound .n120), A .sound .m120)
+needed-requires c κs = let A = plain c in (A .words, omega arith, A .sound .m120)
 
 -- the words needed
 used : (c : lts.After-needed (accept-reads.Asked, accept-reads.Learnt, needed-reads.Asked, needed-reads.Learnt, put-record-reads.Asked, put-record-reads.Learnt) reads.Pre reads.Post)
@@ -66,9 +63,9 @@ used : (c : lts.After-needed (accept-reads.Asked, accept-reads.Learnt, needed-re
     c .needed .result ≡ length (written (lent 8 (s .args .words .now)) (s .args .n) (s .args .m))
 used c =
     let s = c .before .before .before .before .before .before .before in
-    let N = (s .args .n + 63) / 64 * 64 in
-    c .needed .ensures ∙ sym (plain-length (lent 8 (s .args .words .now)) N (s .args .n) (s .args .m))
-    ∙ ap length (plain-written (s .args .words .now) N (s .args .n) (s .args .m) (omega arith) (plain (c .before)))
+    let A = plain (c .before) in
+    c .needed .ensures ∙ sym (plain-length (lent 8 (s .args .words .now)) 128 (s .args .n) (s .args .m))
+    ∙ ap length (plain-written (s .args .words .now) 128 (s .args .n) (s .args .m) (omega (arith, A .sound .n120)) A)
 
 returns-3 : tie.Need-returns-3
 returns-3 c =
@@ -82,8 +79,8 @@ put-record-requires c κs =
     let s = c .before .before .before .before .before .before .before .before .before in
     let A = plain (c .before .before .before) in
     let u = used (c .before .before) in (
-      (A .words, omega (arith, A .sound .n120), A .sound .n120, A .sound .m120),
-      rw (plain-written (s .args .words .now) ((s .args .n + 63) / 64 * 64) (s .args .n) (s .args .m) (omega arith) A, ← u) (c .before .if2 .left),
+      (A .words, omega arith, A .sound .n120, A .sound .m120),
+      rw (plain-written (s .args .words .now) 128 (s .args .n) (s .args .m) (omega (arith, A .sound .n120)) A, ← u) (c .before .if2 .left),
     )
 
 same-length : tie.Need-same-length
@@ -96,7 +93,8 @@ returns-4 c =
     let z : s .args .k ≡ 0 = omega (arith, c .before .before .before .before .before .before .if1 .left) in
     let k : length (written (lent 8 (s .args .words .now)) (s .args .n) (s .args .m)) ≤ length (s .args .«record» .now) = rw (← u) (c .before .before .before .before .if2 .left) in
     let e = write-made _ _ _ _ (s .args .«record» .now) (accepted (c .before .before .before .before .before .before .before)) z k in
-    let W = rw (plain-written (s .args .words .now) ((s .args .n + 63) / 64 * 64) (s .args .n) (s .args .m) (omega arith) (plain (c .before .before .before .before .before .before))) at (c .before .before .put-record .ensures) in
+    let A = plain (c .before .before .before .before .before .before) in
+    let W = rw (plain-written (s .args .words .now) 128 (s .args .n) (s .args .m) (omega (arith, A .sound .n120)) A) at (c .before .before .put-record .ensures) in
     (rw u (sym (ap (λ (o : Outcome). o .reply) e)), wrote-first _ _ _ _ W k ∙ sym (ap (λ (o : Outcome). o .after) e))
 
 pub write-spec : {M : Type 1} → statement M
@@ -108,7 +106,6 @@ write-spec =
     returns
     enum-told
     returns-2
-    add-row
     needed-requires
     returns-3
     put-record-requires

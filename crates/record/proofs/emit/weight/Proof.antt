@@ -1,7 +1,8 @@
 -- `emit::weight` meets its contract. Assumes nothing.
 use mathlib.Core.Path.{_∙_}
+use mathlib.Core.Bool.{and-self}
 use borrow.Author.Needs.{needs}
-use Rattle.record.proofs.Emitting.{weight-self}
+use Rattle.parity.proofs.Sums.{count-cong}
 use Rattle.record.proofs.emit.weight.Statement.{statement}
 use Rattle.record.proofs.emit.weight.Tie as tie
 
@@ -9,7 +10,7 @@ common-requires : tie.Need-common-requires
 common-requires c κs = search needs
 
 returns : tie.Need-returns
-returns c = c .common .ensures ∙ weight-self _ _
+returns c = c .common .ensures ∙ count-cong _ (λ t l. and-self _)
 
 pub weight-spec : {M : Type 1} → statement M
 weight-spec = tie.close (tie.spec common-requires returns)

@@ -15,10 +15,10 @@ use Rattle.record.proofs.fill.fill_row.Lts as lts
 use Rattle.record.proofs.words.payload.Reads as payload-reads
 
 abbrev Inv-loop : tie.InvT-loop
-Inv-loop source from count rows₀ width c at₀ x₀ i₀ rows at x i = (i ≤ count) × Held width source from i c rows₀ rows at x
+Inv-loop source from count rows₀ width c at₀ top₀ x₀ i₀ rows at top x i = (i ≤ count) × Held width source from count i c rows₀ rows at top x
 
 abbrev μ-loop : tie.MeasureT-loop
-μ-loop source from count rows₀ width c at₀ x₀ i₀ rows at x i = count - i
+μ-loop source from count rows₀ width c at₀ top₀ x₀ i₀ rows at top x i = count - i
 
 mul-at : tie.Need-mul-at Inv-loop μ-loop
 mul-at c = omega arith
@@ -49,17 +49,24 @@ below : (c : lts.After-payload (payload-reads.Asked, payload-reads.Learnt) reads
     → c .payload .result < c .before .before .before .before .before .before .before .args .width * 64
 below c = rw (c .payload .ensures) (c .before .before .before .before .before .before .before .pre .0 .below (c .before .before .before .loop .i) (omega arith))
 
-mul-place : tie.Need-mul-place Inv-loop μ-loop
-mul-place c = omega arith
-
-add-place : tie.Need-add-place Inv-loop μ-loop
-add-place c = let k = below c in omega arith
-
 mul-rows : tie.Need-mul-rows Inv-loop μ-loop
-mul-rows c = let H = c .before .before .before .before .loop .inv .1 in omega (arith, H .inside)
+mul-rows c = let H = c .before .before .before .before .loop .inv .1 in omega (arith, H .place, H .inside)
 
 slice-write-rows : tie.Need-slice-write-rows Inv-loop μ-loop
-slice-write-rows c = let H = c .before .before .before .before .loop .inv .1 in omega (arith, H .same, H .inside)
+slice-write-rows c = let H = c .before .before .before .before .loop .inv .1 in omega (arith, H .same, H .place, H .inside)
+
+mul-at-2 : tie.Need-mul-at-2 Inv-loop μ-loop
+mul-at-2 c = omega arith
+
+add-at : tie.Need-add-at Inv-loop μ-loop
+add-at c = let k = below (c .before) in omega arith
+
+add-top : tie.Need-add-top Inv-loop μ-loop
+add-top c = let k = below (c .before) in omega arith
+
+mul-top : tie.Need-mul-top Inv-loop μ-loop
+unfolding payload
+mul-top c = let e = c .before .payload .ensures in omega arith
 
 mul-x-2 : tie.Need-mul-x-2 Inv-loop μ-loop
 mul-x-2 c = let k = below (c .before) in omega arith
@@ -84,22 +91,21 @@ loop-again c =
     let l = p .before .before .before .loop in
     let s = p .before .before .before .before .before .before .before in
     let e = p .payload .ensures in
-    let b = payload (getD (s .args .source .now) (s .args .from + l .i) 0) in
-    let k : b < s .args .width * 64 = s .pre .0 .below (l .i) (omega arith) in (
+    let b = payload (getD (s .args .source .now) (s .args .from + l .i) 0) in (
       omega arith,
       ⊎-elim
-          (λ w. rw (w .2, w .3, w .4, e, one-shl (b % 64) (omega arith)) (held-other _ _ _ _ _ _ _ _ _ (l .inv .1) (omega arith) k))
+          (λ w. rw (w .2, w .3, w .4, w .5, e, one-shl (b % 64) (omega arith)) (held-other _ _ _ _ _ _ _ _ _ _ _ (l .inv .1) (s .pre .1 .0) (s .pre .0) (omega arith)))
           (λ w.
-          let q : s .args .c * s .args .width + b / 64 ≡ l .at = rw (← e) (w .0 .left) in
-          rw (w .1, w .2, w .3, e, one-shl (b % 64) (omega arith)) (held-same _ _ _ _ _ _ _ _ _ (l .inv .1) (omega arith) k q))
+          let k : b < l .top = rw (← e) (w .0 .left) in
+          rw (w .1, w .2, w .3, w .4, e, one-shl (b % 64) (omega arith)) (held-same _ _ _ _ _ _ _ _ _ _ _ (l .inv .1) (s .pre .1 .0) (s .pre .0) (omega arith) k))
           (c .before .if1 .came),
     )
 
 mul-rows-2 : tie.Need-mul-rows-2 Inv-loop μ-loop
-mul-rows-2 c = let H = c .before .loop .inv .1 in omega (arith, H .inside)
+mul-rows-2 c = let H = c .before .loop .inv .1 in omega (arith, H .place, H .inside)
 
 slice-write-rows-2 : tie.Need-slice-write-rows-2 Inv-loop μ-loop
-slice-write-rows-2 c = let H = c .before .loop .inv .1 in omega (arith, H .same, H .inside)
+slice-write-rows-2 c = let H = c .before .loop .inv .1 in omega (arith, H .same, H .place, H .inside)
 
 same-length : tie.Need-same-length Inv-loop μ-loop
 same-length c = let l = c .before .loop in length-set (l .rows) (l .at) (l .x) ∙ l .inv .1 .same
@@ -124,10 +130,12 @@ fill-row-spec =
     mul-payload
     shared-slice-read-payload
     payload-requires
-    mul-place
-    add-place
     mul-rows
     slice-write-rows
+    mul-at-2
+    add-at
+    add-top
+    mul-top
     mul-x-2
     slice-read-x-2
     shl-x

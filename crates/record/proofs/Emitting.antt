@@ -1,6 +1,6 @@
 -- Writing a record's words one after another: those of a word's ones, of a check, of the checks. Assumes nothing.
 use mathlib.Core.Path.{_≡_, refl, sym, ap, _∙_}
-use mathlib.Core.Bool.{Bool, true, false, not, cond, _&&_, and-true, and-false, and-eq-true-iff}
+use mathlib.Core.Bool.{Bool, true, false, not, _&&_, and-true, and-false, and-eq-true-iff}
 use mathlib.Core.List.{List, [], _∷_, _++_, append-nil, append-assoc}
 use Prim.Native.Nat.{ℕ, zero, suc, _+_, _*_, _-_, _^_, _≤_, _<_}
 use native.Mathlib.Nat.{add-zero, add-suc, zero-add, lt-of-le-of-lt}
@@ -16,7 +16,7 @@ use borrow.Author.Tests.{eq-eqb, ne-eqb, lt-ltb, le-ltb, ltb-false, not-true}
 use Rattle.parity.specs.Finite.{sum, count}
 use Rattle.parity.specs.Matrix.{Matrix, bitOf, lent}
 use Rattle.parity.specs.Record.{bitWords, checkWords, written}
-use Rattle.parity.proofs.Sums.{count-cong, count-mono}
+use Rattle.parity.proofs.Sums.{count-mono}
 use Rattle.parity.proofs.Digits.{bit-zero}
 use Rattle.parity.proofs.Lent.{lent-word}
 use Rattle.parity.proofs.Ones.{Lowest}

@@ -1,5 +1,5 @@
 -- Filling the matrix's words: no ones, the bits of a row, and the checks one after another. Assumes nothing.
-use mathlib.Core.Path.{_≡_, refl, sym, ap, _∙_, fun-ext}
+use mathlib.Core.Path.{_≡_, refl, sym, _∙_, fun-ext}
 use mathlib.Core.Bool.{true, false}
 use mathlib.Core.List.{List}
 use Prim.Native.Nat.{ℕ, zero, suc, _+_, _*_, _-_, _/_, _%_, _^_, _≤_, _<_}
@@ -43,7 +43,7 @@ zeroed-none W ws Z = fun-ext (λ c. fun-ext (λ b. at c b))
           | no k ↦ lent-out W ws c b (omega arith)
         ]
 
--- j of the bits are put into row c of `old`, where x, the row's word `hand`, is yet to be stored in `new`; the other bits are none of earlier words
+-- j of the bits are put into row c of `old`; x, the row's word `hand`, is yet to be stored in `new`, and no later bit is below it
 pub record Held (W : ℕ) (source : List ℕ) (from count j c : ℕ) (old new : List ℕ) (at top x : ℕ) : Type 0 where
   pub hand : ℕ
   pub same : length new ≡ length old

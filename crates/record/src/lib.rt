@@ -16,7 +16,7 @@ ghost use mathlib.Core.Path.{_≡_};
 ghost use Rattle.parity.specs.Calls.{loadOutcome, writeOutcome};
 ghost use Rattle.record.specs.Replies.{loadReplyOf, writeReplyOf};
 
-// How many words of a check have ones where k = 0: bits are below 120.
+// How many words of a check may have ones where k = 0, so that its bits are below 120.
 const IN_USE: usize = 2;
 
 // What loading answers.

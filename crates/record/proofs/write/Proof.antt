@@ -71,7 +71,7 @@ returns-3 : tie.Need-returns-3
 returns-3 c =
     let u = used (c .before) in
     let z : c .before .before .before .before .before .before .before .before .args .k ≡ 0 = omega arith in
-    let e = write-short _ _ _ _ (c .before .before .before .before .before .before .before .before .args .«record» .now) (accepted (c .before .before .before)) z (rw (← u) (c .if2 .taken)) in
+    let e = write-short _ _ _ _ (c .before .before .before .before .before .before .before .before .args .«record» .now) (accepted (c .before .before .before)) z (omega (arith, u, c .if2 .taken)) in
     rw u (sym (ap (λ (o : Outcome). o .reply) e), sym (ap (λ (o : Outcome). o .after) e))
 
 put-record-requires : tie.Need-put-record-requires
@@ -80,7 +80,7 @@ put-record-requires c κs =
     let A = plain (c .before .before .before) in
     let u = used (c .before .before) in (
       (A .words, omega arith, A .sound .n120, A .sound .m120),
-      rw (plain-written (s .args .words .now) 128 (s .args .n) (s .args .m) (omega (arith, A .sound .n120)) A, ← u) (c .before .if2 .left),
+      rw (plain-written (s .args .words .now) 128 (s .args .n) (s .args .m) (omega (arith, A .sound .n120)) A) (omega (arith, u, c .before .if2 .left)),
     )
 
 same-length : tie.Need-same-length

@@ -2,7 +2,6 @@
 use mathlib.Core.Path.{_≡_}
 use Prim.Native.Nat.{_*_, _-_, _≤_}
 use native.Mathlib.Omega.{arith}
-use lib.ListN.{length}
 use Rattle.parity.specs.Matrix.{lent}
 use Rattle.parity.specs.Record.{bitWords}
 use Rattle.record.specs.Write.{Wrote}

@@ -1,10 +1,10 @@
 -- `fill::fill_row` meets its contract. Assumes nothing.
 use mathlib.Core.Path.{_≡_, _∙_}
 use mathlib.Core.Logic.{⊎-elim}
-use Prim.Native.Nat.{_+_, _*_, _-_, _/_, _%_, _≤_, _<_}
+use Prim.Native.Nat.{_+_, _*_, _-_, _%_, _≤_, _<_}
 use native.Mathlib.Omega.{arith}
 use borrow.Author.Needs.{needs}
-use lib.ListN.{getD, length, length-set}
+use lib.ListN.{getD, length-set}
 use Rattle.parity.specs.Record.{payload}
 use Rattle.parity.proofs.Digits.{one-shl}
 use Rattle.record.proofs.Filling.{Held, held-none, held-same, held-other}

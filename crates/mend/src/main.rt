@@ -1,5 +1,4 @@
 // Mends a word: reads a record and a word from standard input, and writes the report or the refusal to standard output.
-use receiver::Mended;
 ghost use mathlib.Core.Path.{_≡_};
 ghost use lib.ListN.{length};
 
@@ -10,7 +9,7 @@ fn input_room() -> [u8; 65537]
     [0u8; 65537]
 }
 
-// Room for every output.
+// Room for every text: `mend-fits` of receiver's proofs/Fits.
 fn output_room() -> [u8; 4096]
     ensures { λ r. ⌜ 4096 ≡ length r ⌝ }
 {
@@ -21,7 +20,6 @@ fn main() {
     let mut input = input_room();
     let read = io::read_full(0, &mut input);
     let mut output = output_room();
-    if let Mended::Written(size) = receiver::mend(&input[..read], &mut output) {
-        io::write_all(1, &output[..size]);
-    }
+    let size = receiver::put_text(&mut output, &input[..read]);
+    io::write_all(1, &output[..size]);
 }

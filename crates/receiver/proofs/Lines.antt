@@ -1,21 +1,19 @@
 -- Laws of the report's lines. Assumes nothing.
-use Prim.Native.Nat.{ℕ, zero, suc, _+_, _*_, _^_, _≤_, _<_}
+use Prim.Native.Nat.{ℕ, zero, suc, _+_, _*_, _-_, _≤_, _<_}
 use mathlib.Core.Path.{_≡_, _∙_, sym, ap}
 use mathlib.Core.List.{List, [], _∷_, _++_, append-assoc, append-nil}
 use native.Mathlib.Omega.{arith}
-use native.Mathlib.Nat.{add-zero}
-use native.Mathlib.Decide.{ℕ-discrete}
+use native.Mathlib.Nat.{add-suc, add-zero}
 use native.Mathlib.Numerals.{add-one}
 use borrow.Author.Tests.{eq-eqb, ne-eqb}
 use lib.ListN.{length, length-append, take-append-drop}
 use Rattle.parity.specs.Finite.{listFrom}
 use Rattle.parity.specs.Calls.{byteOf}
-use Rattle.parity.specs.Mend.{decimal, splitsHead, sumHead, residueHead, residueText, wordHead, shown, report, wordAt}
+use Rattle.parity.specs.Mend.{decimal, splitsHead, sumHead, residueHead, residueText, wordHead, shown, refusedLine, report, wordAt}
 use Rattle.parity.proofs.Packing.{length-listFrom}
 use Rattle.receiver.specs.Placed.{placed, Placed}
 use Rattle.receiver.specs.Lines.{leftText, wordText, splitsLine, residueLine, wordLine}
 use Rattle.receiver.specs.Stages.{wordsIn}
-use Rattle.receiver.proofs.Pieces.{decimal-most}
 
 -- nothing
 pub none : (old : List ℕ) (p : ℕ) → p ≤ length old → Placed old p [] old p
@@ -26,7 +24,7 @@ none old p h = record { next = omega arith; room = h; made = sym (rw (append-nil
 pub same-text : {old : List ℕ} {p : ℕ} {s t new : List ℕ} {r : ℕ} → s ≡ t → Placed old p s new r → Placed old p t new r
 same-text e f = rw e at f
 
--- the number of a bit is put exactly if its byte is 2, and has at most 21 characters
+-- the number of a bit is put exactly if its byte is 2
 pub left-erased : (x b : ℕ) → x ≡ 2 → leftText x b ≡ (32 ∷ []) ++ decimal b
 unfolding leftText
 left-erased x b e = rw (eq-eqb x 2 e)
@@ -34,13 +32,6 @@ left-erased x b e = rw (eq-eqb x 2 e)
 pub left-known : (x b : ℕ) → (x ≡ 2 → ⊥) → leftText x b ≡ []
 unfolding leftText
 left-known x b d = rw (ne-eqb x 2 d)
-
-pub left-most : (x b : ℕ) → b < 2 ^ 64 → length (leftText x b) ≤ 21
-left-most x b h =
-    elim (ℕ-discrete x 2) [
-      | yes e ↦ rw (left-erased x b e) (omega (arith, decimal-most b h))
-      | no d ↦ rw (left-known x b d) (omega arith)
-    ]
 
 -- one bit more of the residue, and of the word
 pub residue-more : (w : List ℕ) (n : ℕ) → residueText w (n + 1) ≡ residueText w n ++ leftText (byteOf w n) n
@@ -65,23 +56,38 @@ unfolding wordsIn
 words-more input w = listFrom-more w (λ i. wordAt input (4 + 4 * i))
 
 -- how long these are
-pub residue-most : (w : List ℕ) (n : ℕ) → n < 2 ^ 64 → length (residueText w n) ≤ 21 * n
-unfolding residueText leftText
-residue-most w zero h = omega arith
-residue-most w (suc n) h = rw length-append (omega (arith, residue-most w n (omega arith), left-most (byteOf w n) n (omega arith)))
+residue-grows : (w : List ℕ) (a d : ℕ) → length (residueText w a) ≤ length (residueText w (a + d))
+residue-grows w a zero = rw add-zero (omega arith)
+residue-grows w a (suc d) = rw (add-suc a d, ← add-one (a + d), residue-more w (a + d), length-append) (omega (arith, residue-grows w a d))
+
+pub residue-room : (w : List ℕ) (n b : ℕ) → b < n → length (residueText w b) + length (leftText (byteOf w b) b) ≤ length (residueText w n)
+residue-room w n b h =
+    let e : b + 1 + (n - (b + 1)) ≡ n = omega arith in
+    omega (
+      arith,
+      rw e at (residue-grows w (b + 1) (n - (b + 1))),
+      ap length (residue-more w b) ∙ length-append (residueText w b) (leftText (byteOf w b) b),
+    )
 
 pub word-length : (w : List ℕ) (n : ℕ) → length (wordText w n) ≡ n
 unfolding wordText
 word-length w n = length-listFrom 0 n (λ b. shown (byteOf w b))
 
-pub splits-line-most : (splits total : ℕ) → splits < 2 ^ 64 → total < 2 ^ 64 → length (splitsLine splits total) ≤ 53
-unfolding splitsLine
-splits-line-most splits total h k =
-    simp length-append (omega (arith, decimal-most splits h, decimal-most total k))
+pub refused-length : (number : ℕ) → length (refusedLine number) ≡ length (decimal number) + 9
+unfolding refusedLine
+refused-length number = simp length-append (omega arith)
 
-pub residue-line-most : (w : List ℕ) (n : ℕ) → n < 2 ^ 64 → length (residueLine w n) ≤ 21 * n + 8
+pub splits-length : (splits total : ℕ) → length (splitsLine splits total) ≡ length (decimal splits) + length (decimal total) + 13
+unfolding splitsLine
+splits-length splits total = simp length-append (omega arith)
+
+pub residue-length : (w : List ℕ) (n : ℕ) → length (residueLine w n) ≡ length (residueText w n) + 8
 unfolding residueLine
-residue-line-most w n h = simp length-append (omega (arith, residue-most w n h))
+residue-length w n = simp length-append (omega arith)
+
+pub word-line-length : (w : List ℕ) (n : ℕ) → length (wordLine w n) ≡ n + 6
+unfolding wordLine
+word-line-length w n = simp length-append (omega (arith, word-length w n))
 
 -- the report is its three lines
 eleven : (a b c d e f g h i j k : List ℕ) → a ++ b ++ c ++ d ++ e ++ (f ++ g ++ h) ++ (i ++ j ++ k) ≡ a ++ b ++ c ++ d ++ e ++ f ++ g ++ h ++ i ++ j ++ k
@@ -102,3 +108,7 @@ three-lines n splits total w =
     wordHead
     (wordText w n)
     (10 ∷ [])
+
+pub report-length : (n splits total : ℕ) (w : List ℕ)
+    → length (report n splits total w) ≡ length (splitsLine splits total) + length (residueLine w n) + length (wordLine w n)
+report-length n splits total w = rw (← three-lines n splits total w) (simp length-append)

@@ -17,7 +17,7 @@ use Rattle.parity.specs.Calls.{byteOf, loadOutcome, orthogonalisedReply, orthog
 use Rattle.parity.specs.Mend.{refusedLine, report, unlessRefused}
 use Rattle.parity.specs.declared.Refusal.{Refusal}
 use Rattle.parity.proofs.Packing.{length-listFrom, at-listFrom}
-use Rattle.parity.proofs.Accept.{accepts, accepting-answers, accepting-refuses}
+use Rattle.parity.proofs.Accept.{Accepted, accepts, accepting-answers, accepting-refuses}
 use Rattle.parity.proofs.Replies.{orthogonalises, orthogonal-accepted}
 use Rattle.parity.proofs.Refused.{refused-number}
 use Rattle.parity.specs.declared.Refusal.the-variants.{WrongLength}
@@ -45,18 +45,31 @@ module _ (ws source sent : List ℕ) where
   unfolding loadText
   load-zero e = ap (λ (l : List ℕ). loadInto l source sent) e
 
--- orthogonalising: its reply carries k, whether it finishes or not
+-- orthogonalising: its reply carries the splits, their sum and k, whether it finishes or not
 carried : (finished : Bool) (vs : List ℕ) → cond finished (answer vs) (refusal 9 vs) .values ≡ vs
 carried true vs = refl
 carried false vs = refl
 
-last : (x : Orthogonalised) → getD (orthogonalisedReply x .values) 2 0 ≡ x .k
-unfolding orthogonalisedReply
-last x = rw carried
-
 refused : (ws : List ℕ) (n m : ℕ) → (cause ws n m 0 ≡ 0 → ⊥) → orthogonaliseOutcome ws n m 0 .reply ≡ refusal (cause ws n m 0) []
 unfolding orthogonaliseOutcome
 refused ws n m q = accepting-refuses ws n m 0 _ q
+
+-- the matrix that it answers is accepted
+pub answered-accepted : (ws : List ℕ) (n m : ℕ) → orthogonaliseOutcome ws n m 0 .reply .number ≡ 0 → Accepted ws n m 0
+answered-accepted ws n m e =
+    elim (ℕ-discrete (cause ws n m 0) 0) [
+      | yes q ↦ accepts ws n m 0 .0 q
+      | no q ↦ absurd (q (sym (ap (λ (r : Reply). r .number) (refused ws n m q)) ∙ e))
+    ]
+
+-- what it comes to from k = 0
+abbrev pub fromZero : List ℕ → ℕ → ℕ → Orthogonalised
+fromZero ws n m = orthogonal 393 (lent 8 ws) n m 0 0 0
+
+pub orthogonalise-values : (ws : List ℕ) (n m : ℕ) → Accepted ws n m 0
+    → let o = fromZero ws n m in (orthogonaliseOutcome ws n m 0 .reply .values ≡ o .splits ∷ o .sum ∷ o .k ∷ [])
+unfolding orthogonalisedReply
+orthogonalise-values ws n m A = ap (λ (y : Outcome). y .reply .values) (orthogonalises ws n m 0 A) ∙ carried (fromZero ws n m .finished) _
 
 module _ (ws : List ℕ) (n m : ℕ) where
   pub orthogonalise-refused : (sent : List ℕ) (r : Refusal) → refusalOf r ≡ orthogonaliseOutcome ws n m 0 .reply
@@ -73,15 +86,10 @@ module _ (ws : List ℕ) (n m : ℕ) where
     -- what it leaves is accepted
     pub orthogonalise-accepted : cause (orthogonaliseOutcome ws n m 0 .after) n m k ≡ 0
     orthogonalise-accepted =
-        elim (ℕ-discrete (cause ws n m 0) 0) [
-          | yes q ↦
-              let A = accepts ws n m 0 .0 q in
-              let x = orthogonal 393 (lent 8 ws) n m 0 0 0 in
-              let f = orthogonalises ws n m 0 A in
-              let l : k ≡ x .k = ap (λ (r : Reply). getD (r .values) 2 0) (e ∙ ap (λ (y : Outcome). y .reply) f) ∙ last x in
-              rw (f, l) (accepts (pack 8 (x .matrix)) n m (x .k) .1 (orthogonal-accepted ws n m 0 A))
-          | no q ↦ absurd (q (sym (ap (λ (r : Reply). r .number) (e ∙ refused ws n m q))))
-        ]
+        let A = answered-accepted ws n m (sym (ap (λ (r : Reply). r .number) e)) in
+        let x = fromZero ws n m in
+        let l : k ≡ x .k = ap (λ (r : Reply). getD (r .values) 2 0) e ∙ rw (orthogonalise-values ws n m A) in
+        rw (orthogonalises ws n m 0 A, l) (accepts (pack 8 (x .matrix)) n m (x .k) .1 (orthogonal-accepted ws n m 0 A))
 
 -- peeling: its bytes are at most 2
 cond-most : (a b : Bool) → cond a 2 (one b) ≤ 2

@@ -11,6 +11,12 @@ use lib.Seq.{take-at, drop-at, drop-drop, length-take-le, take-length, set-split
 use Rattle.parity.specs.Mend.{digitsOf, decimal}
 use Rattle.receiver.specs.Placed.{placed, Placed}
 
+-- the buffer keeps its length
+pub same-size : {old : List ℕ} {p : ℕ} {s new : List ℕ} {r : ℕ} → Placed old p s new r → length new ≡ length old
+unfolding placed
+same-size {old} {p} {s} f =
+    ap length (f .made) ∙ simp length-append (omega (arith, f .next, f .room, length-take-le p old (omega arith), length-drop (p + length s) old))
+
 -- one text after another
 pub after : {old : List ℕ} {p : ℕ} {s t mid new : List ℕ} {q r : ℕ} → Placed old p s mid q → Placed mid q t new r → Placed old p (s ++ t) new r
 unfolding placed
@@ -19,13 +25,12 @@ after {old} {p} {s} {t} {mid} {new} {q} {r} f g =
     let rest = drop (p + length s) old in
     let l : length h ≡ q = length-append (take p old) s ∙ rw (length-take-le p old (omega arith)) (omega arith) in
     let m : mid ≡ h ++ rest = f .made in
-    let size : length mid ≡ length old = rw m (omega (arith, length-append h rest, l, length-drop (p + length s) old)) in
     let front : take q mid ≡ h = rw m (take-at h rest q l) in
     let back : drop (q + length t) mid ≡ drop (p + length (s ++ t)) old =
     sym (drop-drop (length t) q mid) ∙ rw m (rw (drop-at h rest q l) (drop-drop (length t) (p + length s) old ∙ ap (λ (n : ℕ). drop n old) {x = p + length s + length t} {y = p + length (s ++ t)} (omega (arith, length-append s t)))) in
     record {
       next = g .next ∙ simp length-append (omega (arith, f .next));
-      room = omega (arith, g .room, size);
+      room = omega (arith, g .room, same-size f);
       made = g .made ∙ rw (front, back, append-assoc (take p old) s t) refl;
     }
 

@@ -4,7 +4,6 @@ use mathlib.Core.Path.{_≡_, _∙_, refl}
 use mathlib.Core.Bool.{true, false, _||_}
 use mathlib.Core.List.{List}
 use native.Mathlib.Omega.{arith}
-use native.Mathlib.Decide.{decLt}
 use borrow.Author.Tests.{lt-ltb, le-ltb, ltb-false}
 use lib.Dec.{ltb}
 use lib.ListN.{length, take, drop, length-drop}
@@ -59,18 +58,3 @@ module _ (text out : List ℕ) (r : ℕ) (e : r ≡ length text) where
       let l = le-ltb (length out) (length text) (omega arith) in
       let z : 0 + length text ≡ length text = omega arith in
       (rw (l, e), rw l (f .made ∙ rw (p, z)))
-
--- what is written is in the output
-pub written-in : (text out : List ℕ) (r : ℕ) → Written r ≡ mendedAnswer text out → r ≤ length out
-unfolding mendedAnswer
-written-in text out r e =
-    elim (decLt (length out) (length text)) [
-      | yes l ↦
-          let f : Written r ≡ TooShort (length text) = rw (lt-ltb (length out) (length text) l) at e in
-          let z : _≡_ {A = ℕ} 0 1 = cc in
-          absurd (omega arith)
-      | no l ↦
-          let f : Written r ≡ Written (length text) = rw (le-ltb (length out) (length text) (omega arith)) at e in
-          let z : r ≡ length text = cc in
-          omega arith
-    ]

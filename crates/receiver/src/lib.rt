@@ -13,7 +13,6 @@ use crate::text::put_bytes;
 use parity::Refusal;
 use parity::number;
 ghost use mathlib.Core.Path.{_≡_};
-ghost use Prim.Native.Nat.{_≤_};
 ghost use lib.ListN.{length};
 ghost use Rattle.parity.specs.Mend.{mend as mendText};
 ghost use Rattle.receiver.specs.Placed.{Placed};
@@ -32,16 +31,15 @@ fn no_words() -> [u32; 16384]
     [0u32; 16384]
 }
 
-// Room for every text.
+// Room for every text: `mend-fits` of proofs/Fits.
 fn no_text() -> [u8; 4096]
     ensures { λ r. ⌜ length r ≡ 4096 ⌝ }
 {
     [0u8; 4096]
 }
 
-// Puts the whole text of an input.
-fn put_text(out: &mut [u8], input: &[u8]) -> usize
-    requires { ⌜ 4096 ≤ length (now out) ⌝ }
+// Puts the whole text of an input at the start of the output, which has room for every text, and answers its length.
+pub fn put_text(out: &mut [u8; 4096], input: &[u8]) -> usize
     ensures { λ r. ⌜ Placed (now (out .entry)) 0 (mendText (now (input .entry))) (now (out .exit)) r ⌝ }
 {
     if is_wrong(input) {

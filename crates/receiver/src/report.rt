@@ -3,7 +3,7 @@ use crate::text::put_byte;
 use crate::text::put_bytes;
 use crate::text::put_decimal;
 ghost use mathlib.Core.Path.{_≡_};
-ghost use Prim.Native.Nat.{_+_, _*_, _≤_};
+ghost use Prim.Native.Nat.{_+_, _≤_};
 ghost use lib.ListN.{length};
 ghost use Rattle.parity.specs.Mend.{residueText, shown, refusedLine, report};
 ghost use Rattle.receiver.specs.Placed.{Placed};
@@ -23,7 +23,7 @@ const LINE_END: u8 = 10;
 
 // Puts a bit's number with a space before it, if its byte x says that it is erased.
 fn put_left(out: &mut [u8], at: usize, x: u8, b: usize) -> usize
-    requires { ⌜ at + 21 ≤ length (now out) ⌝ }
+    requires { ⌜ at + length (leftText x b) ≤ length (now out) ⌝ }
     ensures { λ r. ⌜ Placed (now (out .entry)) at (leftText x b) (now (out .exit)) r ⌝ }
 {
     if x == 2 {
@@ -35,7 +35,7 @@ fn put_left(out: &mut [u8], at: usize, x: u8, b: usize) -> usize
 
 // Puts the number of each of a word's first n bits that is erased.
 fn put_residue(out: &mut [u8], at: usize, word: &[u8], n: usize) -> usize
-    requires { ⌜ at + 21 * n ≤ length (now out) ⌝ }
+    requires { ⌜ at + length (residueText (now word) n) ≤ length (now out) ⌝ }
     requires { ⌜ n ≤ length (now word) ⌝ }
     ensures { λ r. ⌜ Placed (now (out .entry)) at (residueText (now (word .entry)) n) (now (out .exit)) r ⌝ }
 {
@@ -70,7 +70,7 @@ fn put_characters(out: &mut [u8], at: usize, word: &[u8], n: usize) -> usize
 
 // Puts the line with the splits made and the sum.
 fn put_splits_line(out: &mut [u8], at: usize, splits: u64, sum: u64) -> usize
-    requires { ⌜ at + 53 ≤ length (now out) ⌝ }
+    requires { ⌜ at + length (splitsLine splits sum) ≤ length (now out) ⌝ }
     ensures { λ r. ⌜ Placed (now (out .entry)) at (splitsLine splits sum) (now (out .exit)) r ⌝ }
 {
     let splits_head = SPLITS;
@@ -84,7 +84,7 @@ fn put_splits_line(out: &mut [u8], at: usize, splits: u64, sum: u64) -> usize
 
 // Puts the line with each sent bit left.
 fn put_residue_line(out: &mut [u8], at: usize, word: &[u8], n: usize) -> usize
-    requires { ⌜ at + 21 * n + 8 ≤ length (now out) ⌝ }
+    requires { ⌜ at + length (residueLine (now word) n) ≤ length (now out) ⌝ }
     requires { ⌜ n ≤ length (now word) ⌝ }
     ensures { λ r. ⌜ Placed (now (out .entry)) at (residueLine (now (word .entry)) n) (now (out .exit)) r ⌝ }
 {
@@ -96,7 +96,7 @@ fn put_residue_line(out: &mut [u8], at: usize, word: &[u8], n: usize) -> usize
 
 // Puts the line with the word.
 fn put_word_line(out: &mut [u8], at: usize, word: &[u8], n: usize) -> usize
-    requires { ⌜ at + n + 6 ≤ length (now out) ⌝ }
+    requires { ⌜ at + length (wordLine (now word) n) ≤ length (now out) ⌝ }
     requires { ⌜ n ≤ length (now word) ⌝ }
     requires { ⌜ Bytes 2 (now word) ⌝ }
     ensures { λ r. ⌜ Placed (now (out .entry)) at (wordLine (now (word .entry)) n) (now (out .exit)) r ⌝ }
@@ -109,7 +109,7 @@ fn put_word_line(out: &mut [u8], at: usize, word: &[u8], n: usize) -> usize
 
 // Puts the three lines: splits made and the sum, each sent bit left, and n characters.
 pub fn put_report(out: &mut [u8], splits: u64, sum: u64, word: &[u8], n: usize) -> usize
-    requires { ⌜ 22 * n + 67 ≤ length (now out) ⌝ }
+    requires { ⌜ length (report n splits sum (now word)) ≤ length (now out) ⌝ }
     requires { ⌜ n ≤ length (now word) ⌝ }
     requires { ⌜ Bytes 2 (now word) ⌝ }
     ensures { λ r. ⌜ Placed (now (out .entry)) 0 (report n splits sum (now (word .entry))) (now (out .exit)) r ⌝ }
@@ -121,7 +121,7 @@ pub fn put_report(out: &mut [u8], splits: u64, sum: u64, word: &[u8], n: usize) 
 
 // Puts a refusal's line.
 pub fn put_refused(out: &mut [u8], number: u64) -> usize
-    requires { ⌜ 29 ≤ length (now out) ⌝ }
+    requires { ⌜ length (refusedLine number) ≤ length (now out) ⌝ }
     ensures { λ r. ⌜ Placed (now (out .entry)) 0 (refusedLine number) (now (out .exit)) r ⌝ }
 {
     let head = REFUSED;

@@ -40,7 +40,8 @@ fn peel_word(
     sum: u64,
     word: &mut [u8],
 ) -> usize
-    requires { ⌜ (4096 ≤ length (now out)) × (n ≤ 120) × (n ≤ length (now word)) ⌝ }
+    requires { ⌜ length (peelText (now words) n m k splits sum (now word)) ≤ length (now out) ⌝ }
+    requires { ⌜ n ≤ length (now word) ⌝ }
     ensures { λ r. ⌜ Placed (now (out .entry)) 0 (peelText (now (words .entry)) n m k splits sum (now (word .entry))) (now (out .exit)) r ⌝ }
 {
     match peel::peel(words, n, m, k, word) {
@@ -63,7 +64,8 @@ fn peel_sent(
     sum: u64,
     sent: &[u8],
 ) -> usize
-    requires { ⌜ (4096 ≤ length (now out)) × (cause (now words) n m k ≡ 0) ⌝ }
+    requires { ⌜ length (peelText (now words) n m k splits sum (now sent ++ replicate k 2)) ≤ length (now out) ⌝ }
+    requires { ⌜ cause (now words) n m k ≡ 0 ⌝ }
     ensures { λ r. ⌜ Placed (now (out .entry)) 0 (peelText (now (words .entry)) n m k splits sum (now (sent .entry) ++ replicate k 2)) (now (out .exit)) r ⌝ }
 {
     if sent.len() != n {
@@ -76,7 +78,7 @@ fn peel_sent(
 
 // Orthogonalises the matrix, and goes on.
 fn orthogonalise(out: &mut [u8], words: &mut [u64], n: usize, m: usize, sent: &[u8]) -> usize
-    requires { ⌜ 4096 ≤ length (now out) ⌝ }
+    requires { ⌜ length (orthogonaliseText (now words) n m (now sent)) ≤ length (now out) ⌝ }
     ensures { λ r. ⌜ Placed (now (out .entry)) 0 (orthogonaliseText (now (words .entry)) n m (now (sent .entry))) (now (out .exit)) r ⌝ }
 {
     match split::orthogonalise(words, n, m, 0) {
@@ -96,7 +98,7 @@ fn orthogonalise(out: &mut [u8], words: &mut [u64], n: usize, m: usize, sent: &[
 
 // Loads the record, and goes on.
 pub fn load(out: &mut [u8], source: &[u32], sent: &[u8]) -> usize
-    requires { ⌜ 4096 ≤ length (now out) ⌝ }
+    requires { ⌜ length (loadText (now source) (now sent)) ≤ length (now out) ⌝ }
     ensures { λ r. ⌜ Placed (now (out .entry)) 0 (loadText (now (source .entry)) (now (sent .entry))) (now (out .exit)) r ⌝ }
 {
     let mut words = empty_words();

@@ -1,9 +1,9 @@
 -- `mend::main` meets its contract. Assumes nothing.
-use mathlib.Core.Path.{sym, _∙_}
+use mathlib.Core.Path.{sym}
 use borrow.Author.Needs.{needs}
 use native.Mathlib.Omega.{arith}
 use lib.Seq.{length-take-le}
-use Rattle.receiver.proofs.Whole.{written-in}
+use Rattle.receiver.proofs.Pieces.{same-size}
 use Rattle.mend.proofs.main.Statement.{statement}
 use Rattle.mend.proofs.main.Tie as tie
 
@@ -22,43 +22,27 @@ output-room-requires c κs = search needs
 array-share-prefix-input : tie.Need-array-share-prefix-input
 array-share-prefix-input c = search needs
 
-slice-aggregate-mend : tie.Need-slice-aggregate-mend
-slice-aggregate-mend c = search needs
+slice-aggregate-put-text : tie.Need-slice-aggregate-put-text
+slice-aggregate-put-text c = search needs
 
-slice-aggregate-mend-2 : tie.Need-slice-aggregate-mend-2
-slice-aggregate-mend-2 c = search needs
-
-mend-requires : tie.Need-mend-requires
-mend-requires c κs = search needs
-
-enum-known-size : tie.Need-enum-known-size
-enum-known-size c = search needs
+put-text-requires : tie.Need-put-text-requires
+put-text-requires c κs = search needs
 
 array-share-prefix-output : tie.Need-array-share-prefix-output
 array-share-prefix-output c =
-    let m = c .before .before .before .before .mend in
-    let g = c .before .size .given in
-    let h = written-in _ (c .before .before .before .before .before .before .before .output-room .result) (g .0 .0) (sym (g .1) ∙ m .ensures .0) in
-    omega (arith, h, m .kept .1 .0)
+    let f = c .put-text .ensures in
+    omega (arith, f .room, same-size f)
 
 slice-aggregate-write-all : tie.Need-slice-aggregate-write-all
 slice-aggregate-write-all c =
-    let m = c .before .before .before .before .before .mend in
-    let g = c .before .before .size .given in
-    let h = written-in _ (c .before .before .before .before .before .before .before .before .output-room .result) (g .0 .0) (sym (g .1) ∙ m .ensures .0) in
-    sym (length-take-le (g .0 .0) (m .last .1 .0) (omega (arith, h, m .kept .1 .0)))
+    let p = c .before .put-text in
+    sym (length-take-le (p .result) (p .last .0) (omega (arith, p .ensures .room, same-size (p .ensures))))
 
 write-all-requires : tie.Need-write-all-requires
 write-all-requires c κs = search needs
 
-enum-told : tie.Need-enum-told
-enum-told c = search needs
-
 returns : tie.Need-returns
 returns c = search needs
-
-returns-2 : tie.Need-returns-2
-returns-2 c = search needs
 
 pub main-spec : {M : Type 1} → statement M
 main-spec =
@@ -69,13 +53,9 @@ main-spec =
     read-full-requires
     output-room-requires
     array-share-prefix-input
-    slice-aggregate-mend
-    slice-aggregate-mend-2
-    mend-requires
-    enum-known-size
+    slice-aggregate-put-text
+    put-text-requires
     array-share-prefix-output
     slice-aggregate-write-all
     write-all-requires
-    enum-told
-    returns
-    returns-2)
+    returns)

@@ -1,8 +1,10 @@
 -- `receiver::put_text` meets its contract. Assumes nothing.
 use mathlib.Core.Path.{sym, _∙_}
 use borrow.Author.Needs.{needs}
+use native.Mathlib.Omega.{arith}
 use lib.Seq.{length-take-le}
 use Rattle.receiver.proofs.Lines.{same-text}
+use Rattle.receiver.proofs.Fits.{mend-fits}
 use Rattle.receiver.proofs.Whole.{wrong-mend, right-mend, every-rest}
 use Rattle.receiver.proofs.put_text.Statement.{statement}
 use Rattle.receiver.proofs.put_text.Tie as tie
@@ -14,17 +16,16 @@ number-requires : tie.Need-number-requires
 number-requires c κs = search needs
 
 put-refused-requires : tie.Need-put-refused-requires
-put-refused-requires c κs = search needs
-
-same-length : tie.Need-same-length
-same-length c = search needs
+put-refused-requires c κs =
+    let input = c .before .before .before .before .before .args .input .now in
+    rw (c .number .ensures, wrong-mend input (sym (c .before .before .before .is-wrong .ensures) ∙ c .before .before .if1 .taken)) (omega (arith, mend-fits input))
 
 returns : tie.Need-returns
 returns c =
-    let input = c .before .before .before .before .before .before .before .before .before .args .input .now in
+    let input = c .before .before .before .before .before .before .args .input .now in
     same-text
-    (rw (c .before .before .before .number .ensures) (wrong-mend input (sym (c .before .before .before .before .before .before .is-wrong .ensures) ∙ c .before .before .before .before .before .if1 .taken)))
-    (c .before .before .put-refused .ensures)
+    (rw (c .before .number .ensures) (wrong-mend input (sym (c .before .before .before .before .is-wrong .ensures) ∙ c .before .before .before .if1 .taken)))
+    (c .put-refused .ensures)
 
 size-requires : tie.Need-size-requires
 size-requires c κs = sym (c .before .is-wrong .ensures) ∙ c .if1 .left
@@ -60,18 +61,18 @@ part-load-end : tie.Need-part-load-end
 part-load-end c = search needs
 
 load-requires : tie.Need-load-requires
-load-requires c κs = search needs
-
-same-length-2 : tie.Need-same-length-2
-same-length-2 c = search needs
+load-requires c κs =
+    let input = c .before .before .before .before .before .before .before .before .before .before .before .args .input .now in
+    let w = c .before .before .before .before .before .before .before .size .ensures .count in
+    rw (c .before .before .before .before .read-words .ensures, w, every-rest, right-mend input (sym (c .before .before .before .before .before .before .before .before .before .is-wrong .ensures) ∙ c .before .before .before .before .before .before .before .before .if1 .left)) (omega (arith, mend-fits input))
 
 returns-2 : tie.Need-returns-2
 returns-2 c =
-    let input = c .before .before .before .before .before .before .before .before .before .before .before .before .before .before .before .args .input .now in
-    let w = c .before .before .before .before .before .before .before .before .before .before .size .ensures .count in
+    let input = c .before .before .before .before .before .before .before .before .before .before .before .before .args .input .now in
+    let w = c .before .before .before .before .before .before .before .before .size .ensures .count in
     same-text
-    (rw (c .before .before .before .before .before .before .before .read-words .ensures, w, every-rest) (right-mend input (sym (c .before .before .before .before .before .before .before .before .before .before .before .before .is-wrong .ensures) ∙ c .before .before .before .before .before .before .before .before .before .before .before .if1 .left)))
-    (c .before .before .load .ensures)
+    (rw (c .before .before .before .before .before .read-words .ensures, w, every-rest) (right-mend input (sym (c .before .before .before .before .before .before .before .before .before .before .is-wrong .ensures) ∙ c .before .before .before .before .before .before .before .before .before .if1 .left)))
+    (c .load .ensures)
 
 pub put-text-spec : {M : Type 1} → statement M
 put-text-spec =
@@ -80,7 +81,6 @@ put-text-spec =
     is-wrong-requires
     number-requires
     put-refused-requires
-    same-length
     returns
     size-requires
     mul-start
@@ -94,5 +94,4 @@ put-text-spec =
     part-load-start
     part-load-end
     load-requires
-    same-length-2
     returns-2)

@@ -1,17 +1,22 @@
 -- `receiver::report::put_left` meets its contract. Assumes nothing.
-use mathlib.Core.Path.{sym}
+use mathlib.Core.Path.{sym, ap}
 use borrow.Author.Needs.{needs}
 use native.Mathlib.Omega.{arith}
-use Rattle.receiver.proofs.Pieces.{after, decimal-most}
+use lib.ListN.{length}
+use Rattle.receiver.proofs.Pieces.{after}
 use Rattle.receiver.proofs.Lines.{none, same-text, left-erased, left-known}
 use Rattle.receiver.proofs.report.put_left.Statement.{statement}
 use Rattle.receiver.proofs.report.put_left.Tie as tie
 
 put-byte-requires : tie.Need-put-byte-requires
-put-byte-requires c κs = search needs
+put-byte-requires c κs =
+    let a = c .before .before .before .args in
+    omega (arith, ap length (left-erased (a .x) (a .b) (c .before .if1 .taken)))
 
 put-decimal-requires : tie.Need-put-decimal-requires
-put-decimal-requires c κs = omega (arith, decimal-most (c .before .before .before .before .before .before .before .args .b) (omega arith))
+put-decimal-requires c κs =
+    let a = c .before .before .before .before .before .before .before .args in
+    omega (arith, ap length (left-erased (a .x) (a .b) (c .before .before .before .before .before .if1 .taken)))
 
 same-length : tie.Need-same-length
 same-length c = search needs

@@ -2,7 +2,8 @@
 use borrow.Author.Needs.{needs}
 use native.Mathlib.Omega.{arith}
 use Rattle.parity.specs.Mend.{refusedLine}
-use Rattle.receiver.proofs.Pieces.{after, decimal-most}
+use Rattle.receiver.proofs.Pieces.{after}
+use Rattle.receiver.proofs.Lines.{refused-length}
 use Rattle.receiver.proofs.report.put_refused.Statement.{statement}
 use Rattle.receiver.proofs.report.put_refused.Tie as tie
 
@@ -10,13 +11,13 @@ slice-aggregate-put-bytes : tie.Need-slice-aggregate-put-bytes
 slice-aggregate-put-bytes c = search needs
 
 put-bytes-requires : tie.Need-put-bytes-requires
-put-bytes-requires c κs = search needs
+put-bytes-requires c κs = omega (arith, refused-length (c .before .before .before .args .number))
 
 put-decimal-requires : tie.Need-put-decimal-requires
-put-decimal-requires c κs = omega (arith, decimal-most (c .before .before .before .before .before .before .before .args .number) (omega arith))
+put-decimal-requires c κs = omega (arith, refused-length (c .before .before .before .before .before .before .before .args .number))
 
 put-byte-requires : tie.Need-put-byte-requires
-put-byte-requires c κs = omega (arith, decimal-most (c .before .before .before .before .before .before .before .before .before .before .before .args .number) (omega arith))
+put-byte-requires c κs = omega (arith, refused-length (c .before .before .before .before .before .before .before .before .before .before .before .args .number))
 
 same-length : tie.Need-same-length
 same-length c = search needs

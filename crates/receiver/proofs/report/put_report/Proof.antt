@@ -2,22 +2,24 @@
 use borrow.Author.Needs.{needs}
 use native.Mathlib.Omega.{arith}
 use Rattle.receiver.proofs.Pieces.{after}
-use Rattle.receiver.proofs.Lines.{same-text, splits-line-most, residue-line-most, three-lines}
+use Rattle.receiver.proofs.Lines.{same-text, report-length, three-lines}
 use Rattle.receiver.proofs.report.put_report.Statement.{statement}
 use Rattle.receiver.proofs.report.put_report.Tie as tie
 
 put-splits-line-requires : tie.Need-put-splits-line-requires
-put-splits-line-requires c κs = search needs
+put-splits-line-requires c κs =
+    let a = c .before .before .before .args in
+    omega (arith, report-length (a .n) (a .splits) (a .sum) (a .word .now))
 
 put-residue-line-requires : tie.Need-put-residue-line-requires
 put-residue-line-requires c κs =
     let a = c .before .before .before .before .before .before .before .args in
-    omega (arith, splits-line-most (a .splits) (a .sum) (omega arith) (omega arith))
+    (omega (arith, report-length (a .n) (a .splits) (a .sum) (a .word .now)), search needs)
 
 put-word-line-requires : tie.Need-put-word-line-requires
 put-word-line-requires c κs =
     let a = c .before .before .before .before .before .before .before .before .before .before .before .args in (
-      omega (arith, splits-line-most (a .splits) (a .sum) (omega arith) (omega arith), residue-line-most (a .word .now) (a .n) (omega arith)),
+      omega (arith, report-length (a .n) (a .splits) (a .sum) (a .word .now)),
       (search needs, search needs),
     )
 

@@ -3,7 +3,7 @@ use borrow.Author.Needs.{needs}
 use native.Mathlib.Omega.{arith}
 use Rattle.receiver.specs.Lines.{residueLine}
 use Rattle.receiver.proofs.Pieces.{after}
-use Rattle.receiver.proofs.Lines.{residue-most}
+use Rattle.receiver.proofs.Lines.{residue-length}
 use Rattle.receiver.proofs.report.put_residue_line.Statement.{statement}
 use Rattle.receiver.proofs.report.put_residue_line.Tie as tie
 
@@ -11,15 +11,19 @@ slice-aggregate-put-bytes : tie.Need-slice-aggregate-put-bytes
 slice-aggregate-put-bytes c = search needs
 
 put-bytes-requires : tie.Need-put-bytes-requires
-put-bytes-requires c κs = search needs
+put-bytes-requires c κs =
+    let a = c .before .before .before .before .args in
+    omega (arith, residue-length (a .word .now) (a .n))
 
 put-residue-requires : tie.Need-put-residue-requires
-put-residue-requires c κs = search needs
+put-residue-requires c κs =
+    let a = c .before .before .before .before .before .before .before .before .args in
+    (omega (arith, residue-length (a .word .now) (a .n)), search needs)
 
 put-byte-requires : tie.Need-put-byte-requires
 put-byte-requires c κs =
     let a = c .before .before .before .before .before .before .before .before .before .before .before .before .args in
-    omega (arith, residue-most (a .word .now) (a .n) (omega arith))
+    omega (arith, residue-length (a .word .now) (a .n))
 
 same-length : tie.Need-same-length
 same-length c = search needs

@@ -2,7 +2,8 @@
 use borrow.Author.Needs.{needs}
 use native.Mathlib.Omega.{arith}
 use Rattle.receiver.specs.Lines.{splitsLine}
-use Rattle.receiver.proofs.Pieces.{after, decimal-most}
+use Rattle.receiver.proofs.Pieces.{after}
+use Rattle.receiver.proofs.Lines.{splits-length}
 use Rattle.receiver.proofs.report.put_splits_line.Statement.{statement}
 use Rattle.receiver.proofs.report.put_splits_line.Tie as tie
 
@@ -10,22 +11,32 @@ slice-aggregate-put-bytes : tie.Need-slice-aggregate-put-bytes
 slice-aggregate-put-bytes c = search needs
 
 put-bytes-requires : tie.Need-put-bytes-requires
-put-bytes-requires c κs = search needs
+put-bytes-requires c κs =
+    let a = c .before .before .before .args in
+    omega (arith, splits-length (a .splits) (a .sum))
 
 put-decimal-requires : tie.Need-put-decimal-requires
-put-decimal-requires c κs = omega (arith, decimal-most (c .before .before .before .before .before .before .before .args .splits) (omega arith))
+put-decimal-requires c κs =
+    let a = c .before .before .before .before .before .before .before .args in
+    omega (arith, splits-length (a .splits) (a .sum))
 
 slice-aggregate-put-bytes-2 : tie.Need-slice-aggregate-put-bytes-2
 slice-aggregate-put-bytes-2 c = search needs
 
 put-bytes-requires-2 : tie.Need-put-bytes-requires-2
-put-bytes-requires-2 c κs = omega (arith, decimal-most (c .before .before .before .before .before .before .before .before .before .before .before .before .args .splits) (omega arith))
+put-bytes-requires-2 c κs =
+    let a = c .before .before .before .before .before .before .before .before .before .before .before .before .args in
+    omega (arith, splits-length (a .splits) (a .sum))
 
 put-decimal-requires-2 : tie.Need-put-decimal-requires-2
-put-decimal-requires-2 c κs = omega (arith, decimal-most (c .before .before .before .before .before .before .before .before .before .before .before .before .before .before .before .before .args .splits) (omega arith), decimal-most (c .before .before .before .before .before .before .before .before .before .before .before .before .before .before .before .before .args .sum) (omega arith))
+put-decimal-requires-2 c κs =
+    let a = c .before .before .before .before .before .before .before .before .before .before .before .before .before .before .before .before .args in
+    omega (arith, splits-length (a .splits) (a .sum))
 
 put-byte-requires : tie.Need-put-byte-requires
-put-byte-requires c κs = omega (arith, decimal-most (c .before .before .before .before .before .before .before .before .before .before .before .before .before .before .before .before .before .before .before .before .args .splits) (omega arith), decimal-most (c .before .before .before .before .before .before .before .before .before .before .before .before .before .before .before .before .before .before .before .before .args .sum) (omega arith))
+put-byte-requires c κs =
+    let a = c .before .before .before .before .before .before .before .before .before .before .before .before .before .before .before .before .before .before .before .before .args in
+    omega (arith, splits-length (a .splits) (a .sum))
 
 same-length : tie.Need-same-length
 same-length c = search needs

@@ -3,7 +3,7 @@ use borrow.Author.Needs.{needs}
 use native.Mathlib.Omega.{arith}
 use Rattle.receiver.specs.Lines.{wordLine}
 use Rattle.receiver.proofs.Pieces.{after}
-use Rattle.receiver.proofs.Lines.{word-length}
+use Rattle.receiver.proofs.Lines.{word-length, word-line-length}
 use Rattle.receiver.proofs.report.put_word_line.Statement.{statement}
 use Rattle.receiver.proofs.report.put_word_line.Tie as tie
 
@@ -11,15 +11,19 @@ slice-aggregate-put-bytes : tie.Need-slice-aggregate-put-bytes
 slice-aggregate-put-bytes c = search needs
 
 put-bytes-requires : tie.Need-put-bytes-requires
-put-bytes-requires c κs = search needs
+put-bytes-requires c κs =
+    let a = c .before .before .before .before .args in
+    omega (arith, word-line-length (a .word .now) (a .n))
 
 put-characters-requires : tie.Need-put-characters-requires
-put-characters-requires c κs = search needs
+put-characters-requires c κs =
+    let a = c .before .before .before .before .before .before .before .before .args in
+    (omega (arith, word-line-length (a .word .now) (a .n)), (search needs, search needs))
 
 put-byte-requires : tie.Need-put-byte-requires
 put-byte-requires c κs =
     let a = c .before .before .before .before .before .before .before .before .before .before .before .before .args in
-    omega (arith, word-length (a .word .now) (a .n))
+    omega (arith, word-line-length (a .word .now) (a .n), word-length (a .word .now) (a .n))
 
 same-length : tie.Need-same-length
 same-length c = search needs

@@ -23,7 +23,13 @@ number-requires : tie.Need-number-requires
 number-requires c κs = search needs
 
 put-refused-requires : tie.Need-put-refused-requires
-put-refused-requires c κs = search needs
+put-refused-requires c κs =
+    let a = c .before .before .before .before .before .before .before .before .before .before .before .before .args in
+    let p = c .before .before .before .before .before .before .load in
+    let z = c .before .before .before .before .before .before .before .before .empty-words in
+    let g = c .before .before .before .r .given in
+    let e = sym (ap loadReplyOf (g .1)) ∙ p .ensures .0 in
+    rw (c .number .ensures, load-refused (z .result) (a .source .now) (a .sent .now) (g .0 .0) e, load-zero (z .result) (a .source .now) (a .sent .now) (z .ensures)) (c .before .before .before .before .before .before .before .before .before .before .before .before .pre)
 
 enum-known-n : tie.Need-enum-known-n
 enum-known-n c = search needs
@@ -32,7 +38,13 @@ slice-aggregate-orthogonalise : tie.Need-slice-aggregate-orthogonalise
 slice-aggregate-orthogonalise c = search needs
 
 orthogonalise-requires : tie.Need-orthogonalise-requires
-orthogonalise-requires c κs = search needs
+orthogonalise-requires c κs =
+    let a = c .before .before .before .before .before .before .before .before .before .before .before .before .args in
+    let p = c .before .before .before .before .before .before .load in
+    let z = c .before .before .before .before .before .before .before .before .empty-words in
+    let g = c .before .before .before .n .given in
+    let e = sym (ap loadReplyOf (g .1)) ∙ p .ensures .0 in
+    rw (p .ensures .1, load-passes (z .result) (a .source .now) (a .sent .now) (g .0 .0) (g .0 .1 .0) e, load-zero (z .result) (a .source .now) (a .sent .now) (z .ensures)) (c .before .before .before .before .before .before .before .before .before .before .before .before .pre)
 
 same-length : tie.Need-same-length
 same-length c = search needs

@@ -17,7 +17,12 @@ number-requires : tie.Need-number-requires
 number-requires c κs = search needs
 
 put-refused-requires : tie.Need-put-refused-requires
-put-refused-requires c κs = search needs
+put-refused-requires c κs =
+    let a = c .before .before .before .before .before .before .before .before .before .before .before .before .args in
+    let p = c .before .before .before .before .before .before .before .orthogonalise in
+    let g = c .before .before .before .r .given in
+    let e = sym (ap orthogonalisingReply (g .1)) ∙ p .ensures .0 in
+    rw (c .number .ensures, orthogonalise-refused (a .words .now) (a .n) (a .m) (a .sent .now) (g .0 .0) e) (c .before .before .before .before .before .before .before .before .before .before .before .before .pre)
 
 enum-known-splits : tie.Need-enum-known-splits
 enum-known-splits c = search needs
@@ -27,8 +32,10 @@ peel-sent-requires c κs =
     let a = c .before .before .before .before .before .before .before .before .before .before .before .before .args in
     let p = c .before .before .before .before .before .before .before .orthogonalise in
     let g = c .before .before .before .splits .given in
-    let e = sym (ap orthogonalisingReply (g .1)) ∙ p .ensures .0 in
-    (search needs, rw (p .ensures .1) (orthogonalise-accepted (a .words .now) (a .n) (a .m) (g .0 .0) (g .0 .1 .0) (g .0 .1 .1 .0) e))
+    let e = sym (ap orthogonalisingReply (g .1)) ∙ p .ensures .0 in (
+      rw (p .ensures .1, orthogonalise-passes (a .words .now) (a .n) (a .m) (g .0 .0) (g .0 .1 .0) (g .0 .1 .1 .0) e (a .sent .now)) (c .before .before .before .before .before .before .before .before .before .before .before .before .pre),
+      rw (p .ensures .1) (orthogonalise-accepted (a .words .now) (a .n) (a .m) (g .0 .0) (g .0 .1 .0) (g .0 .1 .1 .0) e),
+    )
 
 same-length : tie.Need-same-length
 same-length c = search needs

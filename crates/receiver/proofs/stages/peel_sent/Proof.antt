@@ -16,7 +16,10 @@ number-requires : tie.Need-number-requires
 number-requires c κs = search needs
 
 put-refused-requires : tie.Need-put-refused-requires
-put-refused-requires c κs = search needs
+put-refused-requires c κs =
+    let a = c .before .before .before .before .before .before .args in
+    let q = c .before .before .before .before .before .before .pre in
+    rw (c .number .ensures, peel-short (a .words .now) (a .n) (a .m) (a .k) (a .splits) (a .sum) (a .sent .now) (q .1) (c .before .before .if1 .taken)) (q .0)
 
 same-length : tie.Need-same-length
 same-length c = search needs
@@ -63,7 +66,12 @@ peel-word-requires c κs =
     let a = c .before .before .before .before .before .before .before .before .before .before .args in
     let s = accepts (a .words .now) (a .n) (a .m) (a .k) .0 (c .before .before .before .before .before .before .before .before .before .before .pre .1) .sound in
     let l = length-take-le (a .n + a .k) (c .before .before .before .put-bytes .last .0) (omega (arith, s .n120, s .k392, c .before .before .before .put-bytes .kept .0, length-erased (c .before .before .before .before .before .erased-word .result) 512 (c .before .before .before .before .before .erased-word .ensures))) in
-    (search needs, s .n120, omega (arith, l))
+    let z = c .before .before .before .before .before .erased-word in
+    let b = c .before .before .before .put-bytes in
+    let e = erased-rest (a .sent .now) (z .result) (b .last .0) (a .n) (a .k) 512 (omega arith) (omega (arith, s .n120, s .k392)) (z .ensures) (b .ensures .made) in (
+      rw e (c .before .before .before .before .before .before .before .before .before .before .pre .0),
+      omega (arith, l),
+    )
 
 same-length-2 : tie.Need-same-length-2
 same-length-2 c = search needs

@@ -1,7 +1,6 @@
 -- `receiver::stages::peel_word` meets its contract. Assumes nothing.
 use mathlib.Core.Path.{sym, ap, _∙_}
 use borrow.Author.Needs.{needs}
-use native.Mathlib.Omega.{arith}
 use Rattle.peel.specs.Answers.{peelReplyOf}
 use Rattle.receiver.proofs.Lines.{same-text}
 use Rattle.receiver.proofs.Passing.{peel-refused, peel-passes, peel-bytes}
@@ -18,7 +17,12 @@ number-requires : tie.Need-number-requires
 number-requires c κs = search needs
 
 put-refused-requires : tie.Need-put-refused-requires
-put-refused-requires c κs = search needs
+put-refused-requires c κs =
+    let a = c .before .before .before .before .before .before .before .before .before .before .before .before .args in
+    let p = c .before .before .before .before .before .before .before .peel in
+    let g = c .before .before .before .r .given in
+    let e = sym (ap peelReplyOf (g .1)) ∙ p .ensures .0 in
+    rw (c .number .ensures, peel-refused (a .words .now) (a .n) (a .m) (a .k) (a .splits) (a .sum) (a .word .now) (g .0 .0) e) (c .before .before .before .before .before .before .before .before .before .before .before .before .pre .0)
 
 enum-told : tie.Need-enum-told
 enum-told c = search needs
@@ -28,8 +32,10 @@ put-report-requires c κs =
     let a = c .before .before .before .before .before .before .before .before .before .before .before .args in
     let p = c .before .before .before .before .before .before .peel in
     let g = c .before .before .enum-told .given in
-    let e = sym (ap peelReplyOf (g .1)) ∙ p .ensures .0 in
-    (omega arith, (search needs, rw (p .ensures .1) (peel-bytes (a .words .now) (a .n) (a .m) (a .k) (a .splits) (a .sum) (a .word .now) (g .0 .0) (g .0 .1 .0) e)))
+    let e = sym (ap peelReplyOf (g .1)) ∙ p .ensures .0 in (
+      rw (p .ensures .1, peel-passes (a .words .now) (a .n) (a .m) (a .k) (a .splits) (a .sum) (a .word .now) (g .0 .0) (g .0 .1 .0) e) (c .before .before .before .before .before .before .before .before .before .before .before .pre .0),
+      (search needs, rw (p .ensures .1) (peel-bytes (a .words .now) (a .n) (a .m) (a .k) (a .splits) (a .sum) (a .word .now) (g .0 .0) (g .0 .1 .0) e)),
+    )
 
 same-length : tie.Need-same-length
 same-length c = search needs

@@ -4,10 +4,11 @@ use mathlib.Core.Path.{sym, ap}
 use mathlib.Core.List.{List}
 use borrow.Author.Needs.{needs}
 use native.Mathlib.Omega.{arith}
+use lib.ListN.{length}
 use lib.Seq.{length-take-le}
 use Rattle.parity.proofs.Accept.{accepts}
 use Rattle.receiver.specs.Stages.{peelText}
-use Rattle.receiver.proofs.Lines.{same-text}
+use Rattle.receiver.proofs.Lines.{same-text, two-digits}
 use Rattle.receiver.proofs.Passing.{peel-short, length-erased, erased-rest}
 use Rattle.receiver.proofs.stages.peel_sent.Statement.{statement}
 use Rattle.receiver.proofs.stages.peel_sent.Tie as tie
@@ -19,7 +20,8 @@ put-refused-requires : tie.Need-put-refused-requires
 put-refused-requires c κs =
     let a = c .before .before .before .before .before .before .args in
     let q = c .before .before .before .before .before .before .pre in
-    rw (c .number .ensures, peel-short (a .words .now) (a .n) (a .m) (a .k) (a .splits) (a .sum) (a .sent .now) (q .1) (c .before .before .if1 .taken)) (q .0)
+    let e = peel-short (a .words .now) (a .n) (a .m) (a .k) (a .splits) (a .sum) (a .sent .now) (q .1) (c .before .before .if1 .taken) in
+    omega (arith, two-digits (c .number .result) (omega (arith, c .number .ensures)), ap length e, q .0)
 
 same-length : tie.Need-same-length
 same-length c = search needs

@@ -9,17 +9,10 @@ fn input_room() -> [u8; 65537]
     [0u8; 65537]
 }
 
-// Room for every text: `mend-fits` of receiver's proofs/Fits.
-fn output_room() -> [u8; 4096]
-    ensures { λ r. ⌜ 4096 ≡ length r ⌝ }
-{
-    [0u8; 4096]
-}
-
 fn main() {
     let mut input = input_room();
     let read = io::read_full(0, &mut input);
-    let mut output = output_room();
+    let mut output = receiver::no_text();
     let size = receiver::put_text(&mut output, &input[..read]);
     io::write_all(1, &output[..size]);
 }

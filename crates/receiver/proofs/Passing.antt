@@ -16,6 +16,7 @@ use Rattle.parity.specs.Causes.{Reply, answer, refusal, refusalOf, Outcome}
 use Rattle.parity.specs.Calls.{byteOf, loadOutcome, orthogonalisedReply, orthogonaliseOutcome, peelReply, peelOutcome}
 use Rattle.parity.specs.Mend.{refusedLine, report, unlessRefused}
 use Rattle.parity.specs.declared.Refusal.{Refusal}
+use Rattle.parity.proofs.Sums.{one≤1}
 use Rattle.parity.proofs.Packing.{length-listFrom, at-listFrom}
 use Rattle.parity.proofs.Accept.{Accepted, accepts, accepting-answers, accepting-refuses}
 use Rattle.parity.proofs.Replies.{orthogonalises, orthogonal-accepted}
@@ -94,8 +95,7 @@ module _ (ws : List ℕ) (n m : ℕ) where
 -- peeling: its bytes are at most 2
 cond-most : (a b : Bool) → cond a 2 (one b) ≤ 2
 cond-most true b = omega arith
-cond-most false true = omega arith
-cond-most false false = omega arith
+cond-most false b = omega (arith, one≤1 b)
 
 peeled-most : (h : Matrix) (N M : ℕ) (w : ℕ → ℕ) (b : ℕ) → peeled h N M w b ≤ 2
 unfolding peeled

@@ -24,21 +24,22 @@ pub enum Mended {
     TooShort { needed: usize },
 }
 
-// The most record words that an input holds.
+// Room for the record words of every input: at most 16,383.
 fn no_words() -> [u32; 16384]
     ensures { λ r. ⌜ length r ≡ 16384 ⌝ }
 {
     [0u32; 16384]
 }
 
-// Room for every text: `mend-fits` of proofs/Fits.
-fn no_text() -> [u8; 4096]
+// Room for every text, as `mend-fits` of proofs/Fits says.
+pub fn no_text() -> [u8; 4096]
     ensures { λ r. ⌜ length r ≡ 4096 ⌝ }
 {
     [0u8; 4096]
 }
 
-// Puts the whole text of an input at the start of the output, which has room for every text, and answers its length.
+// Mends: reads a record and a word, loads, orthogonalises, sets the added bits to 2 and peels. Puts the report or the refusal at the
+// start of the output, and answers its length.
 pub fn put_text(out: &mut [u8; 4096], input: &[u8]) -> usize
     ensures { λ r. ⌜ Placed (now (out .entry)) 0 (mendText (now (input .entry))) (now (out .exit)) r ⌝ }
 {
@@ -52,8 +53,7 @@ pub fn put_text(out: &mut [u8; 4096], input: &[u8]) -> usize
     load(out, &words[..w], &input[start..])
 }
 
-// Mends: reads a record and a word, loads, orthogonalises, sets the added bits to 2 and peels, and writes the report or the refusal
-// at the start of the output, if it has room.
+// The same for an output of any length: the text is written at its start if it has room, and else it is left as it was.
 pub fn mend(input: &[u8], output: &mut [u8]) -> Mended
     ensures { λ r. ⌜ r ≡ mendedAnswer (mendText (now (input .entry))) (now (output .entry)) ⌝ }
     ensures { λ r. ⌜ now (output .exit) ≡ mendedOutput (mendText (now (input .entry))) (now (output .entry)) ⌝ }

@@ -16,8 +16,8 @@ slice-aggregate-read-full c = search needs
 read-full-requires : tie.Need-read-full-requires
 read-full-requires c κs = search needs
 
-output-room-requires : tie.Need-output-room-requires
-output-room-requires c κs = search needs
+no-text-requires : tie.Need-no-text-requires
+no-text-requires c κs = search needs
 
 array-share-prefix-input : tie.Need-array-share-prefix-input
 array-share-prefix-input c = search needs
@@ -51,7 +51,7 @@ main-spec =
     input-room-requires
     slice-aggregate-read-full
     read-full-requires
-    output-room-requires
+    no-text-requires
     array-share-prefix-input
     slice-aggregate-put-text
     put-text-requires

@@ -1,6 +1,6 @@
--- Laws of the report's lines. Assumes nothing.
+-- Laws of the lines, and of the record words one after another. Assumes nothing.
 use Prim.Native.Nat.{ℕ, zero, suc, _+_, _*_, _-_, _≤_, _<_}
-use mathlib.Core.Path.{_≡_, _∙_, refl, sym, ap}
+use mathlib.Core.Path.{_≡_, _∙_, sym, ap}
 use mathlib.Core.List.{List, [], _∷_, _++_, append-assoc, append-nil}
 use native.Mathlib.Omega.{arith}
 use native.Mathlib.Nat.{add-suc, add-zero}
@@ -9,12 +9,11 @@ use borrow.Author.Tests.{eq-eqb, ne-eqb}
 use lib.ListN.{length, length-append, take-append-drop}
 use Rattle.parity.specs.Finite.{listFrom}
 use Rattle.parity.specs.Calls.{byteOf}
-use Rattle.parity.specs.Mend.{digitsOf, decimal, splitsHead, sumHead, residueHead, residueText, wordHead, shown, refusedLine, report, wordAt}
+use Rattle.parity.specs.Mend.{decimal, splitsHead, sumHead, residueHead, residueText, wordHead, shown, refusedLine, report, wordAt}
 use Rattle.parity.proofs.Packing.{length-listFrom}
 use Rattle.receiver.specs.Placed.{placed, Placed}
 use Rattle.receiver.specs.Lines.{leftText, wordText, splitsLine, residueLine, wordLine}
 use Rattle.receiver.specs.Stages.{wordsIn}
-use Rattle.receiver.proofs.Pieces.{decimal-below}
 
 -- nothing
 pub none : (old : List ℕ) (p : ℕ) → p ≤ length old → Placed old p [] old p
@@ -77,12 +76,6 @@ word-length w n = length-listFrom 0 n (λ b. shown (byteOf w b))
 pub refused-length : (number : ℕ) → length (refusedLine number) ≡ length (decimal number) + 9
 unfolding refusedLine
 refused-length number = simp length-append (omega arith)
-
--- a number of at most two digits takes no more room than 10
-pub two-digits : (number : ℕ) → number < 100 → length (refusedLine number) ≤ length (refusedLine 10)
-two-digits number h =
-    let e : length (decimal 10) ≡ 2 = unfold decimal digitsOf in refl in
-    omega (arith, refused-length number, refused-length 10, decimal-below 1 number h)
 
 pub splits-length : (splits total : ℕ) → length (splitsLine splits total) ≡ length (decimal splits) + length (decimal total) + 13
 unfolding splitsLine

@@ -90,9 +90,6 @@ digits-most (suc d) (suc t) x h =
       | no l ↦ rw (le-ltb x 10 (omega arith), digitsOf, length-append) (omega (arith, digits-most d t (x / 10) (omega arith)))
     ]
 
-pub decimal-below : (d x : ℕ) → x < 10 ^ suc d → length (decimal x) ≤ suc d
-unfolding decimal
-decimal-below d x h = digits-most d (suc x) x h
-
 pub decimal-most : (x : ℕ) → x < 2 ^ 64 → length (decimal x) ≤ 20
-decimal-most x h = decimal-below 19 x (omega arith)
+unfolding decimal
+decimal-most x h = digits-most 19 (suc x) x (omega arith)

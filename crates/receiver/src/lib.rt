@@ -11,7 +11,6 @@ use crate::report::put_refused;
 use crate::stages::load;
 use crate::text::put_bytes;
 use parity::Refusal;
-use parity::number;
 ghost use mathlib.Core.Path.{_≡_};
 ghost use lib.ListN.{length};
 ghost use Rattle.parity.specs.Mend.{mend as mendText};
@@ -44,7 +43,7 @@ pub fn put_text(out: &mut [u8; 4096], input: &[u8]) -> usize
     ensures { λ r. ⌜ Placed (now (out .entry)) 0 (mendText (now (input .entry))) (now (out .exit)) r ⌝ }
 {
     if is_wrong(input) {
-        return put_refused(out, number(Refusal::ProgramInput));
+        return put_refused(out, Refusal::ProgramInput);
     }
     let w = size(input);
     let start = 4 + 4 * w;

@@ -2,9 +2,12 @@
 use crate::text::put_byte;
 use crate::text::put_bytes;
 use crate::text::put_decimal;
+use parity::Refusal;
+use parity::number;
 ghost use mathlib.Core.Path.{_≡_};
 ghost use Prim.Native.Nat.{_+_, _≤_};
 ghost use lib.ListN.{length};
+ghost use Rattle.parity.specs.Causes.{refusalOf};
 ghost use Rattle.parity.specs.Mend.{residueText, shown, refusedLine, report};
 ghost use Rattle.receiver.specs.Placed.{Placed};
 ghost use Rattle.receiver.specs.Lines.{Bytes, leftText, wordText, splitsLine, residueLine, wordLine};
@@ -120,12 +123,13 @@ pub fn put_report(out: &mut [u8], splits: u64, sum: u64, word: &[u8], n: usize) 
 }
 
 // Puts a refusal's line.
-pub fn put_refused(out: &mut [u8], number: u64) -> usize
-    requires { ⌜ length (refusedLine number) ≤ length (now out) ⌝ }
-    ensures { λ r. ⌜ Placed (now (out .entry)) 0 (refusedLine number) (now (out .exit)) r ⌝ }
+pub fn put_refused(out: &mut [u8], refusal: Refusal) -> usize
+    requires { ⌜ length (refusedLine (refusalOf refusal .number)) ≤ length (now out) ⌝ }
+    ensures { λ r. ⌜ Placed (now (out .entry)) 0 (refusedLine (refusalOf refusal .number)) (now (out .exit)) r ⌝ }
 {
+    let cause = number(refusal);
     let head = REFUSED;
     let mut next = put_bytes(out, 0, &head);
-    next = put_decimal(out, next, number);
+    next = put_decimal(out, next, cause);
     put_byte(out, next, LINE_END)
 }

@@ -3,7 +3,6 @@ use crate::report::put_refused;
 use crate::report::put_report;
 use crate::text::put_bytes;
 use parity::Refusal;
-use parity::number;
 use peel::Peeled;
 use record::Loading;
 use split::Orthogonalising;
@@ -45,7 +44,7 @@ fn peel_word(
     ensures { λ r. ⌜ Placed (now (out .entry)) 0 (peelText (now (words .entry)) n m k splits sum (now (word .entry))) (now (out .exit)) r ⌝ }
 {
     match peel::peel(words, n, m, k, word) {
-        Peeled::Refused(r) => put_refused(out, number(r)),
+        Peeled::Refused(r) => put_refused(out, r),
         Peeled::Made {
             recovered: _,
             left: _,
@@ -69,7 +68,7 @@ fn peel_sent(
     ensures { λ r. ⌜ Placed (now (out .entry)) 0 (peelText (now (words .entry)) n m k splits sum (now (sent .entry) ++ replicate k 2)) (now (out .exit)) r ⌝ }
 {
     if sent.len() != n {
-        return put_refused(out, number(Refusal::WrongLength));
+        return put_refused(out, Refusal::WrongLength);
     }
     let mut word = erased_word();
     put_bytes(&mut word, 0, sent);
@@ -82,7 +81,7 @@ fn orthogonalise(out: &mut [u8], words: &mut [u64], n: usize, m: usize, sent: &[
     ensures { λ r. ⌜ Placed (now (out .entry)) 0 (orthogonaliseText (now (words .entry)) n m (now (sent .entry))) (now (out .exit)) r ⌝ }
 {
     match split::orthogonalise(words, n, m, 0) {
-        Orthogonalising::Refused(r) => put_refused(out, number(r)),
+        Orthogonalising::Refused(r) => put_refused(out, r),
         Orthogonalising::Finished { splits, sum, k } => peel_sent(
             out,
             words,
@@ -103,7 +102,7 @@ pub fn load(out: &mut [u8], source: &[u32], sent: &[u8]) -> usize
 {
     let mut words = empty_words();
     match record::load(source, &mut words) {
-        Loading::Refused(r) => put_refused(out, number(r)),
+        Loading::Refused(r) => put_refused(out, r),
         Loading::Loaded { n, m } => orthogonalise(out, &mut words, n, m, sent),
     }
 }

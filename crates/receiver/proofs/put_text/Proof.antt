@@ -12,19 +12,16 @@ use Rattle.receiver.proofs.put_text.Tie as tie
 is-wrong-requires : tie.Need-is-wrong-requires
 is-wrong-requires c κs = search needs
 
-number-requires : tie.Need-number-requires
-number-requires c κs = search needs
-
 put-refused-requires : tie.Need-put-refused-requires
 put-refused-requires c κs =
-    let input = c .before .before .before .before .before .args .input .now in
-    rw (c .number .ensures, wrong-mend input (sym (c .before .before .before .is-wrong .ensures) ∙ c .before .before .if1 .taken)) (omega (arith, mend-fits input))
+    let input = c .before .before .before .before .args .input .now in
+    rw (wrong-mend input (sym (c .before .before .is-wrong .ensures) ∙ c .before .if1 .taken)) (omega (arith, mend-fits input))
 
 returns : tie.Need-returns
 returns c =
-    let input = c .before .before .before .before .before .before .args .input .now in
+    let input = c .before .before .before .before .before .args .input .now in
     same-text
-    (rw (c .before .number .ensures) (wrong-mend input (sym (c .before .before .before .before .is-wrong .ensures) ∙ c .before .before .before .if1 .taken)))
+    (wrong-mend input (sym (c .before .before .before .is-wrong .ensures) ∙ c .before .before .if1 .taken))
     (c .put-refused .ensures)
 
 size-requires : tie.Need-size-requires
@@ -79,7 +76,6 @@ put-text-spec =
     tie.close
     (tie.spec
     is-wrong-requires
-    number-requires
     put-refused-requires
     returns
     size-requires

@@ -19,17 +19,14 @@ load-requires c κs = search needs
 enum-known-r : tie.Need-enum-known-r
 enum-known-r c = search needs
 
-number-requires : tie.Need-number-requires
-number-requires c κs = search needs
-
 put-refused-requires : tie.Need-put-refused-requires
 put-refused-requires c κs =
-    let a = c .before .before .before .before .before .before .before .before .before .before .before .before .args in
-    let p = c .before .before .before .before .before .before .load in
-    let z = c .before .before .before .before .before .before .before .before .empty-words in
-    let g = c .before .before .before .r .given in
+    let a = c .before .before .before .before .before .before .before .before .before .before .before .args in
+    let p = c .before .before .before .before .before .load in
+    let z = c .before .before .before .before .before .before .before .empty-words in
+    let g = c .before .before .r .given in
     let e = sym (ap loadReplyOf (g .1)) ∙ p .ensures .0 in
-    rw (c .number .ensures, load-refused (z .result) (a .source .now) (a .sent .now) (g .0 .0) e, load-zero (z .result) (a .source .now) (a .sent .now) (z .ensures)) (c .before .before .before .before .before .before .before .before .before .before .before .before .pre)
+    rw (load-refused (z .result) (a .source .now) (a .sent .now) (g .0 .0) e, load-zero (z .result) (a .source .now) (a .sent .now) (z .ensures)) (c .before .before .before .before .before .before .before .before .before .before .before .pre)
 
 enum-known-n : tie.Need-enum-known-n
 enum-known-n c = search needs
@@ -51,13 +48,13 @@ same-length c = search needs
 
 returns : tie.Need-returns
 returns c =
-    let a = c .before .before .before .before .before .before .before .before .before .before .before .before .before .before .before .args in
-    let p = c .before .before .before .before .before .before .before .before .before .load in
-    let z = c .before .before .before .before .before .before .before .before .before .before .before .empty-words in
-    let g = c .before .before .before .before .before .before .r .given in
+    let a = c .before .before .before .before .before .before .before .before .before .before .before .before .before .before .args in
+    let p = c .before .before .before .before .before .before .before .before .load in
+    let z = c .before .before .before .before .before .before .before .before .before .before .empty-words in
+    let g = c .before .before .before .before .before .r .given in
     let e = sym (ap loadReplyOf (g .1)) ∙ p .ensures .0 in
     same-text
-    (rw (c .before .before .before .number .ensures) (load-refused (z .result) (a .source .now) (a .sent .now) (g .0 .0) e) ∙ load-zero (z .result) (a .source .now) (a .sent .now) (z .ensures))
+    (load-refused (z .result) (a .source .now) (a .sent .now) (g .0 .0) e ∙ load-zero (z .result) (a .source .now) (a .sent .now) (z .ensures))
     (c .before .before .put-refused .ensures)
 
 same-length-2 : tie.Need-same-length-2
@@ -82,7 +79,6 @@ load-spec =
     slice-aggregate-load
     load-requires
     enum-known-r
-    number-requires
     put-refused-requires
     enum-known-n
     slice-aggregate-orthogonalise

@@ -13,16 +13,13 @@ orthogonalise-requires c κs = search needs
 enum-known-r : tie.Need-enum-known-r
 enum-known-r c = search needs
 
-number-requires : tie.Need-number-requires
-number-requires c κs = search needs
-
 put-refused-requires : tie.Need-put-refused-requires
 put-refused-requires c κs =
-    let a = c .before .before .before .before .before .before .before .before .before .before .before .before .args in
-    let p = c .before .before .before .before .before .before .before .orthogonalise in
-    let g = c .before .before .before .r .given in
+    let a = c .before .before .before .before .before .before .before .before .before .before .before .args in
+    let p = c .before .before .before .before .before .before .orthogonalise in
+    let g = c .before .before .r .given in
     let e = sym (ap orthogonalisingReply (g .1)) ∙ p .ensures .0 in
-    rw (c .number .ensures, orthogonalise-refused (a .words .now) (a .n) (a .m) (a .sent .now) (g .0 .0) e) (c .before .before .before .before .before .before .before .before .before .before .before .before .pre)
+    rw (orthogonalise-refused (a .words .now) (a .n) (a .m) (a .sent .now) (g .0 .0) e) (c .before .before .before .before .before .before .before .before .before .before .before .pre)
 
 enum-known-splits : tie.Need-enum-known-splits
 enum-known-splits c = search needs
@@ -45,12 +42,12 @@ same-length-2 c = search needs
 
 returns : tie.Need-returns
 returns c =
-    let a = c .before .before .before .before .before .before .before .before .before .before .before .before .before .before .before .args in
-    let p = c .before .before .before .before .before .before .before .before .before .before .orthogonalise in
-    let g = c .before .before .before .before .before .before .r .given in
+    let a = c .before .before .before .before .before .before .before .before .before .before .before .before .before .before .args in
+    let p = c .before .before .before .before .before .before .before .before .before .orthogonalise in
+    let g = c .before .before .before .before .before .r .given in
     let e = sym (ap orthogonalisingReply (g .1)) ∙ p .ensures .0 in
     same-text
-    (rw (c .before .before .before .number .ensures) (orthogonalise-refused (a .words .now) (a .n) (a .m) (a .sent .now) (g .0 .0) e))
+    (orthogonalise-refused (a .words .now) (a .n) (a .m) (a .sent .now) (g .0 .0) e)
     (c .before .before .put-refused .ensures)
 
 same-length-3 : tie.Need-same-length-3
@@ -75,7 +72,6 @@ orthogonalise-spec =
     (tie.spec
     orthogonalise-requires
     enum-known-r
-    number-requires
     put-refused-requires
     enum-known-splits
     peel-sent-requires

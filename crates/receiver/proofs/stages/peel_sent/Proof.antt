@@ -6,31 +6,30 @@ use borrow.Author.Needs.{needs}
 use native.Mathlib.Omega.{arith}
 use lib.ListN.{length}
 use lib.Seq.{length-take-le}
+use Rattle.parity.specs.Mend.{digitsOf, decimal, refusedLine}
 use Rattle.parity.proofs.Accept.{accepts}
 use Rattle.receiver.specs.Stages.{peelText}
-use Rattle.receiver.proofs.Lines.{same-text, two-digits}
+use Rattle.receiver.proofs.Lines.{same-text}
 use Rattle.receiver.proofs.Passing.{peel-short, length-erased, erased-rest}
 use Rattle.receiver.proofs.stages.peel_sent.Statement.{statement}
 use Rattle.receiver.proofs.stages.peel_sent.Tie as tie
 
-number-requires : tie.Need-number-requires
-number-requires c κs = search needs
-
 put-refused-requires : tie.Need-put-refused-requires
+unfolding refusedLine decimal digitsOf
 put-refused-requires c κs =
-    let a = c .before .before .before .before .before .before .args in
-    let q = c .before .before .before .before .before .before .pre in
-    let e = peel-short (a .words .now) (a .n) (a .m) (a .k) (a .splits) (a .sum) (a .sent .now) (q .1) (c .before .before .if1 .taken) in
-    omega (arith, two-digits (c .number .result) (omega (arith, c .number .ensures)), ap length e, q .0)
+    let a = c .before .before .before .before .before .args in
+    let q = c .before .before .before .before .before .pre in
+    let e = peel-short (a .words .now) (a .n) (a .m) (a .k) (a .splits) (a .sum) (a .sent .now) (q .1) (c .before .if1 .taken) in
+    omega (arith, ap length e, q .0)
 
 same-length : tie.Need-same-length
 same-length c = search needs
 
 returns : tie.Need-returns
 returns c =
-    let a = c .before .before .before .before .before .before .before .before .before .args in
+    let a = c .before .before .before .before .before .before .before .before .args in
     same-text
-    (rw (c .before .before .before .number .ensures) (peel-short (a .words .now) (a .n) (a .m) (a .k) (a .splits) (a .sum) (a .sent .now) (c .before .before .before .before .before .before .before .before .before .pre .1) (search needs)))
+    (peel-short (a .words .now) (a .n) (a .m) (a .k) (a .splits) (a .sum) (a .sent .now) (c .before .before .before .before .before .before .before .before .pre .1) (search needs))
     (c .before .before .put-refused .ensures)
 
 erased-word-requires : tie.Need-erased-word-requires
@@ -93,7 +92,6 @@ pub peel-sent-spec : {M : Type 1} → statement M
 peel-sent-spec =
     tie.close
     (tie.spec
-    number-requires
     put-refused-requires
     same-length
     returns

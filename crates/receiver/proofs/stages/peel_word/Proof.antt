@@ -13,16 +13,13 @@ peel-requires c κs = search needs
 enum-known-r : tie.Need-enum-known-r
 enum-known-r c = search needs
 
-number-requires : tie.Need-number-requires
-number-requires c κs = search needs
-
 put-refused-requires : tie.Need-put-refused-requires
 put-refused-requires c κs =
-    let a = c .before .before .before .before .before .before .before .before .before .before .before .before .args in
-    let p = c .before .before .before .before .before .before .before .peel in
-    let g = c .before .before .before .r .given in
+    let a = c .before .before .before .before .before .before .before .before .before .before .before .args in
+    let p = c .before .before .before .before .before .before .peel in
+    let g = c .before .before .r .given in
     let e = sym (ap peelReplyOf (g .1)) ∙ p .ensures .0 in
-    rw (c .number .ensures, peel-refused (a .words .now) (a .n) (a .m) (a .k) (a .splits) (a .sum) (a .word .now) (g .0 .0) e) (c .before .before .before .before .before .before .before .before .before .before .before .before .pre .0)
+    rw (peel-refused (a .words .now) (a .n) (a .m) (a .k) (a .splits) (a .sum) (a .word .now) (g .0 .0) e) (c .before .before .before .before .before .before .before .before .before .before .before .pre .0)
 
 enum-told : tie.Need-enum-told
 enum-told c = search needs
@@ -45,12 +42,12 @@ same-length-2 c = search needs
 
 returns : tie.Need-returns
 returns c =
-    let a = c .before .before .before .before .before .before .before .before .before .before .before .before .before .before .before .args in
-    let p = c .before .before .before .before .before .before .before .before .before .before .peel in
-    let g = c .before .before .before .before .before .before .r .given in
+    let a = c .before .before .before .before .before .before .before .before .before .before .before .before .before .before .args in
+    let p = c .before .before .before .before .before .before .before .before .before .peel in
+    let g = c .before .before .before .before .before .r .given in
     let e = sym (ap peelReplyOf (g .1)) ∙ p .ensures .0 in
     same-text
-    (rw (c .before .before .before .number .ensures) (peel-refused (a .words .now) (a .n) (a .m) (a .k) (a .splits) (a .sum) (a .word .now) (g .0 .0) e))
+    (peel-refused (a .words .now) (a .n) (a .m) (a .k) (a .splits) (a .sum) (a .word .now) (g .0 .0) e)
     (c .before .before .put-refused .ensures)
 
 same-length-3 : tie.Need-same-length-3
@@ -75,7 +72,6 @@ peel-word-spec =
     (tie.spec
     peel-requires
     enum-known-r
-    number-requires
     put-refused-requires
     enum-told
     put-report-requires

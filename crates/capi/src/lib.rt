@@ -1,12 +1,9 @@
 // The calls for C: a slice is a pointer and then its length. Each returns 0 for an answer, or the refusal's number, and puts the values
 // that it carries at the front of `values`, as far as it reaches.
-mod carry;
-mod pass;
-
 use parity::Bit;
 ghost use mathlib.Core.Path.{_≡_};
 ghost use Rattle.parity.specs.Calls.{loadOutcome, writeOutcome, shareReply, countReply, splitOutcome, orthogonaliseOutcome, verifyReply, extendOutcome, isStoppingReply, peelOutcome, rankReply, encodeOutcome};
-ghost use Rattle.capi.specs.Passed.{Passed};
+ghost use Rattle.reply.specs.Passed.{Passed};
 
 // Carries n and m.
 #[no_mangle]
@@ -15,7 +12,7 @@ pub extern "C" fn parity_load(record: &[u32], words: &mut [u64], values: &mut [u
     ensures { λ r. ⌜ now (words .exit) ≡ loadOutcome (now («record» .entry)) (now (words .entry)) .after ⌝ }
 {
     let loading = record::load(record, words);
-    pass::loading(loading, values)
+    reply::loading(loading, values)
 }
 
 // Carries the number of words used.
@@ -32,7 +29,7 @@ pub extern "C" fn parity_write(
     ensures { λ r. ⌜ now («record» .exit) ≡ writeOutcome (now (words .entry)) n m k (now («record» .entry)) .after ⌝ }
 {
     let writing = record::write(words, n, m, k, record);
-    pass::writing(writing, values)
+    reply::writing(writing, values)
 }
 
 // Carries the share.
@@ -49,7 +46,7 @@ pub extern "C" fn parity_share(
     ensures { λ r. ⌜ Passed (shareReply (now (words .entry)) n m k u v) (now (values .entry)) (now (values .exit)) r ⌝ }
 {
     let sharing = cycles::share(words, n, m, k, Bit(u), Bit(v));
-    pass::sharing(sharing, values)
+    reply::sharing(sharing, values)
 }
 
 // Carries the cycle count.
@@ -64,7 +61,7 @@ pub extern "C" fn parity_count(
     ensures { λ r. ⌜ Passed (countReply (now (words .entry)) n m k) (now (values .entry)) (now (values .exit)) r ⌝ }
 {
     let counting = cycles::count(words, n, m, k);
-    pass::counting(counting, values)
+    reply::counting(counting, values)
 }
 
 // Carries the share and the new k.
@@ -82,7 +79,7 @@ pub extern "C" fn parity_split(
     ensures { λ r. ⌜ now (words .exit) ≡ splitOutcome (now (words .entry)) n m k u v .after ⌝ }
 {
     let splitting = split::split(words, n, m, k, Bit(u), Bit(v));
-    pass::splitting(splitting, values)
+    reply::splitting(splitting, values)
 }
 
 // Carries the number of splits, their sum and k, also when refused 9.
@@ -98,7 +95,7 @@ pub extern "C" fn parity_orthogonalise(
     ensures { λ r. ⌜ now (words .exit) ≡ orthogonaliseOutcome (now (words .entry)) n m k .after ⌝ }
 {
     let orthogonalising = split::orthogonalise(words, n, m, k);
-    pass::orthogonalising(orthogonalising, values)
+    reply::orthogonalising(orthogonalising, values)
 }
 
 // Carries 1 for yes, 0 for no.
@@ -114,7 +111,7 @@ pub extern "C" fn parity_verify(
     ensures { λ r. ⌜ Passed (verifyReply (now (words .entry)) n m k (now (word .entry))) (now (values .entry)) (now (values .exit)) r ⌝ }
 {
     let verified = word::verify(words, n, m, k, word);
-    pass::verified(verified, values)
+    reply::verified(verified, values)
 }
 
 // Carries nothing.
@@ -132,7 +129,7 @@ pub extern "C" fn parity_extend(
     ensures { λ r. ⌜ now (word .exit) ≡ extendOutcome (now (words .entry)) n m k (now (sent .entry)) (now (word .entry)) .after ⌝ }
 {
     let extension = word::extend(words, n, m, k, sent, word);
-    pass::extension(extension, values)
+    reply::extension(extension, values)
 }
 
 // Carries 1 for yes, 0 for no.
@@ -148,7 +145,7 @@ pub extern "C" fn parity_is_stopping(
     ensures { λ r. ⌜ Passed (isStoppingReply (now (words .entry)) n m k (now (set .entry))) (now (values .entry)) (now (values .exit)) r ⌝ }
 {
     let stopping = word::is_stopping(words, n, m, k, set);
-    pass::stopping(stopping, values)
+    reply::stopping(stopping, values)
 }
 
 // Carries how many bits were recovered and how many are left.
@@ -165,7 +162,7 @@ pub extern "C" fn parity_peel(
     ensures { λ r. ⌜ now (word .exit) ≡ peelOutcome (now (words .entry)) n m k (now (word .entry)) .after ⌝ }
 {
     let peeled = peel::peel(words, n, m, k, word);
-    pass::peeled(peeled, values)
+    reply::peeled(peeled, values)
 }
 
 // Carries the rank.
@@ -180,7 +177,7 @@ pub extern "C" fn parity_rank(
     ensures { λ r. ⌜ Passed (rankReply (now (words .entry)) n m k) (now (values .entry)) (now (values .exit)) r ⌝ }
 {
     let ranked = encode::rank(words, n, m, k);
-    pass::ranked(ranked, values)
+    reply::ranked(ranked, values)
 }
 
 // Carries nothing.
@@ -198,5 +195,5 @@ pub extern "C" fn parity_encode(
     ensures { λ r. ⌜ now (word .exit) ≡ encodeOutcome (now (words .entry)) n m k (now (message .entry)) (now (word .entry)) .after ⌝ }
 {
     let encoded = encode::encode(words, n, m, k, message, word);
-    pass::encoded(encoded, values)
+    reply::encoded(encoded, values)
 }

@@ -1,6 +1,6 @@
 -- `capi::parity_orthogonalise` meets its contract. Assumes nothing.
 use borrow.Author.Needs.{needs}
-use Rattle.capi.proofs.Passing.{same}
+use Rattle.reply.proofs.Passing.{same}
 use Rattle.capi.proofs.parity_orthogonalise.Statement.{statement}
 use Rattle.capi.proofs.parity_orthogonalise.Tie as tie
 

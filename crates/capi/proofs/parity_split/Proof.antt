@@ -1,6 +1,6 @@
 -- `capi::parity_split` meets its contract. Assumes nothing.
 use borrow.Author.Needs.{needs}
-use Rattle.capi.proofs.Passing.{same}
+use Rattle.reply.proofs.Passing.{same}
 use Rattle.capi.proofs.parity_split.Statement.{statement}
 use Rattle.capi.proofs.parity_split.Tie as tie
 

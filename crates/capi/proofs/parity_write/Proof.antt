@@ -1,6 +1,6 @@
 -- `capi::parity_write` meets its contract. Assumes nothing.
 use borrow.Author.Needs.{needs}
-use Rattle.capi.proofs.Passing.{same}
+use Rattle.reply.proofs.Passing.{same}
 use Rattle.capi.proofs.parity_write.Statement.{statement}
 use Rattle.capi.proofs.parity_write.Tie as tie
 

@@ -1,0 +1,24 @@
+-- `reply::carry::put` meets its contract. Assumes nothing.
+use borrow.Author.Needs.{needs}
+use lib.Seq.{set-out}
+use mathlib.Core.Path.{sym}
+use Rattle.reply.proofs.carry.put.Statement.{statement}
+use Rattle.reply.proofs.carry.put.Tie as tie
+
+mul-values : tie.Need-mul-values
+mul-values c = search needs
+
+slice-write-values : tie.Need-slice-write-values
+slice-write-values c = search needs
+
+same-length : tie.Need-same-length
+same-length c = search needs
+
+returns : tie.Need-returns
+returns c = search needs
+
+returns-2 : tie.Need-returns-2
+returns-2 c = let a = c .before .args in sym (set-out (a .values .now) (a .place) (a .value) (search needs))
+
+pub put-spec : {M : Type 1} → statement M
+put-spec = tie.close (tie.spec mul-values slice-write-values same-length returns returns-2)

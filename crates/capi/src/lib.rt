@@ -12,7 +12,8 @@ pub extern "C" fn parity_load(record: &[u32], words: &mut [u64], values: &mut [u
     ensures { λ r. ⌜ now (words .exit) ≡ loadOutcome (now («record» .entry)) (now (words .entry)) .after ⌝ }
 {
     let loading = record::load(record, words);
-    reply::loading(loading, values)
+    let numbered = reply::loading(loading);
+    reply::pass(numbered, values)
 }
 
 // Carries the number of words used.
@@ -29,7 +30,8 @@ pub extern "C" fn parity_write(
     ensures { λ r. ⌜ now («record» .exit) ≡ writeOutcome (now (words .entry)) n m k (now («record» .entry)) .after ⌝ }
 {
     let writing = record::write(words, n, m, k, record);
-    reply::writing(writing, values)
+    let numbered = reply::writing(writing);
+    reply::pass(numbered, values)
 }
 
 // Carries the share.
@@ -46,7 +48,8 @@ pub extern "C" fn parity_share(
     ensures { λ r. ⌜ Passed (shareReply (now (words .entry)) n m k u v) (now (values .entry)) (now (values .exit)) r ⌝ }
 {
     let sharing = cycles::share(words, n, m, k, Bit(u), Bit(v));
-    reply::sharing(sharing, values)
+    let numbered = reply::sharing(sharing);
+    reply::pass(numbered, values)
 }
 
 // Carries the cycle count.
@@ -61,7 +64,8 @@ pub extern "C" fn parity_count(
     ensures { λ r. ⌜ Passed (countReply (now (words .entry)) n m k) (now (values .entry)) (now (values .exit)) r ⌝ }
 {
     let counting = cycles::count(words, n, m, k);
-    reply::counting(counting, values)
+    let numbered = reply::counting(counting);
+    reply::pass(numbered, values)
 }
 
 // Carries the share and the new k.
@@ -79,7 +83,8 @@ pub extern "C" fn parity_split(
     ensures { λ r. ⌜ now (words .exit) ≡ splitOutcome (now (words .entry)) n m k u v .after ⌝ }
 {
     let splitting = split::split(words, n, m, k, Bit(u), Bit(v));
-    reply::splitting(splitting, values)
+    let numbered = reply::splitting(splitting);
+    reply::pass(numbered, values)
 }
 
 // Carries the number of splits, their sum and k, also when refused 9.
@@ -95,7 +100,8 @@ pub extern "C" fn parity_orthogonalise(
     ensures { λ r. ⌜ now (words .exit) ≡ orthogonaliseOutcome (now (words .entry)) n m k .after ⌝ }
 {
     let orthogonalising = split::orthogonalise(words, n, m, k);
-    reply::orthogonalising(orthogonalising, values)
+    let numbered = reply::orthogonalising(orthogonalising);
+    reply::pass(numbered, values)
 }
 
 // Carries 1 for yes, 0 for no.
@@ -111,7 +117,8 @@ pub extern "C" fn parity_verify(
     ensures { λ r. ⌜ Passed (verifyReply (now (words .entry)) n m k (now (word .entry))) (now (values .entry)) (now (values .exit)) r ⌝ }
 {
     let verified = word::verify(words, n, m, k, word);
-    reply::verified(verified, values)
+    let numbered = reply::verified(verified);
+    reply::pass(numbered, values)
 }
 
 // Carries nothing.
@@ -129,7 +136,8 @@ pub extern "C" fn parity_extend(
     ensures { λ r. ⌜ now (word .exit) ≡ extendOutcome (now (words .entry)) n m k (now (sent .entry)) (now (word .entry)) .after ⌝ }
 {
     let extension = word::extend(words, n, m, k, sent, word);
-    reply::extension(extension, values)
+    let numbered = reply::extension(extension);
+    reply::pass(numbered, values)
 }
 
 // Carries 1 for yes, 0 for no.
@@ -145,7 +153,8 @@ pub extern "C" fn parity_is_stopping(
     ensures { λ r. ⌜ Passed (isStoppingReply (now (words .entry)) n m k (now (set .entry))) (now (values .entry)) (now (values .exit)) r ⌝ }
 {
     let stopping = word::is_stopping(words, n, m, k, set);
-    reply::stopping(stopping, values)
+    let numbered = reply::stopping(stopping);
+    reply::pass(numbered, values)
 }
 
 // Carries how many bits were recovered and how many are left.
@@ -162,7 +171,8 @@ pub extern "C" fn parity_peel(
     ensures { λ r. ⌜ now (word .exit) ≡ peelOutcome (now (words .entry)) n m k (now (word .entry)) .after ⌝ }
 {
     let peeled = peel::peel(words, n, m, k, word);
-    reply::peeled(peeled, values)
+    let numbered = reply::peeled(peeled);
+    reply::pass(numbered, values)
 }
 
 // Carries the rank.
@@ -177,7 +187,8 @@ pub extern "C" fn parity_rank(
     ensures { λ r. ⌜ Passed (rankReply (now (words .entry)) n m k) (now (values .entry)) (now (values .exit)) r ⌝ }
 {
     let ranked = encode::rank(words, n, m, k);
-    reply::ranked(ranked, values)
+    let numbered = reply::ranked(ranked);
+    reply::pass(numbered, values)
 }
 
 // Carries nothing.
@@ -195,5 +206,6 @@ pub extern "C" fn parity_encode(
     ensures { λ r. ⌜ now (word .exit) ≡ encodeOutcome (now (words .entry)) n m k (now (message .entry)) (now (word .entry)) .after ⌝ }
 {
     let encoded = encode::encode(words, n, m, k, message, word);
-    reply::encoded(encoded, values)
+    let numbered = reply::encoded(encoded);
+    reply::pass(numbered, values)
 }

@@ -1,9 +1,4 @@
-// Passing each call's answer, or its refusal, as document 01's number and values.
-mod carry;
-
-use crate::carry::one;
-use crate::carry::three;
-use crate::carry::two;
+// Each call's answer, or its refusal, as document 01's number and values, and passing these to a caller in C.
 use cycles::Counting;
 use cycles::Sharing;
 use encode::Encoded;
@@ -17,6 +12,8 @@ use split::Splitting;
 use word::Extension;
 use word::Stopping;
 use word::Verified;
+ghost use mathlib.Core.Path.{_≡_};
+ghost use lib.ListN.{set};
 ghost use Rattle.parity.specs.Causes.{refusalOf};
 ghost use Rattle.record.specs.Replies.{loadReplyOf, writeReplyOf};
 ghost use Rattle.cycles.specs.Answers.{sharingReply, countingReply};
@@ -25,149 +22,190 @@ ghost use Rattle.word.specs.Answers.{verifyReplyOf, stoppingReplyOf};
 ghost use Rattle.word.specs.Extending.{extendReplyOf};
 ghost use Rattle.peel.specs.Answers.{peelReplyOf};
 ghost use Rattle.encode.specs.Answers.{rankReplyOf, encodeReplyOf};
-ghost use Rattle.reply.specs.Passed.{Passed};
+ghost use Rattle.reply.specs.Passed.{numberedReply, Passed};
 
-// Passes a refusal.
-fn refused(why: Refusal, values: &mut [u64]) -> u32
-    ensures { λ r. ⌜ Passed (refusalOf why) (now (values .entry)) (now (values .exit)) r ⌝ }
+// A number and the values that it carries.
+pub enum Numbered {
+    Alone(u32),
+    One(u32, u64),
+    Two(u32, u64, u64),
+    Three(u32, u64, u64, u64),
+}
+
+// A refusal.
+fn refused(why: Refusal) -> Numbered
+    ensures { λ r. ⌜ numberedReply r ≡ refusalOf why ⌝ }
 {
     match why {
-        Refusal::MatrixLength => 1,
-        Refusal::OutOfRange => 2,
-        Refusal::OneOutside => 3,
-        Refusal::RuleABroken => 4,
-        Refusal::FaultyWord { place } => one(5, place as u64, values),
-        Refusal::RecordTooShort { needed } => one(6, needed as u64, values),
-        Refusal::NotAPair => 7,
-        Refusal::ShareBelowTwo { share } => one(8, share, values),
-        Refusal::NoRoomToSplit => 9,
-        Refusal::NoRoomLeft { splits, sum, k } => three(9, splits, sum, k as u64, values),
-        Refusal::WrongLength => 10,
-        Refusal::WrongByte { place } => one(11, place as u64, values),
-        Refusal::Contradiction => 12,
-        Refusal::AddedBits => 13,
-        Refusal::ProgramInput => 14,
+        Refusal::MatrixLength => Numbered::Alone(1),
+        Refusal::OutOfRange => Numbered::Alone(2),
+        Refusal::OneOutside => Numbered::Alone(3),
+        Refusal::RuleABroken => Numbered::Alone(4),
+        Refusal::FaultyWord { place } => Numbered::One(5, place as u64),
+        Refusal::RecordTooShort { needed } => Numbered::One(6, needed as u64),
+        Refusal::NotAPair => Numbered::Alone(7),
+        Refusal::ShareBelowTwo { share } => Numbered::One(8, share),
+        Refusal::NoRoomToSplit => Numbered::Alone(9),
+        Refusal::NoRoomLeft { splits, sum, k } => Numbered::Three(9, splits, sum, k as u64),
+        Refusal::WrongLength => Numbered::Alone(10),
+        Refusal::WrongByte { place } => Numbered::One(11, place as u64),
+        Refusal::Contradiction => Numbered::Alone(12),
+        Refusal::AddedBits => Numbered::Alone(13),
+        Refusal::ProgramInput => Numbered::Alone(14),
     }
 }
 
-// Passes what loading answers.
-pub fn loading(answer: Loading, values: &mut [u64]) -> u32
-    ensures { λ r. ⌜ Passed (loadReplyOf answer) (now (values .entry)) (now (values .exit)) r ⌝ }
+// What loading answers.
+pub fn loading(answer: Loading) -> Numbered
+    ensures { λ r. ⌜ numberedReply r ≡ loadReplyOf answer ⌝ }
 {
     match answer {
-        Loading::Loaded { n, m } => two(0, n as u64, m as u64, values),
-        Loading::Refused(why) => refused(why, values),
+        Loading::Loaded { n, m } => Numbered::Two(0, n as u64, m as u64),
+        Loading::Refused(why) => refused(why),
     }
 }
 
-// Passes what writing answers.
-pub fn writing(answer: Writing, values: &mut [u64]) -> u32
-    ensures { λ r. ⌜ Passed (writeReplyOf answer) (now (values .entry)) (now (values .exit)) r ⌝ }
+// What writing answers.
+pub fn writing(answer: Writing) -> Numbered
+    ensures { λ r. ⌜ numberedReply r ≡ writeReplyOf answer ⌝ }
 {
     match answer {
-        Writing::Written { used } => one(0, used as u64, values),
-        Writing::Refused(why) => refused(why, values),
+        Writing::Written { used } => Numbered::One(0, used as u64),
+        Writing::Refused(why) => refused(why),
     }
 }
 
-// Passes what the share call answers.
-pub fn sharing(answer: Sharing, values: &mut [u64]) -> u32
-    ensures { λ r. ⌜ Passed (sharingReply answer) (now (values .entry)) (now (values .exit)) r ⌝ }
+// What the share call answers.
+pub fn sharing(answer: Sharing) -> Numbered
+    ensures { λ r. ⌜ numberedReply r ≡ sharingReply answer ⌝ }
 {
     match answer {
-        Sharing::Share(s) => one(0, s, values),
-        Sharing::Refused(why) => refused(why, values),
+        Sharing::Share(s) => Numbered::One(0, s),
+        Sharing::Refused(why) => refused(why),
     }
 }
 
-// Passes what counting answers.
-pub fn counting(answer: Counting, values: &mut [u64]) -> u32
-    ensures { λ r. ⌜ Passed (countingReply answer) (now (values .entry)) (now (values .exit)) r ⌝ }
+// What counting answers.
+pub fn counting(answer: Counting) -> Numbered
+    ensures { λ r. ⌜ numberedReply r ≡ countingReply answer ⌝ }
 {
     match answer {
-        Counting::Cycles(count) => one(0, count, values),
-        Counting::Refused(why) => refused(why, values),
+        Counting::Cycles(count) => Numbered::One(0, count),
+        Counting::Refused(why) => refused(why),
     }
 }
 
-// Passes what a split answers.
-pub fn splitting(answer: Splitting, values: &mut [u64]) -> u32
-    ensures { λ r. ⌜ Passed (splittingReply answer) (now (values .entry)) (now (values .exit)) r ⌝ }
+// What a split answers.
+pub fn splitting(answer: Splitting) -> Numbered
+    ensures { λ r. ⌜ numberedReply r ≡ splittingReply answer ⌝ }
 {
     match answer {
-        Splitting::Made { share, k } => two(0, share, k as u64, values),
-        Splitting::Refused(why) => refused(why, values),
+        Splitting::Made { share, k } => Numbered::Two(0, share, k as u64),
+        Splitting::Refused(why) => refused(why),
     }
 }
 
-// Passes what orthogonalising answers.
-pub fn orthogonalising(answer: Orthogonalising, values: &mut [u64]) -> u32
-    ensures { λ r. ⌜ Passed (orthogonalisingReply answer) (now (values .entry)) (now (values .exit)) r ⌝ }
+// What orthogonalising answers.
+pub fn orthogonalising(answer: Orthogonalising) -> Numbered
+    ensures { λ r. ⌜ numberedReply r ≡ orthogonalisingReply answer ⌝ }
 {
     match answer {
-        Orthogonalising::Finished { splits, sum, k } => three(0, splits, sum, k as u64, values),
-        Orthogonalising::Refused(why) => refused(why, values),
+        Orthogonalising::Finished { splits, sum, k } => Numbered::Three(0, splits, sum, k as u64),
+        Orthogonalising::Refused(why) => refused(why),
     }
 }
 
-// Passes what verifying answers.
-pub fn verified(answer: Verified, values: &mut [u64]) -> u32
-    ensures { λ r. ⌜ Passed (verifyReplyOf answer) (now (values .entry)) (now (values .exit)) r ⌝ }
+// What verifying answers.
+pub fn verified(answer: Verified) -> Numbered
+    ensures { λ r. ⌜ numberedReply r ≡ verifyReplyOf answer ⌝ }
 {
     match answer {
-        Verified::Yes => one(0, 1, values),
-        Verified::No => one(0, 0, values),
-        Verified::Refused(why) => refused(why, values),
+        Verified::Yes => Numbered::One(0, 1),
+        Verified::No => Numbered::One(0, 0),
+        Verified::Refused(why) => refused(why),
     }
 }
 
-// Passes what the stopping-set test answers.
-pub fn stopping(answer: Stopping, values: &mut [u64]) -> u32
-    ensures { λ r. ⌜ Passed (stoppingReplyOf answer) (now (values .entry)) (now (values .exit)) r ⌝ }
+// What the stopping-set test answers.
+pub fn stopping(answer: Stopping) -> Numbered
+    ensures { λ r. ⌜ numberedReply r ≡ stoppingReplyOf answer ⌝ }
 {
     match answer {
-        Stopping::Yes => one(0, 1, values),
-        Stopping::No => one(0, 0, values),
-        Stopping::Refused(why) => refused(why, values),
+        Stopping::Yes => Numbered::One(0, 1),
+        Stopping::No => Numbered::One(0, 0),
+        Stopping::Refused(why) => refused(why),
     }
 }
 
-// Passes what extending answers.
-pub fn extension(answer: Extension, values: &mut [u64]) -> u32
-    ensures { λ r. ⌜ Passed (extendReplyOf answer) (now (values .entry)) (now (values .exit)) r ⌝ }
+// What extending answers.
+pub fn extension(answer: Extension) -> Numbered
+    ensures { λ r. ⌜ numberedReply r ≡ extendReplyOf answer ⌝ }
 {
     match answer {
-        Extension::Written => 0,
-        Extension::Refused(why) => refused(why, values),
+        Extension::Written => Numbered::Alone(0),
+        Extension::Refused(why) => refused(why),
     }
 }
 
-// Passes what peeling answers.
-pub fn peeled(answer: Peeled, values: &mut [u64]) -> u32
-    ensures { λ r. ⌜ Passed (peelReplyOf answer) (now (values .entry)) (now (values .exit)) r ⌝ }
+// What peeling answers.
+pub fn peeled(answer: Peeled) -> Numbered
+    ensures { λ r. ⌜ numberedReply r ≡ peelReplyOf answer ⌝ }
 {
     match answer {
-        Peeled::Made { recovered, left } => two(0, recovered, left, values),
-        Peeled::Refused(why) => refused(why, values),
+        Peeled::Made { recovered, left } => Numbered::Two(0, recovered, left),
+        Peeled::Refused(why) => refused(why),
     }
 }
 
-// Passes what the rank call answers.
-pub fn ranked(answer: Ranked, values: &mut [u64]) -> u32
-    ensures { λ r. ⌜ Passed (rankReplyOf answer) (now (values .entry)) (now (values .exit)) r ⌝ }
+// What the rank call answers.
+pub fn ranked(answer: Ranked) -> Numbered
+    ensures { λ r. ⌜ numberedReply r ≡ rankReplyOf answer ⌝ }
 {
     match answer {
-        Ranked::Rank { rank } => one(0, rank, values),
-        Ranked::Refused(why) => refused(why, values),
+        Ranked::Rank { rank } => Numbered::One(0, rank),
+        Ranked::Refused(why) => refused(why),
     }
 }
 
-// Passes what encoding answers.
-pub fn encoded(answer: Encoded, values: &mut [u64]) -> u32
-    ensures { λ r. ⌜ Passed (encodeReplyOf answer) (now (values .entry)) (now (values .exit)) r ⌝ }
+// What encoding answers.
+pub fn encoded(answer: Encoded) -> Numbered
+    ensures { λ r. ⌜ numberedReply r ≡ encodeReplyOf answer ⌝ }
 {
     match answer {
-        Encoded::Written => 0,
-        Encoded::Refused(why) => refused(why, values),
+        Encoded::Written => Numbered::Alone(0),
+        Encoded::Refused(why) => refused(why),
+    }
+}
+
+// Puts one value at a place, if there is such a place.
+fn put(values: &mut [u64], place: usize, value: u64)
+    ensures { λ _. ⌜ now (values .exit) ≡ set (now (values .entry)) place value ⌝ }
+{
+    if place < values.len() {
+        values[place] = value;
+    }
+}
+
+// Passes a reply: returns its number, and puts its values at the front of the lent slice, as far as that reaches.
+pub fn pass(reply: Numbered, values: &mut [u64]) -> u32
+    ensures { λ r. ⌜ Passed (numberedReply reply) (now (values .entry)) (now (values .exit)) r ⌝ }
+{
+    match reply {
+        Numbered::Alone(number) => number,
+        Numbered::One(number, first) => {
+            put(values, 0, first);
+            number
+        }
+        Numbered::Two(number, first, second) => {
+            put(values, 0, first);
+            put(values, 1, second);
+            number
+        }
+        Numbered::Three(number, first, second, third) => {
+            put(values, 0, first);
+            put(values, 1, second);
+            put(values, 2, third);
+            number
+        }
     }
 }

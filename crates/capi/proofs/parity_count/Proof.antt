@@ -1,5 +1,6 @@
 -- `capi::parity_count` meets its contract. Assumes nothing.
 use borrow.Author.Needs.{needs}
+use mathlib.Core.Path.{_∙_}
 use Rattle.reply.proofs.Passing.{same}
 use Rattle.capi.proofs.parity_count.Statement.{statement}
 use Rattle.capi.proofs.parity_count.Tie as tie
@@ -10,11 +11,14 @@ count-requires c κs = search needs
 counting-requires : tie.Need-counting-requires
 counting-requires c κs = search needs
 
+pass-requires : tie.Need-pass-requires
+pass-requires c κs = search needs
+
 same-length : tie.Need-same-length
 same-length c = search needs
 
 returns : tie.Need-returns
-returns c = same (c .before .before .before .before .count .ensures) (c .before .before .counting .ensures)
+returns c = same (c .before .before .before .before .counting .ensures ∙ c .before .before .before .before .before .count .ensures) (c .before .before .pass .ensures)
 
 pub parity-count-spec : {M : Type 1} → statement M
-parity-count-spec = tie.close (tie.spec count-requires counting-requires same-length returns)
+parity-count-spec = tie.close (tie.spec count-requires counting-requires pass-requires same-length returns)

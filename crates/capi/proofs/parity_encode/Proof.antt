@@ -1,5 +1,6 @@
 -- `capi::parity_encode` meets its contract. Assumes nothing.
 use borrow.Author.Needs.{needs}
+use mathlib.Core.Path.{_∙_}
 use Rattle.reply.proofs.Passing.{same}
 use Rattle.capi.proofs.parity_encode.Statement.{statement}
 use Rattle.capi.proofs.parity_encode.Tie as tie
@@ -10,6 +11,9 @@ encode-requires c κs = search needs
 encoded-requires : tie.Need-encoded-requires
 encoded-requires c κs = search needs
 
+pass-requires : tie.Need-pass-requires
+pass-requires c κs = search needs
+
 same-length : tie.Need-same-length
 same-length c = search needs
 
@@ -17,8 +21,8 @@ same-length-2 : tie.Need-same-length-2
 same-length-2 c = search needs
 
 returns : tie.Need-returns
-returns c = (same (c .before .before .before .before .before .before .encode .ensures .0) (c .before .before .encoded .ensures), c .before .before .before .before .before .before .encode .ensures .1)
+returns c = (same (c .before .before .before .before .encoded .ensures ∙ c .before .before .before .before .before .before .before .encode .ensures .0) (c .before .before .pass .ensures), c .before .before .before .before .before .before .before .encode .ensures .1)
 
 pub parity-encode-spec : {M : Type 1} → statement M
 parity-encode-spec =
-    tie.close (tie.spec encode-requires encoded-requires same-length same-length-2 returns)
+    tie.close (tie.spec encode-requires encoded-requires pass-requires same-length same-length-2 returns)

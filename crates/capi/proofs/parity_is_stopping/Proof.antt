@@ -1,5 +1,6 @@
 -- `capi::parity_is_stopping` meets its contract. Assumes nothing.
 use borrow.Author.Needs.{needs}
+use mathlib.Core.Path.{_∙_}
 use Rattle.reply.proofs.Passing.{same}
 use Rattle.capi.proofs.parity_is_stopping.Statement.{statement}
 use Rattle.capi.proofs.parity_is_stopping.Tie as tie
@@ -10,12 +11,15 @@ is-stopping-requires c κs = search needs
 stopping-requires : tie.Need-stopping-requires
 stopping-requires c κs = search needs
 
+pass-requires : tie.Need-pass-requires
+pass-requires c κs = search needs
+
 same-length : tie.Need-same-length
 same-length c = search needs
 
 returns : tie.Need-returns
-returns c = same (c .before .before .before .before .is-stopping .ensures) (c .before .before .stopping .ensures)
+returns c = same (c .before .before .before .before .stopping .ensures ∙ c .before .before .before .before .before .is-stopping .ensures) (c .before .before .pass .ensures)
 
 pub parity-is-stopping-spec : {M : Type 1} → statement M
 parity-is-stopping-spec =
-    tie.close (tie.spec is-stopping-requires stopping-requires same-length returns)
+    tie.close (tie.spec is-stopping-requires stopping-requires pass-requires same-length returns)

@@ -1,5 +1,6 @@
 -- `capi::parity_load` meets its contract. Assumes nothing.
 use borrow.Author.Needs.{needs}
+use mathlib.Core.Path.{_∙_}
 use Rattle.reply.proofs.Passing.{same}
 use Rattle.capi.proofs.parity_load.Statement.{statement}
 use Rattle.capi.proofs.parity_load.Tie as tie
@@ -10,6 +11,9 @@ load-requires c κs = search needs
 loading-requires : tie.Need-loading-requires
 loading-requires c κs = search needs
 
+pass-requires : tie.Need-pass-requires
+pass-requires c κs = search needs
+
 same-length : tie.Need-same-length
 same-length c = search needs
 
@@ -17,8 +21,8 @@ same-length-2 : tie.Need-same-length-2
 same-length-2 c = search needs
 
 returns : tie.Need-returns
-returns c = (same (c .before .before .before .before .before .before .load .ensures .0) (c .before .before .loading .ensures), c .before .before .before .before .before .before .load .ensures .1)
+returns c = (same (c .before .before .before .before .loading .ensures ∙ c .before .before .before .before .before .before .before .load .ensures .0) (c .before .before .pass .ensures), c .before .before .before .before .before .before .before .load .ensures .1)
 
 pub parity-load-spec : {M : Type 1} → statement M
 parity-load-spec =
-    tie.close (tie.spec load-requires loading-requires same-length same-length-2 returns)
+    tie.close (tie.spec load-requires loading-requires pass-requires same-length same-length-2 returns)

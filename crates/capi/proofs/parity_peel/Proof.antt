@@ -1,5 +1,6 @@
 -- `capi::parity_peel` meets its contract. Assumes nothing.
 use borrow.Author.Needs.{needs}
+use mathlib.Core.Path.{_∙_}
 use Rattle.reply.proofs.Passing.{same}
 use Rattle.capi.proofs.parity_peel.Statement.{statement}
 use Rattle.capi.proofs.parity_peel.Tie as tie
@@ -10,6 +11,9 @@ peel-requires c κs = search needs
 peeled-requires : tie.Need-peeled-requires
 peeled-requires c κs = search needs
 
+pass-requires : tie.Need-pass-requires
+pass-requires c κs = search needs
+
 same-length : tie.Need-same-length
 same-length c = search needs
 
@@ -17,8 +21,8 @@ same-length-2 : tie.Need-same-length-2
 same-length-2 c = search needs
 
 returns : tie.Need-returns
-returns c = (same (c .before .before .before .before .before .before .peel .ensures .0) (c .before .before .peeled .ensures), c .before .before .before .before .before .before .peel .ensures .1)
+returns c = (same (c .before .before .before .before .peeled .ensures ∙ c .before .before .before .before .before .before .before .peel .ensures .0) (c .before .before .pass .ensures), c .before .before .before .before .before .before .before .peel .ensures .1)
 
 pub parity-peel-spec : {M : Type 1} → statement M
 parity-peel-spec =
-    tie.close (tie.spec peel-requires peeled-requires same-length same-length-2 returns)
+    tie.close (tie.spec peel-requires peeled-requires pass-requires same-length same-length-2 returns)

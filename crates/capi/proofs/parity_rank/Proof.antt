@@ -1,5 +1,6 @@
 -- `capi::parity_rank` meets its contract. Assumes nothing.
 use borrow.Author.Needs.{needs}
+use mathlib.Core.Path.{_∙_}
 use Rattle.reply.proofs.Passing.{same}
 use Rattle.capi.proofs.parity_rank.Statement.{statement}
 use Rattle.capi.proofs.parity_rank.Tie as tie
@@ -10,11 +11,14 @@ rank-requires c κs = search needs
 ranked-requires : tie.Need-ranked-requires
 ranked-requires c κs = search needs
 
+pass-requires : tie.Need-pass-requires
+pass-requires c κs = search needs
+
 same-length : tie.Need-same-length
 same-length c = search needs
 
 returns : tie.Need-returns
-returns c = same (c .before .before .before .before .rank .ensures) (c .before .before .ranked .ensures)
+returns c = same (c .before .before .before .before .ranked .ensures ∙ c .before .before .before .before .before .rank .ensures) (c .before .before .pass .ensures)
 
 pub parity-rank-spec : {M : Type 1} → statement M
-parity-rank-spec = tie.close (tie.spec rank-requires ranked-requires same-length returns)
+parity-rank-spec = tie.close (tie.spec rank-requires ranked-requires pass-requires same-length returns)

@@ -1,5 +1,6 @@
 -- `capi::parity_split` meets its contract. Assumes nothing.
 use borrow.Author.Needs.{needs}
+use mathlib.Core.Path.{_∙_}
 use Rattle.reply.proofs.Passing.{same}
 use Rattle.capi.proofs.parity_split.Statement.{statement}
 use Rattle.capi.proofs.parity_split.Tie as tie
@@ -10,6 +11,9 @@ split-requires c κs = search needs
 splitting-requires : tie.Need-splitting-requires
 splitting-requires c κs = search needs
 
+pass-requires : tie.Need-pass-requires
+pass-requires c κs = search needs
+
 same-length : tie.Need-same-length
 same-length c = search needs
 
@@ -17,8 +21,8 @@ same-length-2 : tie.Need-same-length-2
 same-length-2 c = search needs
 
 returns : tie.Need-returns
-returns c = (same (c .before .before .before .before .before .before .split .ensures .0) (c .before .before .splitting .ensures), c .before .before .before .before .before .before .split .ensures .1)
+returns c = (same (c .before .before .before .before .splitting .ensures ∙ c .before .before .before .before .before .before .before .split .ensures .0) (c .before .before .pass .ensures), c .before .before .before .before .before .before .before .split .ensures .1)
 
 pub parity-split-spec : {M : Type 1} → statement M
 parity-split-spec =
-    tie.close (tie.spec split-requires splitting-requires same-length same-length-2 returns)
+    tie.close (tie.spec split-requires splitting-requires pass-requires same-length same-length-2 returns)

@@ -1,5 +1,6 @@
 -- `capi::parity_verify` meets its contract. Assumes nothing.
 use borrow.Author.Needs.{needs}
+use mathlib.Core.Path.{_∙_}
 use Rattle.reply.proofs.Passing.{same}
 use Rattle.capi.proofs.parity_verify.Statement.{statement}
 use Rattle.capi.proofs.parity_verify.Tie as tie
@@ -10,11 +11,14 @@ verify-requires c κs = search needs
 verified-requires : tie.Need-verified-requires
 verified-requires c κs = search needs
 
+pass-requires : tie.Need-pass-requires
+pass-requires c κs = search needs
+
 same-length : tie.Need-same-length
 same-length c = search needs
 
 returns : tie.Need-returns
-returns c = same (c .before .before .before .before .verify .ensures) (c .before .before .verified .ensures)
+returns c = same (c .before .before .before .before .verified .ensures ∙ c .before .before .before .before .before .verify .ensures) (c .before .before .pass .ensures)
 
 pub parity-verify-spec : {M : Type 1} → statement M
-parity-verify-spec = tie.close (tie.spec verify-requires verified-requires same-length returns)
+parity-verify-spec = tie.close (tie.spec verify-requires verified-requires pass-requires same-length returns)

@@ -2,15 +2,11 @@
 use borrow.Author.Needs.{needs}
 use mathlib.Core.Path.{sym, ap}
 use Rattle.peel.specs.Answers.{peelReplyOf}
-use Rattle.reply.proofs.Passing.{same}
 use Rattle.reply.proofs.peeled.Statement.{statement}
 use Rattle.reply.proofs.peeled.Tie as tie
 
 enum-known-answer : tie.Need-enum-known-answer
 enum-known-answer c = search needs
-
-two-requires : tie.Need-two-requires
-two-requires c κs = search needs
 
 enum-known-answer-2 : tie.Need-enum-known-answer-2
 enum-known-answer-2 c = search needs
@@ -18,27 +14,12 @@ enum-known-answer-2 c = search needs
 refused-requires : tie.Need-refused-requires
 refused-requires c κs = search needs
 
-same-length : tie.Need-same-length
-same-length c = search needs
-
 returns : tie.Need-returns
-returns c = same (sym (ap peelReplyOf (c .before .before .before .before .before .answer .given .1))) (c .before .before .two .ensures)
-
-same-length-2 : tie.Need-same-length-2
-same-length-2 c = search needs
+returns c = sym (ap peelReplyOf (c .before .answer .given .1))
 
 returns-2 : tie.Need-returns-2
-returns-2 c = same (sym (ap peelReplyOf (c .before .before .before .before .before .answer2 .given .1))) (c .before .before .refused .ensures)
+returns-2 c = search needs
 
 pub peeled-spec : {M : Type 1} → statement M
 peeled-spec =
-    tie.close
-    (tie.spec
-    enum-known-answer
-    two-requires
-    enum-known-answer-2
-    refused-requires
-    same-length
-    returns
-    same-length-2
-    returns-2)
+    tie.close (tie.spec enum-known-answer enum-known-answer-2 refused-requires returns returns-2)

@@ -2,7 +2,6 @@
 use borrow.Author.Needs.{needs}
 use mathlib.Core.Path.{sym, ap}
 use Rattle.parity.specs.Causes.{refusalOf}
-use Rattle.reply.proofs.Passing.{bare, same}
 use Rattle.reply.proofs.refused.Statement.{statement}
 use Rattle.reply.proofs.refused.Tie as tie
 
@@ -21,14 +20,8 @@ enum-told-4 c = search needs
 enum-known-why : tie.Need-enum-known-why
 enum-known-why c = search needs
 
-one-requires : tie.Need-one-requires
-one-requires c κs = search needs
-
 enum-known-why-2 : tie.Need-enum-known-why-2
 enum-known-why-2 c = search needs
-
-one-requires-2 : tie.Need-one-requires-2
-one-requires-2 c κs = search needs
 
 enum-told-5 : tie.Need-enum-told-5
 enum-told-5 c = search needs
@@ -36,26 +29,17 @@ enum-told-5 c = search needs
 enum-known-why-3 : tie.Need-enum-known-why-3
 enum-known-why-3 c = search needs
 
-one-requires-3 : tie.Need-one-requires-3
-one-requires-3 c κs = search needs
-
 enum-told-6 : tie.Need-enum-told-6
 enum-told-6 c = search needs
 
 enum-known-why-4 : tie.Need-enum-known-why-4
 enum-known-why-4 c = search needs
 
-three-requires : tie.Need-three-requires
-three-requires c κs = search needs
-
 enum-told-7 : tie.Need-enum-told-7
 enum-told-7 c = search needs
 
 enum-known-why-5 : tie.Need-enum-known-why-5
 enum-known-why-5 c = search needs
-
-one-requires-4 : tie.Need-one-requires-4
-one-requires-4 c κs = search needs
 
 enum-told-8 : tie.Need-enum-told-8
 enum-told-8 c = search needs
@@ -67,64 +51,49 @@ enum-told-10 : tie.Need-enum-told-10
 enum-told-10 c = search needs
 
 returns : tie.Need-returns
-returns c = bare 1 (c .before .before .before .args .values .now) (sym (ap refusalOf (c .enum-told .given .1)))
+returns c = search needs
 
 returns-2 : tie.Need-returns-2
-returns-2 c = bare 2 (c .before .before .before .args .values .now) (sym (ap refusalOf (c .enum-told2 .given .1)))
+returns-2 c = search needs
 
 returns-3 : tie.Need-returns-3
-returns-3 c = bare 3 (c .before .before .before .args .values .now) (sym (ap refusalOf (c .enum-told3 .given .1)))
+returns-3 c = search needs
 
 returns-4 : tie.Need-returns-4
-returns-4 c = bare 4 (c .before .before .before .args .values .now) (sym (ap refusalOf (c .enum-told4 .given .1)))
-
-same-length : tie.Need-same-length
-same-length c = search needs
+returns-4 c = search needs
 
 returns-5 : tie.Need-returns-5
-returns-5 c = same (sym (ap refusalOf (c .before .before .before .before .before .why .given .1))) (c .before .before .one .ensures)
-
-same-length-2 : tie.Need-same-length-2
-same-length-2 c = search needs
+returns-5 c = sym (ap refusalOf (c .before .why .given .1))
 
 returns-6 : tie.Need-returns-6
-returns-6 c = same (sym (ap refusalOf (c .before .before .before .before .before .why2 .given .1))) (c .before .before .one2 .ensures)
+returns-6 c = sym (ap refusalOf (c .before .why2 .given .1))
 
 returns-7 : tie.Need-returns-7
-returns-7 c = bare 7 (c .before .before .before .args .values .now) (sym (ap refusalOf (c .enum-told5 .given .1)))
-
-same-length-3 : tie.Need-same-length-3
-same-length-3 c = search needs
+returns-7 c = search needs
 
 returns-8 : tie.Need-returns-8
-returns-8 c = same (sym (ap refusalOf (c .before .before .before .before .before .why3 .given .1))) (c .before .before .one3 .ensures)
+returns-8 c = sym (ap refusalOf (c .before .why3 .given .1))
 
 returns-9 : tie.Need-returns-9
-returns-9 c = bare 9 (c .before .before .before .args .values .now) (sym (ap refusalOf (c .enum-told6 .given .1)))
-
-same-length-4 : tie.Need-same-length-4
-same-length-4 c = search needs
+returns-9 c = search needs
 
 returns-10 : tie.Need-returns-10
-returns-10 c = same (sym (ap refusalOf (c .before .before .before .before .before .why4 .given .1))) (c .before .before .three .ensures)
+returns-10 c = sym (ap refusalOf (c .before .why4 .given .1))
 
 returns-11 : tie.Need-returns-11
-returns-11 c = bare 10 (c .before .before .before .args .values .now) (sym (ap refusalOf (c .enum-told7 .given .1)))
-
-same-length-5 : tie.Need-same-length-5
-same-length-5 c = search needs
+returns-11 c = search needs
 
 returns-12 : tie.Need-returns-12
-returns-12 c = same (sym (ap refusalOf (c .before .before .before .before .before .why5 .given .1))) (c .before .before .one4 .ensures)
+returns-12 c = sym (ap refusalOf (c .before .why5 .given .1))
 
 returns-13 : tie.Need-returns-13
-returns-13 c = bare 12 (c .before .before .before .args .values .now) (sym (ap refusalOf (c .enum-told8 .given .1)))
+returns-13 c = search needs
 
 returns-14 : tie.Need-returns-14
-returns-14 c = bare 13 (c .before .before .before .args .values .now) (sym (ap refusalOf (c .enum-told9 .given .1)))
+returns-14 c = search needs
 
 returns-15 : tie.Need-returns-15
-returns-15 c = bare 14 (c .before .before .before .args .values .now) (sym (ap refusalOf (c .enum-told10 .given .1)))
+returns-15 c = search needs
 
 pub refused-spec : {M : Type 1} → statement M
 refused-spec =
@@ -135,18 +104,13 @@ refused-spec =
     enum-told-3
     enum-told-4
     enum-known-why
-    one-requires
     enum-known-why-2
-    one-requires-2
     enum-told-5
     enum-known-why-3
-    one-requires-3
     enum-told-6
     enum-known-why-4
-    three-requires
     enum-told-7
     enum-known-why-5
-    one-requires-4
     enum-told-8
     enum-told-9
     enum-told-10
@@ -154,18 +118,13 @@ refused-spec =
     returns-2
     returns-3
     returns-4
-    same-length
     returns-5
-    same-length-2
     returns-6
     returns-7
-    same-length-3
     returns-8
     returns-9
-    same-length-4
     returns-10
     returns-11
-    same-length-5
     returns-12
     returns-13
     returns-14

@@ -1,0 +1,80 @@
+-- `reply::pass` meets its contract. Assumes nothing.
+use borrow.Author.Needs.{needs}
+use mathlib.Core.Path.{refl, sym, ap}
+use Rattle.reply.specs.Passed.{numberedReply}
+use Rattle.reply.proofs.Passing.{bare, next, same}
+use Rattle.reply.proofs.pass.Statement.{statement}
+use Rattle.reply.proofs.pass.Tie as tie
+
+enum-known-reply : tie.Need-enum-known-reply
+enum-known-reply c = search needs
+
+enum-known-reply-2 : tie.Need-enum-known-reply-2
+enum-known-reply-2 c = search needs
+
+put-requires : tie.Need-put-requires
+put-requires c κs = search needs
+
+enum-known-reply-3 : tie.Need-enum-known-reply-3
+enum-known-reply-3 c = search needs
+
+put-requires-2 : tie.Need-put-requires-2
+put-requires-2 c κs = search needs
+
+put-requires-3 : tie.Need-put-requires-3
+put-requires-3 c κs = search needs
+
+enum-known-reply-4 : tie.Need-enum-known-reply-4
+enum-known-reply-4 c = search needs
+
+put-requires-4 : tie.Need-put-requires-4
+put-requires-4 c κs = search needs
+
+put-requires-5 : tie.Need-put-requires-5
+put-requires-5 c κs = search needs
+
+put-requires-6 : tie.Need-put-requires-6
+put-requires-6 c κs = search needs
+
+returns : tie.Need-returns
+returns c = bare _ (c .before .before .before .before .args .values .now) (sym (ap numberedReply (c .before .reply .given .1)))
+
+same-length : tie.Need-same-length
+same-length c = search needs
+
+returns-2 : tie.Need-returns-2
+returns-2 c = same (sym (ap numberedReply (c .before .before .before .before .before .reply2 .given .1))) (next _ (bare _ (c .before .before .before .before .before .before .before .before .args .values .now) refl) (c .before .before .put .ensures))
+
+same-length-2 : tie.Need-same-length-2
+same-length-2 c = search needs
+
+returns-3 : tie.Need-returns-3
+returns-3 c = same (sym (ap numberedReply (c .before .before .before .before .before .before .before .before .before .reply3 .given .1))) (next _ (next _ (bare _ (c .before .before .before .before .before .before .before .before .before .before .before .before .args .values .now) refl) (c .before .before .before .before .before .before .put2 .ensures)) (c .before .before .put3 .ensures))
+
+same-length-3 : tie.Need-same-length-3
+same-length-3 c = search needs
+
+returns-4 : tie.Need-returns-4
+returns-4 c = same (sym (ap numberedReply (c .before .before .before .before .before .before .before .before .before .before .before .before .before .reply4 .given .1))) (next _ (next _ (next _ (bare _ (c .before .before .before .before .before .before .before .before .before .before .before .before .before .before .before .before .args .values .now) refl) (c .before .before .before .before .before .before .before .before .before .before .put4 .ensures)) (c .before .before .before .before .before .before .put5 .ensures)) (c .before .before .put6 .ensures))
+
+pub pass-spec : {M : Type 1} → statement M
+pass-spec =
+    tie.close
+    (tie.spec
+    enum-known-reply
+    enum-known-reply-2
+    put-requires
+    enum-known-reply-3
+    put-requires-2
+    put-requires-3
+    enum-known-reply-4
+    put-requires-4
+    put-requires-5
+    put-requires-6
+    returns
+    same-length
+    returns-2
+    same-length-2
+    returns-3
+    same-length-3
+    returns-4)

@@ -10,7 +10,7 @@ use lib.Dec.{eqb, lit<}
 use lib.ListN.{getD}
 use lib.Pow.{ones-sub-lt}
 use borrow.Author.Tests.{eq-eqb, ne-eqb, eqb-true, lt-ltb, le-ltb}
-use Rattle.parity.specs.Matrix.{bitOf, lent}
+use Rattle.parity.specs.Matrix.{Matrix, bitOf, lent}
 use Rattle.parity.proofs.Digits.{bit-and, bit-or, bit-zero, bit-clear, same-bits}
 use Rattle.parity.proofs.Lent.{lent-word}
 use Rattle.matrix.specs.Rows.{Columns}
@@ -21,16 +21,16 @@ bit-in-two : (x y z i : ℕ) → bitOf (inTwo x y z) i ≡ ((bitOf x i && bitOf 
 unfolding inTwo
 bit-in-two x y z i = rw (bit-or (bitAnd x y) (bitAnd (bitOr x y) z) i, bit-and x y i, bit-and (bitOr x y) z i, bit-or x y i)
 
-module _ (cols : List ℕ) (x y z c : ℕ) (cl : c < 512) where
+module _ (W : ℕ) (cols : List ℕ) (x y z c : ℕ) where
   -- whether check d, other than c, contains two of the bits
-  others-bit : (i t : ℕ) → i < 8 → t < 64
-      → bitOf (othersIn cols x y z c i) t ≡ (two (λ d b. lent 8 cols b d) x y z (i * 64 + t) && not (eqb (i * 64 + t) c))
+  others-bit : (i t : ℕ) → i < W → t < 64
+      → bitOf (othersIn W cols x y z c i) t ≡ (two (λ d b. lent W cols b d) x y z (i * 64 + t) && not (eqb (i * 64 + t) c))
   unfolding othersIn
   others-bit i t k l =
-      rw (lent-word 8 cols x i t k l, lent-word 8 cols y i t k l, lent-word 8 cols z i t k l)
+      rw (lent-word W cols x i t k l, lent-word W cols y i t k l, lent-word W cols z i t k l)
       (elim (ℕ-discrete i (c / 64)) [
-        | yes q ↦ rw (eq-eqb i (c / 64) q, bit-clear 64 (inTwo (getD cols (x * 8 + i) 0) (getD cols (y * 8 + i) 0) (getD cols (z * 8 + i) 0)) (c % 64) t (omega arith) l, bit-in-two (getD cols (x * 8 + i) 0) (getD cols (y * 8 + i) 0) (getD cols (z * 8 + i) 0) t, own q)
-        | no d ↦ rw (ne-eqb i (c / 64) d, ne-eqb (i * 64 + t) c (λ e. omega arith), and-true) (bit-in-two (getD cols (x * 8 + i) 0) (getD cols (y * 8 + i) 0) (getD cols (z * 8 + i) 0) t)
+        | yes q ↦ rw (eq-eqb i (c / 64) q, bit-clear 64 (inTwo (getD cols (x * W + i) 0) (getD cols (y * W + i) 0) (getD cols (z * W + i) 0)) (c % 64) t (omega arith) l, bit-in-two (getD cols (x * W + i) 0) (getD cols (y * W + i) 0) (getD cols (z * W + i) 0) t, own q)
+        | no d ↦ rw (ne-eqb i (c / 64) d, ne-eqb (i * 64 + t) c (λ e. omega arith), and-true) (bit-in-two (getD cols (x * W + i) 0) (getD cols (y * W + i) 0) (getD cols (z * W + i) 0) t)
       ])
     where
       own : i ≡ c / 64 → eqb t (c % 64) ≡ eqb (i * 64 + t) c
@@ -47,40 +47,40 @@ module _ (cols : List ℕ) (x y z c : ℕ) (cl : c < 512) where
         or-lt 64 _ _ (and-lt 64 (getD cols i 0) (getD cols j 0) (machine i) (machine j))
         (and-lt 64 (bitOr (getD cols i 0) (getD cols j 0)) (getD cols k 0) (or-lt 64 _ _ (machine i) (machine j)) (machine k))
 
-    others-lt : (i : ℕ) → othersIn cols x y z c i < 2 ^ 64
+    others-lt : (i : ℕ) → othersIn W cols x y z c i < 2 ^ 64
     unfolding othersIn
     others-lt i =
         elim (ℕ-discrete i (c / 64)) [
-          | yes q ↦ rw (eq-eqb i (c / 64) q) (and-lt 64 _ _ (in-two-lt (x * 8 + i) (y * 8 + i) (z * 8 + i)) (ones-sub-lt 64 (2 ^ (c % 64))))
-          | no d ↦ rw (ne-eqb i (c / 64) d) (in-two-lt (x * 8 + i) (y * 8 + i) (z * 8 + i))
+          | yes q ↦ rw (eq-eqb i (c / 64) q) (and-lt 64 _ _ (in-two-lt (x * W + i) (y * W + i) (z * W + i)) (ones-sub-lt 64 (2 ^ (c % 64))))
+          | no d ↦ rw (ne-eqb i (c / 64) d) (in-two-lt (x * W + i) (y * W + i) (z * W + i))
         ]
 
-    pub alone-law : (acc : ℕ) → Zeros 0 8 (othersIn cols x y z c) acc → Alone cols x y z c (eqb acc 0)
+    pub alone-law : (acc : ℕ) → Zeros 0 W (othersIn W cols x y z c) acc → Alone W cols x y z c (eqb acc 0)
     alone-law acc Z = record {
       yes-only = λ e. record {
         only = λ d dl n.
             let s : d / 64 * 64 + d % 64 ≡ d = omega arith in
-            let w : othersIn cols x y z c (d / 64) ≡ 0 = Z .none (eqb-true acc 0 e) (d / 64) (omega arith) (omega arith) in
+            let w : othersIn W cols x y z c (d / 64) ≡ 0 = Z .none (eqb-true acc 0 e) (d / 64) (omega arith) (omega arith) in
             let b = others-bit (d / 64) (d % 64) (omega arith) (omega arith) in
             sym (rw (s, ne-eqb d c n, and-true) at b) ∙ rw w (bit-zero (d % 64));
       };
-      only-yes = λ O. eq-eqb acc 0 (Z .back (λ i a k. same-bits 64 (othersIn cols x y z c i) 0 (others-lt i) (lit< tt) (λ t l.
+      only-yes = λ O. eq-eqb acc 0 (Z .back (λ i a k. same-bits 64 (othersIn W cols x y z c i) 0 (others-lt i) (lit< tt) (λ t l.
           others-bit i t k l ∙ (elim (ℕ-discrete (i * 64 + t) c) [
             | yes q ↦ rw (eq-eqb (i * 64 + t) c q, and-false, bit-zero t)
             | no n ↦ rw (O .only (i * 64 + t) (omega arith) n, bit-zero t)
           ]))));
     }
 
--- the columns of the first M checks say it of the words
-module _ (ws cols : List ℕ) (M c x y z : ℕ) (C : Columns M (lent 8 ws) (lent 8 cols)) (few : M ≤ 512) where
-  in-columns : (d : ℕ) → d < M → two (λ d b. lent 8 cols b d) x y z d ≡ two (lent 8 ws) x y z d
+-- the columns of the first M checks say it of the matrix
+module _ (W : ℕ) (h : Matrix) (cols : List ℕ) (M c x y z : ℕ) (C : Columns M h (lent W cols)) (few : M ≤ W * 64) where
+  in-columns : (d : ℕ) → d < M → two (λ d b. lent W cols b d) x y z d ≡ two h x y z d
   in-columns d l =
       rw (C .at x d, C .at y d, C .at z d, lt-ltb d M l)
 
-  pub only-columns : OnlyIn (λ d b. lent 8 cols b d) 512 c x y z → OnlyIn (lent 8 ws) M c x y z
+  pub only-columns : OnlyIn (λ d b. lent W cols b d) (W * 64) c x y z → OnlyIn h M c x y z
   only-columns O = record { only = λ d l n. sym (in-columns d l) ∙ O .only d (omega arith) n }
 
-  pub columns-only : OnlyIn (lent 8 ws) M c x y z → OnlyIn (λ d b. lent 8 cols b d) 512 c x y z
+  pub columns-only : OnlyIn h M c x y z → OnlyIn (λ d b. lent W cols b d) (W * 64) c x y z
   columns-only O = record {
     only = λ d l n. elim (decLt d M) [
       | yes k ↦ in-columns d k ∙ O .only d k n

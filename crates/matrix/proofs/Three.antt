@@ -1,4 +1,4 @@
--- Rule A for one added check, from its weight, its two lowest bits and its column words. Assumes nothing.
+-- Rule A for one added check of T bits, from its weight, its two lowest bits and its column words. Assumes nothing.
 use mathlib.Core.Path.{_≡_, refl, sym, ap, _∙_}
 use mathlib.Core.Bool.{Bool, true, false, not, _&&_, _||_, true≢false, false≢true}
 use Prim.Native.Nat.{ℕ, suc, _+_, _≤_, _<_}
@@ -29,31 +29,31 @@ two-none false true true e f g = absurd (true≢false g)
 two-none false true false e f g = refl
 two-none false false w e f g = refl
 
-module _ (h : Matrix) (n m k j : ℕ) (jk : j < k) (end : (b : ℕ) → n + k ≤ b → h (m + j) b ≡ false) (few : n + k ≤ 512) where
-  total : count 512 (h (m + j)) ≡ count (n + k) (h (m + j))
-  total = count-end (n + k) 512 (h (m + j)) few (λ b l k. end b l)
+module _ (T : ℕ) (h : Matrix) (n m k j : ℕ) (jk : j < k) (end : (b : ℕ) → n + k ≤ b → h (m + j) b ≡ false) (few : n + k ≤ T) where
+  total : count T (h (m + j)) ≡ count (n + k) (h (m + j))
+  total = count-end (n + k) T (h (m + j)) few (λ b l k. end b l)
 
   -- another weight than three
-  pub not-three : (count 512 (h (m + j)) ≡ 3 → ⊥) → ruleAt h n m k j ≡ false
+  pub not-three : (count T (h (m + j)) ≡ 3 → ⊥) → ruleAt h n m k j ≡ false
   not-three d = elim (is (ruleAt h n m k j)) [ is-false q ↦ q | is-true q ↦ absurd (d (total ∙ rule h n m k j jk .0 q .all3)) ]
 
   -- its own bit is missing
   pub not-own : h (m + j) (n + j) ≡ false → ruleAt h n m k j ≡ false
   not-own d = elim (is (ruleAt h n m k j)) [ is-false q ↦ q | is-true q ↦ absurd (true≢false (sym (rule h n m k j jk .0 q .own) ∙ d)) ]
 
-  module _ (a b : ℕ) (A : NextOne (h (m + j)) 0 a) (three : count 512 (h (m + j)) ≡ 3) where
+  module _ (a b : ℕ) (A : NextOne T (h (m + j)) 0 a) (three : count T (h (m + j)) ≡ 3) where
     -- the lowest bit
     first-count : count a (h (m + j)) ≡ 0
     first-count = count-end 0 a (h (m + j)) (omega arith) (λ c l k. A .none c l k) ∙ unfold count sum in refl
 
-    pub first-below : a < 512
+    pub first-below : a < T
     first-below =
-        elim (decLt a 512) [
+        elim (decLt a T) [
           | yes l ↦ l
-          | no l ↦ let e : a ≡ 512 = omega (arith, A .top) in absurd (omega (arith, rw e at first-count, three))
+          | no l ↦ let e : a ≡ T = omega (arith, A .top) in absurd (omega (arith, rw e at first-count, three))
         ]
 
-    module _ (B : NextOne (h (m + j)) (a + 1) b) where
+    module _ (B : NextOne T (h (m + j)) (a + 1) b) where
       -- and the one after it
       first-one : count (a + 1) (h (m + j)) ≡ 1
       first-one = rw (add-one a, count-suc a (h (m + j)), A .found first-below) (omega (arith, first-count))
@@ -61,11 +61,11 @@ module _ (h : Matrix) (n m k j : ℕ) (jk : j < k) (end : (b : ℕ) → n + k �
       second-count : count b (h (m + j)) ≡ 1
       second-count = count-end (a + 1) b (h (m + j)) (B .least) (λ c l k. B .none c l k) ∙ first-one
 
-      second-below : b < 512
+      second-below : b < T
       second-below =
-          elim (decLt b 512) [
+          elim (decLt b T) [
             | yes l ↦ l
-            | no l ↦ let e : b ≡ 512 = omega (arith, B .top) in absurd (omega (arith, rw e at second-count, three))
+            | no l ↦ let e : b ≡ T = omega (arith, B .top) in absurd (omega (arith, rw e at second-count, three))
           ]
 
       second-one : count (suc b) (h (m + j)) ≡ 2
@@ -87,12 +87,12 @@ module _ (h : Matrix) (n m k j : ℕ) (jk : j < k) (end : (b : ℕ) → n + k �
               count-mono (suc b) (n + j) (h (m + j)) l,
               second-one,
               rw own at (count-suc (n + j) (h (m + j))),
-              count-mono (suc (n + j)) 512 (h (m + j)) (omega arith),
+              count-mono (suc (n + j)) T (h (m + j)) (omega arith),
               three,
             )
 
         -- the three are all
-        these : (x : ℕ) → x < 512 → h (m + j) x ≡ true → Place a b (n + j) x
+        these : (x : ℕ) → x < T → h (m + j) x ≡ true → Place a b (n + j) x
         these x xl e =
             elim (ℕ-discrete x a) [
               | yes q ↦ first q
@@ -125,7 +125,7 @@ module _ (h : Matrix) (n m k j : ℕ) (jk : j < k) (end : (b : ℕ) → n + k �
                         count-mono (suc (n + j)) x (h (m + j)) (omega arith),
                         rw own at (count-suc (n + j) (h (m + j))),
                         rw e at (count-suc x (h (m + j))),
-                        count-mono (suc x) 512 (h (m + j)) xl,
+                        count-mono (suc x) T (h (m + j)) xl,
                         lower-two,
                         three,
                       )
@@ -140,7 +140,7 @@ module _ (h : Matrix) (n m k j : ℕ) (jk : j < k) (end : (b : ℕ) → n + k �
         in-b = B .found second-below
 
         -- two bits of which no other check has both
-        pub pair-alone : OnlyIn h (m + k) (m + j) a b (n + j) → (p q : ℕ) → p < q → h (m + j) p ≡ true → h (m + j) q ≡ true → p < 512 → q < 512
+        pub pair-alone : OnlyIn h (m + k) (m + j) a b (n + j) → (p q : ℕ) → p < q → h (m + j) p ≡ true → h (m + j) q ≡ true → p < T → q < T
             → noOther h (m + k) (m + j) p q ≡ true
         unfolding noOther
         pair-alone O p q pq hp hq pl ql = all-of (m + k) _ (λ d dl. elim (ℕ-discrete d (m + j)) [

@@ -1,23 +1,22 @@
 -- Laws of an or that is zero exactly if all its parts are, of masks, and of cause 3 from them. Assumes nothing.
 use mathlib.Core.Path.{_≡_, refl, sym, ap, _∙_}
 use mathlib.Core.Logic.{_↔_}
-use mathlib.Core.Bool.{false≢true}
 use mathlib.Core.List.{List}
 use Prim.Native.Nat.{ℕ, _+_, _*_, _-_, _/_, _%_, _^_, _≤_, _<_, min}
-use native.Mathlib.Nat.{zero-mul, div-eq-of-lt, div-lt-iff-lt-mul, one-mul, le-mul-of-pos-right}
+use native.Mathlib.Nat.{zero-add, zero-mul, div-add-mod', div-eq-of-lt, div-lt-iff-lt-mul, mod-lt, one-mul, le-mul-of-pos-right}
 use native.Mathlib.Omega.{arith}
 use native.Mathlib.Decide.{ℕ-discrete, decLt}
-use lib.Arith.{digits-mod}
+use lib.Arith.{digits-div, digits-mod}
 use lib.Bits.{bitAnd, bitOr, or-add-and, and-le-l, and-le-r, and-high}
 use lib.Dec.{eqb, lit<}
 use lib.ListN.{getD, length, set}
 use lib.Seq.{getD-set-same, getD-set-other}
 use lib.Pow.{pow-pos, shl-exact, shr-mod}
-use borrow.Author.Tests.{eq-eqb, ne-eqb}
+use borrow.Author.Tests.{eq-eqb, eqb-true}
 use Rattle.parity.specs.Matrix.{room, clean}
-use Rattle.parity.proofs.Sums.{is-true, is-false, is}
+use Rattle.parity.proofs.Bools.{same-test}
 use Rattle.parity.proofs.Clean.{room-in, room-out, word-fits, fits-clean}
-use Rattle.matrix.specs.Zeros.{Zeros, Masks, word, excess, masked}
+use Rattle.matrix.specs.Zeros.{Zeros, Masks, Under, word, both}
 
 -- an or is zero exactly if both its parts are
 pub or-zero : (a b : ℕ) → (bitOr a b ≡ 0) ↔ ((a ≡ 0) × (b ≡ 0))
@@ -35,7 +34,7 @@ zeros-one a f x e = record {
   back = λ g. e ∙ g a (omega arith) (omega arith);
 }
 
-pub zeros-join : (a b d : ℕ) (f : ℕ → ℕ) (x y : ℕ) → a ≤ b → b ≤ d → Zeros a b f x → Zeros b d f y → Zeros a d f (bitOr x y)
+zeros-join : (a b d : ℕ) (f : ℕ → ℕ) (x y : ℕ) → a ≤ b → b ≤ d → Zeros a b f x → Zeros b d f y → Zeros a d f (bitOr x y)
 zeros-join a b d f x y p q X Y = record {
   none = λ e i k l.
       let (s, t) = or-zero x y .0 e in
@@ -45,12 +44,6 @@ zeros-join a b d f x y p q X Y = record {
 
 pub zeros-more : (a b : ℕ) (f : ℕ → ℕ) (x y : ℕ) → a ≤ b → Zeros a b f x → y ≡ f b → Zeros a (b + 1) f (bitOr x y)
 zeros-more a b f x y p X e = zeros-join a b (b + 1) f x y p (omega arith) X (zeros-one b f y e)
-
-pub zeros-same : (a b : ℕ) (f g : ℕ → ℕ) (x : ℕ) → ((i : ℕ) → a ≤ i → i < b → (f i ≡ 0) ↔ (g i ≡ 0)) → Zeros a b f x → Zeros a b g x
-zeros-same a b f g x h X = record {
-  none = λ e i k l. h i k l .0 (X .none e i k l);
-  back = λ e. X .back (λ i k l. h i k l .1 (e i k l));
-}
 
 -- the bits from r on, by a mask
 over-mask : (w r : ℕ) → r ≤ 64 → w < 2 ^ 64 → bitAnd w (2 ^ 64 - 2 ^ r) ≡ w / 2 ^ r * 2 ^ r
@@ -84,49 +77,55 @@ masks-more N n ms x l K e = record {
   ];
 }
 
--- word p of check c under its mask
-pub masked-at : (ms ws : List ℕ) (c p : ℕ) → p < 8 → bitAnd (getD ws (c * 8 + p) 0) (getD ms p 0) ≡ masked ms ws (c * 8 + p)
-unfolding masked
-masked-at ms ws c p k = rw (digits-mod c k)
+-- the rows, one after the other
+pub under-none : (W : ℕ) (ws ms : List ℕ) → Under W 0 ws ms 0
+under-none W ws ms = record { none = λ e c p l k. absurd (omega arith); back = λ g. refl }
 
--- what the masks let through is zero exactly if nothing stands at bit N or above
-pub masked-excess : (N : ℕ) (ms ws : List ℕ) → Masks N 8 ms → ((i : ℕ) → getD ws i 0 < 2 ^ 64) → (a b x : ℕ)
-    → Zeros a b (masked ms ws) x → Zeros a b (excess N ws) x
-unfolding masked excess
-masked-excess N ms ws K u a b x =
-    zeros-same a b (masked ms ws) (excess N ws) x
-    (λ i k l. rw (K .mask (i % 8) (omega arith)) (mask-zero (getD ws i 0) (min 64 (N - i % 8 * 64)) (omega arith) (u i)))
+pub under-more : (W M : ℕ) (ws ms : List ℕ) (x y : ℕ) → Under W M ws ms x → Zeros 0 W (both W ws M ms 0) y → Under W (M + 1) ws ms (bitOr x y)
+under-more W M ws ms x y X Y = record {
+  none = λ e c p l k.
+      let (s, t) = or-zero x y .0 e in
+      elim (ℕ-discrete c M) [ yes q ↦ rw q (Y .none t p (omega arith) k) | no d ↦ X .none s c p (omega arith) k ];
+  back = λ g. or-zero x y .1 (X .back (λ c p l k. g c p (omega arith) k), Y .back (λ p a k. g M p (omega arith) k));
+}
 
 less-zero : (w r : ℕ) → (w < 2 ^ r) ↔ (w / 2 ^ r ≡ 0)
 less-zero w r = (λ l. div-eq-of-lt l, λ e. omega (arith, div-lt-iff-lt-mul {x = w} {y = 1} (pow-pos r) .0 (omega arith)))
 
--- cause 3: the words of the checks below M have nothing at bit N or above, and the other words are zero
-module _ (ws : List ℕ) (N M : ℕ) (e : length ws ≡ 4096) (m : M ≤ 512) where
-  fits-excess : (i : ℕ) → i < M * 8 → (getD ws i 0 < 2 ^ room 8 N M i) ↔ (excess N ws i ≡ 0)
-  unfolding excess
-  fits-excess i k =
-      let q : i / 8 < M = omega arith in
-      rw (room-in 8 N M i q) (less-zero (getD ws i 0) (min 64 (N - i % 8 * 64)))
+-- cause 3: the words of the checks below M, of W words, have nothing under the masks of the bits at N and above, and the other words are zero
+module _ (W N M : ℕ) (ws ms : List ℕ) (some : 0 < W) (K : Masks N W ms) (machine : (i : ℕ) → getD ws i 0 < 2 ^ 64) where
+  fits-under : (c p : ℕ) → c < M → p < W → (getD ws (c * W + p) 0 < 2 ^ room W N M (c * W + p)) ↔ (both W ws c ms 0 p ≡ 0)
+  unfolding both
+  fits-under c p l k =
+      let q : (c * W + p) / W < M = rw (digits-div c k) l in
+      let z : 0 * W + p ≡ p = rw (zero-mul W, zero-add p) in
+      let (f, g) = less-zero (getD ws (c * W + p) 0) (min 64 (N - p * 64)) in
+      let (s, t) = mask-zero (getD ws (c * W + p) 0) (min 64 (N - p * 64)) (omega arith) (machine (c * W + p)) in
+      rw (room-in W N M (c * W + p) q, digits-mod c k, z, K .mask p k) (λ a. t (f a), λ a. g (s a))
 
-  fits-word : (i : ℕ) → M * 8 ≤ i → (getD ws i 0 < 2 ^ room 8 N M i) ↔ (word ws i ≡ 0)
-  unfolding word
-  fits-word i k =
-      let q : M ≤ i / 8 = omega arith in
-      rw (room-out 8 N M i q) (λ l. omega arith, λ z. omega arith)
-
-  pub decides : (x y : ℕ) → Zeros 0 (M * 8) (excess N ws) x → Zeros (M * 8) 4096 (word ws) y → eqb (bitOr x y) 0 ≡ clean 8 N M 0 ws
-  decides x y X Y =
-      elim (is (clean 8 N M 0 ws)) [
-        | is-true t ↦
-            rw t (eq-eqb (bitOr x y) 0 (or-zero x y .1 (
-              X .back (λ i k l. fits-excess i l .0 (word-fits 8 N M ws t i)),
-              Y .back (λ i k l. fits-word i k .0 (word-fits 8 N M ws t i)),
-            )))
-        | is-false t ↦
-            rw t (ne-eqb (bitOr x y) 0 (λ z.
-            let (p, q) = or-zero x y .0 z in
-            false≢true (sym t ∙ fits-clean 8 N M ws (λ i l. elim (decLt i (M * 8)) [
-              | yes k ↦ fits-excess i k .1 (X .none p i (omega arith) k)
-              | no k ↦ fits-word i (omega arith) .1 (Y .none q i (omega arith) (omega arith))
-            ]))))
+  behind : (i : ℕ) → M * W ≤ i → M ≤ i / W
+  behind i k =
+      elim (decLt (i / W) M) [
+        | yes l ↦ absurd (omega (arith, div-lt-iff-lt-mul {k = W} {x = i} {y = M} some .0 l))
+        | no l ↦ omega arith
       ]
+
+  fits-word : (i : ℕ) → M * W ≤ i → (getD ws i 0 < 2 ^ room W N M i) ↔ (word ws i ≡ 0)
+  unfolding word
+  fits-word i k = rw (room-out W N M i (behind i k)) (λ l. omega arith, λ z. omega arith)
+
+  pub decides : (x y : ℕ) → Under W M ws ms x → Zeros (M * W) (length ws) (word ws) y → eqb (bitOr x y) 0 ≡ clean W N M 0 ws
+  decides x y X Y =
+      same-test (eqb (bitOr x y) 0) (clean W N M 0 ws)
+      (λ e.
+      let (p, q) = or-zero x y .0 (eqb-true (bitOr x y) 0 e) in
+      fits-clean W N M ws (λ i l. elim (decLt i (M * W)) [
+        | yes k ↦
+            let d : i / W * W + i % W ≡ i = div-add-mod' i W in
+            rw d at (fits-under (i / W) (i % W) (div-lt-iff-lt-mul some .1 k) (mod-lt i some) .1 (X .none p (i / W) (i % W) (div-lt-iff-lt-mul some .1 k) (mod-lt i some)))
+        | no k ↦ fits-word i (omega arith) .1 (Y .none q i (omega arith) l)
+      ]))
+      (λ t. eq-eqb (bitOr x y) 0 (or-zero x y .1 (
+        X .back (λ c p l k. fits-under c p l k .0 (word-fits W N M ws t (c * W + p))),
+        Y .back (λ i k l. fits-word i k .0 (word-fits W N M ws t i)),
+      )))

@@ -1,13 +1,29 @@
 // Rows of `width` words of 64 bits: the checks of a matrix, its columns, or a set of bits, which is one row.
-use crate::ones::wide;
 ghost use mathlib.Core.Path.{_≡_};
 ghost use mathlib.Core.Bool.{true, false, not, _&&_};
-ghost use Prim.Native.Nat.{_+_, _*_, _/_, _≤_, _<_};
+ghost use Prim.Native.Nat.{_+_, _*_, _^_, _≤_, _<_};
+ghost use lib.Count.{ones as onesOf};
 ghost use lib.Dec.{eqb};
 ghost use lib.ListN.{length};
 ghost use Rattle.parity.specs.Finite.{count};
 ghost use Rattle.parity.specs.Matrix.{lent, put};
 ghost use Rattle.parity.specs.Words.{inside, odd};
+ghost use Rattle.matrix.specs.Rows.{NextOne};
+ghost use Rattle.matrix.specs.Zeros.{Zeros, both};
+
+// A count of bits, as a number of a bit.
+pub fn wide(x: u32) -> usize
+    ensures { λ r. ⌜ r ≡ x ⌝ }
+{
+    x as usize
+}
+
+// How many ones a word has.
+fn ones_of(x: u64) -> usize
+    ensures { λ r. ⌜ (r ≡ onesOf x) × (r ≤ 64) ⌝ }
+{
+    wide(u64::count_ones(x))
+}
 
 // Whether row `c` contains bit `b`.
 pub fn contains(rows: &[u64], width: usize, c: usize, b: usize) -> bool
@@ -42,7 +58,7 @@ pub fn weight(rows: &[u64], width: usize, c: usize) -> usize
 {
     let mut n: usize = 0;
     for i in 0..width {
-        n += wide(u64::count_ones(rows[c * width + i]));
+        n += ones_of(rows[c * width + i]);
     }
     n
 }
@@ -54,7 +70,7 @@ pub fn common(a: &[u64], i: usize, b: &[u64], j: usize, width: usize, used: usiz
 {
     let mut n: usize = 0;
     for p in 0..used {
-        n += wide(u64::count_ones(a[i * width + p] & b[j * width + p]));
+        n += ones_of(a[i * width + p] & b[j * width + p]);
     }
     n
 }
@@ -71,14 +87,54 @@ pub fn is_odd(rows: &[u64], width: usize, c: usize, set: &[u64]) -> bool
     u64::count_ones(acc) % 2 == 1
 }
 
-// Whether row `i` of `a` and row `j` of `b` have a bit in common.
-pub fn touches(a: &[u64], i: usize, b: &[u64], j: usize, width: usize) -> bool
+// The or of what each word of row `i` of `a` and the same word of row `j` of `b` have in common.
+pub fn meet(a: &[u64], i: usize, b: &[u64], j: usize, width: usize) -> u64
     requires { ⌜ (i * width + width ≤ length (now a)) × (j * width + width ≤ length (now b)) ⌝ }
-    ensures { λ r. ⌜ r ≡ not (eqb (count (width * 64) (λ t. lent width (now (a .entry)) i t && lent width (now (b .entry)) j t)) 0) ⌝ }
+    ensures { λ r. ⌜ Zeros 0 width (both width (now (a .entry)) i (now (b .entry)) j) r ⌝ }
 {
     let mut acc: u64 = 0;
     for p in 0..width {
         acc = acc | (a[i * width + p] & b[j * width + p]);
     }
-    acc != 0
+    acc
+}
+
+// Whether row `i` of `a` and row `j` of `b` have a bit in common.
+pub fn touches(a: &[u64], i: usize, b: &[u64], j: usize, width: usize) -> bool
+    requires { ⌜ (i * width + width ≤ length (now a)) × (j * width + width ≤ length (now b)) ⌝ }
+    ensures { λ r. ⌜ r ≡ not (eqb (count (width * 64) (λ t. lent width (now (a .entry)) i t && lent width (now (b .entry)) j t)) 0) ⌝ }
+{
+    meet(a, i, b, j, width) != 0
+}
+
+// The first bit of row `c` from word `from` on, and `width * 64` if there is none.
+fn next_in_words(rows: &[u64], width: usize, c: usize, from: usize) -> usize
+    requires { ⌜ (c * width + width ≤ length (now rows)) × (width * 64 < 2 ^ 64) × (from ≤ width) ⌝ }
+    ensures { λ r. ⌜ NextOne (width * 64) (lent width (now (rows .entry)) c) (from * 64) r ⌝ }
+{
+    let mut i = from;
+    while i < width {
+        let x = rows[c * width + i];
+        if x != 0 {
+            return i * 64 + wide(u64::trailing_zeros(x));
+        }
+        i += 1;
+    }
+    width * 64
+}
+
+// The first bit at `from` or above that row `c` contains, and `width * 64` if it contains none there.
+pub fn next_one(rows: &[u64], width: usize, c: usize, from: usize) -> usize
+    requires { ⌜ (c * width + width ≤ length (now rows)) × (width * 64 < 2 ^ 64) × (from ≤ width * 64) ⌝ }
+    ensures { λ r. ⌜ NextOne (width * 64) (lent width (now (rows .entry)) c) from r ⌝ }
+{
+    let i = from / 64;
+    if i == width {
+        return from;
+    }
+    let x = rows[c * width + i] & !((1 << (from % 64)) - 1);
+    if x != 0 {
+        return i * 64 + wide(u64::trailing_zeros(x));
+    }
+    next_in_words(rows, width, c, i + 1)
 }

@@ -7,7 +7,7 @@ use parity::Bit;
 use parity::Check;
 ghost use mathlib.Core.Path.{_≡_};
 ghost use mathlib.Core.Bool.{true};
-ghost use Prim.Native.Nat.{_+_, _≤_, _<_};
+ghost use Prim.Native.Nat.{_+_, _*_, _≤_, _<_};
 ghost use lib.ListN.{length};
 ghost use Rattle.parity.specs.Matrix.{lent, clean, ruleAt, ruleA};
 ghost use Rattle.matrix.specs.Rows.{Columns};
@@ -21,11 +21,15 @@ fn in_two(x: u64, y: u64, z: u64) -> u64
 }
 
 // The checks of column word `i`, other than `c`, that contain two of the bits `x`, `y` and `z`.
-fn others(cols: &[u64], x: usize, y: usize, z: usize, c: usize, i: usize) -> u64
-    requires { ⌜ (length (now cols) ≡ 4096) × (x < 512) × (y < 512) × (z < 512) × (i < 8) ⌝ }
-    ensures { λ r. ⌜ r ≡ othersIn (now (cols .entry)) x y z c i ⌝ }
+fn others(cols: &[u64], width: usize, x: usize, y: usize, z: usize, c: usize, i: usize) -> u64
+    requires { ⌜ (x * width + width ≤ length (now cols)) × (y * width + width ≤ length (now cols)) × (z * width + width ≤ length (now cols)) × (i < width) ⌝ }
+    ensures { λ r. ⌜ r ≡ othersIn width (now (cols .entry)) x y z c i ⌝ }
 {
-    let shared = in_two(cols[x * 8 + i], cols[y * 8 + i], cols[z * 8 + i]);
+    let shared = in_two(
+        cols[x * width + i],
+        cols[y * width + i],
+        cols[z * width + i],
+    );
     if i == c / 64 {
         return shared & !(1 << (c % 64));
     }
@@ -33,13 +37,13 @@ fn others(cols: &[u64], x: usize, y: usize, z: usize, c: usize, i: usize) -> u64
 }
 
 // Whether no check other than `c` contains two of the bits `x`, `y` and `z`.
-fn alone(cols: &[u64], x: usize, y: usize, z: usize, c: usize) -> bool
-    requires { ⌜ (length (now cols) ≡ 4096) × (x < 512) × (y < 512) × (z < 512) × (c < 512) ⌝ }
-    ensures { λ r. ⌜ Alone (now (cols .entry)) x y z c r ⌝ }
+fn alone(cols: &[u64], width: usize, x: usize, y: usize, z: usize, c: usize) -> bool
+    requires { ⌜ (x * width + width ≤ length (now cols)) × (y * width + width ≤ length (now cols)) × (z * width + width ≤ length (now cols)) ⌝ }
+    ensures { λ r. ⌜ Alone width (now (cols .entry)) x y z c r ⌝ }
 {
     let mut acc: u64 = 0;
-    for i in 0..8 {
-        acc = acc | others(cols, x, y, z, c, i);
+    for i in 0..width {
+        acc = acc | others(cols, width, x, y, z, c, i);
     }
     acc == 0
 }
@@ -63,7 +67,7 @@ fn rule_at(words: &[u64], cols: &[u64], n: usize, m: usize, k: usize, j: usize) 
     if z <= y {
         return false;
     }
-    alone(cols, x, y, z, c)
+    alone(cols, 8, x, y, z, c)
 }
 
 // Whether rule A holds for every added check.

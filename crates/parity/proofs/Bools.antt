@@ -1,6 +1,6 @@
 -- Laws of Booleans that the others lean on. Assumes nothing.
 use mathlib.Core.Path.{_≡_, refl, sym}
-use mathlib.Core.Bool.{Bool, true, false, not, _||_, xor, Bool·beq, true≢false, false≢true}
+use mathlib.Core.Bool.{Bool, true, false, not, _&&_, _||_, xor, Bool·beq, true≢false, false≢true}
 
 -- an implication as a test
 pub then : (a b : Bool) → not a || b ≡ true → a ≡ true → b ≡ true
@@ -18,6 +18,10 @@ or-false-both false b e = (refl, e)
 pub or-else : (a b : Bool) → a || b ≡ true → a ≡ false → b ≡ true
 or-else true b e f = absurd (true≢false f)
 or-else false b e f = e
+
+pub not-both : (p : Bool) → (p && not p) ≡ false
+not-both true = refl
+not-both false = refl
 
 -- two tests that say the same
 pub same-test : (a b : Bool) → (a ≡ true → b ≡ true) → (b ≡ true → a ≡ true) → a ≡ b

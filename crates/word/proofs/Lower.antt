@@ -24,7 +24,7 @@ use Rattle.parity.proofs.Extend.{inside-cong}
 use Rattle.matrix.specs.Rows.{NextOne}
 use Rattle.word.specs.Extending.{Copied, Bits, ExtendedTo, extendedBytes}
 
-module _ (h : Matrix) (n m k j : ℕ) (R : Rule h n m k j) (x y : ℕ) (A : NextOne (h (m + j)) 0 x) (few : n + j ≤ 512) where
+module _ (h : Matrix) (n m k j : ℕ) (R : Rule h n m k j) (x y : ℕ) (A : NextOne 512 (h (m + j)) 0 x) (few : n + j ≤ 512) where
   pub lower-first : x < n + j
   lower-first =
       let (i, l, e) = count-at (n + j) (h (m + j)) (omega (arith, R .two)) in
@@ -41,7 +41,7 @@ module _ (h : Matrix) (n m k j : ℕ) (R : Rule h n m k j) (x y : ℕ) (A : Next
       none : count 0 (h (m + j)) ≡ 0
       none = unfold count sum in refl
 
-  module _ (B : NextOne (h (m + j)) (x + 1) y) where
+  module _ (B : NextOne 512 (h (m + j)) (x + 1) y) where
     pub lower-second : y < n + j
     lower-second =
         elim (decLt y (n + j)) [

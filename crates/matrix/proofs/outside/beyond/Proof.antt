@@ -1,27 +1,28 @@
 -- `outside::beyond` meets its contract. Assumes nothing.
 use mathlib.Core.Path.{_≡_}
-use Prim.Native.Nat.{_+_, _-_, _*_, _≤_}
+use Prim.Native.Nat.{_-_, _≤_}
 use native.Mathlib.Omega.{arith}
 use borrow.Author.Needs.{needs}
-use Rattle.matrix.specs.Zeros.{Zeros, excess}
-use Rattle.matrix.proofs.Zeros.{zeros-none, zeros-join, masked-excess}
+use Rattle.parity.proofs.Lent.{row-room}
+use Rattle.matrix.specs.Zeros.{Under}
+use Rattle.matrix.proofs.Zeros.{under-none, under-more}
 use Rattle.matrix.proofs.outside.beyond.Statement.{statement}
 use Rattle.matrix.proofs.outside.beyond.Tie as tie
 
 abbrev Inv-loop : tie.InvT-loop
-Inv-loop words bits checks all acc₀ c₀ acc c = (c ≤ checks) × Zeros 0 (c * 8) (excess bits words) acc
+Inv-loop rows width all checks acc₀ c₀ acc c = (c ≤ checks) × Under width c rows all acc
 
 abbrev μ-loop : tie.MeasureT-loop
-μ-loop words bits checks all acc₀ c₀ acc c = checks - c
-
-masks-requires : tie.Need-masks-requires Inv-loop μ-loop
-masks-requires c κs = search needs
+μ-loop rows width all checks acc₀ c₀ acc c = checks - c
 
 loop-holds : tie.Need-loop-holds Inv-loop μ-loop
-loop-holds c = (omega arith, zeros-none _ _)
+loop-holds c = (omega arith, under-none _ _ _)
 
-under-requires : tie.Need-under-requires Inv-loop μ-loop
-under-requires c κs = search needs
+meet-requires : tie.Need-meet-requires Inv-loop μ-loop
+meet-requires c κs =
+    let l = c .before .loop in
+    let a = c .before .before .before .before .args in
+    (omega (arith, row-room (a .width) (l .c) (a .checks) (omega arith)), omega arith)
 
 add-c : tie.Need-add-c Inv-loop μ-loop
 add-c c = search needs
@@ -30,15 +31,7 @@ loop-less : tie.Need-loop-less Inv-loop μ-loop
 loop-less c = search needs
 
 loop-again : tie.Need-loop-again Inv-loop μ-loop
-loop-again c =
-    let l = c .before .before .before .loop in
-    let m = c .before .before .before .before in
-    let s = m .before .before in
-    let e : (l .c + 1) * 8 ≡ l .c * 8 + 8 = omega arith in (
-      omega arith,
-      rw e (zeros-join _ _ _ _ _ _ (omega arith) (omega arith) (l .inv .1)
-          (masked-excess _ _ (s .args .words .now) (m .masks .ensures) (λ i. omega (arith, m .before .shared-slice-known .given i)) _ _ _ (c .under .ensures))),
-    )
+loop-again c = (omega arith, under-more _ _ _ _ _ _ (c .before .before .loop .inv .1) (c .meet .ensures))
 
 returns : tie.Need-returns Inv-loop μ-loop
 returns c = let e : c .before .loop .c ≡ c .before .before .before .before .args .checks = omega arith in rw e at (c .before .loop .inv .1)
@@ -49,9 +42,8 @@ beyond-spec =
     (tie.spec
     Inv-loop
     μ-loop
-    masks-requires
     loop-holds
-    under-requires
+    meet-requires
     add-c
     loop-less
     loop-again

@@ -3,19 +3,20 @@ use mathlib.Core.Path.{_≡_, refl}
 use Prim.Native.Nat.{_-_, _≤_}
 use native.Mathlib.Omega.{arith}
 use borrow.Author.Needs.{needs}
+use lib.ListN.{length}
 use Rattle.matrix.specs.Zeros.{Zeros, word}
 use Rattle.matrix.proofs.Zeros.{zeros-none, zeros-more}
 use Rattle.matrix.proofs.outside.rest.Statement.{statement}
 use Rattle.matrix.proofs.outside.rest.Tie as tie
 
 abbrev Inv-loop : tie.InvT-loop
-Inv-loop words from acc₀ i₀ acc i = (from ≤ i) × (i ≤ 4096) × Zeros from i (word words) acc
+Inv-loop words from acc₀ i₀ i-end acc i = (from ≤ i) × (i ≤ length words) × (i-end ≡ length words) × Zeros from i (word words) acc
 
 abbrev μ-loop : tie.MeasureT-loop
-μ-loop words from acc₀ i₀ acc i = 4096 - i
+μ-loop words from acc₀ i₀ i-end acc i = length words - i
 
 loop-holds : tie.Need-loop-holds Inv-loop μ-loop
-loop-holds c = (omega arith, omega arith, zeros-none _ _)
+loop-holds c = (omega arith, omega arith, refl, zeros-none _ _)
 
 mul-acc : tie.Need-mul-acc Inv-loop μ-loop
 mul-acc c = search needs
@@ -32,10 +33,10 @@ loop-less c = search needs
 loop-again : tie.Need-loop-again Inv-loop μ-loop
 loop-again c =
     let l = c .before .before .loop in
-    (omega arith, omega arith, zeros-more _ _ _ _ _ (l .inv .0) (l .inv .2) (unfold word in refl))
+    (omega arith, omega arith, l .inv .2, zeros-more _ _ _ _ _ (l .inv .0) (l .inv .3) (unfold word in refl))
 
 returns : tie.Need-returns Inv-loop μ-loop
-returns c = let e : c .before .loop .i ≡ 4096 = omega arith in rw e at (c .before .loop .inv .2)
+returns c = let e : c .before .loop .i ≡ length (c .before .before .args .words .now) = omega arith in rw e at (c .before .loop .inv .3)
 
 pub rest-spec : {M : Type 1} → statement M
 rest-spec =

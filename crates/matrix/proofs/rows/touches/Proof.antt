@@ -1,71 +1,16 @@
 -- `rows::touches` meets its contract. Assumes nothing.
-use Prim.Native.Nat.{_-_, _≤_}
-use native.Mathlib.Omega.{arith}
-use Rattle.matrix.proofs.Touch.{Touch, touch-none, touch-more, touch-all}
+use borrow.Author.Needs.{needs}
+use Rattle.matrix.proofs.Touch.{touch-law}
 use Rattle.matrix.proofs.rows.touches.Statement.{statement}
 use Rattle.matrix.proofs.rows.touches.Tie as tie
 
-abbrev Inv-loop : tie.InvT-loop
-Inv-loop a i b j width acc₀ p₀ acc p = (p ≤ width) × Touch width a b i j p acc
+meet-requires : tie.Need-meet-requires
+meet-requires c κs = search needs
 
-abbrev μ-loop : tie.MeasureT-loop
-μ-loop a i b j width acc₀ p₀ acc p = width - p
-
-loop-holds : tie.Need-loop-holds Inv-loop μ-loop
-loop-holds c = (omega arith, touch-none _ _ _ _ _)
-
-mul-acc : tie.Need-mul-acc Inv-loop μ-loop
-mul-acc c = omega arith
-
-add-acc : tie.Need-add-acc Inv-loop μ-loop
-add-acc c = omega arith
-
-mul-acc-2 : tie.Need-mul-acc-2 Inv-loop μ-loop
-mul-acc-2 c = omega arith
-
-shared-slice-read-acc : tie.Need-shared-slice-read-acc Inv-loop μ-loop
-shared-slice-read-acc c = omega arith
-
-mul-acc-3 : tie.Need-mul-acc-3 Inv-loop μ-loop
-mul-acc-3 c = omega arith
-
-add-acc-2 : tie.Need-add-acc-2 Inv-loop μ-loop
-add-acc-2 c = omega arith
-
-mul-acc-4 : tie.Need-mul-acc-4 Inv-loop μ-loop
-mul-acc-4 c = omega arith
-
-shared-slice-read-acc-2 : tie.Need-shared-slice-read-acc-2 Inv-loop μ-loop
-shared-slice-read-acc-2 c = omega arith
-
-add-p : tie.Need-add-p Inv-loop μ-loop
-add-p c = omega arith
-
-loop-less : tie.Need-loop-less Inv-loop μ-loop
-loop-less c = omega arith
-
-loop-again : tie.Need-loop-again Inv-loop μ-loop
-loop-again c = (omega arith, touch-more _ _ _ _ _ _ _ (c .before .before .before .loop .inv .1) (omega arith) (λ q. c .before .shared-slice-known .given q .fits))
-
-returns : tie.Need-returns Inv-loop μ-loop
-returns c = touch-all _ _ _ _ _ _ _ (c .before .loop .inv .1) (omega arith)
+returns : tie.Need-returns
+returns c =
+    let s = c .before .before .before in
+    touch-law (s .args .width) (s .args .a .now) (s .args .b .now) (s .args .i) (s .args .j) (λ q. c .before .before .shared-slice-known .given q .fits) _ (c .meet .ensures)
 
 pub touches-spec : {M : Type 1} → statement M
-touches-spec =
-    tie.close
-    (tie.spec
-    Inv-loop
-    μ-loop
-    loop-holds
-    mul-acc
-    add-acc
-    mul-acc-2
-    shared-slice-read-acc
-    mul-acc-3
-    add-acc-2
-    mul-acc-4
-    shared-slice-read-acc-2
-    add-p
-    loop-less
-    loop-again
-    returns)
+touches-spec = tie.close (tie.spec meet-requires returns)

@@ -4,7 +4,7 @@ use Prim.Native.Nat.{_+_, _*_, _-_, _≤_}
 use native.Mathlib.Numerals.{add-one}
 use native.Mathlib.Omega.{arith}
 use borrow.Author.Needs.{needs}
-use lib.Count.{ones as onesOf, ones-le}
+use lib.Count.{ones as onesOf}
 use lib.ListN.{getD}
 use Rattle.parity.specs.Finite.{sum}
 use Rattle.parity.proofs.Lent.{weight}
@@ -21,28 +21,23 @@ loop-holds : tie.Need-loop-holds Inv-loop μ-loop
 unfolding sum
 loop-holds c = search needs
 
-mul-wide : tie.Need-mul-wide Inv-loop μ-loop
-mul-wide c = omega arith
+mul-ones-of : tie.Need-mul-ones-of Inv-loop μ-loop
+mul-ones-of c = omega arith
 
-add-wide : tie.Need-add-wide Inv-loop μ-loop
-add-wide c = omega arith
+add-ones-of : tie.Need-add-ones-of Inv-loop μ-loop
+add-ones-of c = omega arith
 
-mul-wide-2 : tie.Need-mul-wide-2 Inv-loop μ-loop
-mul-wide-2 c = omega arith
+mul-ones-of-2 : tie.Need-mul-ones-of-2 Inv-loop μ-loop
+mul-ones-of-2 c = omega arith
 
-shared-slice-read-wide : tie.Need-shared-slice-read-wide Inv-loop μ-loop
-shared-slice-read-wide c = omega arith
+shared-slice-read-ones-of : tie.Need-shared-slice-read-ones-of Inv-loop μ-loop
+shared-slice-read-ones-of c = omega arith
 
-wide-requires : tie.Need-wide-requires Inv-loop μ-loop
-wide-requires c κs = search needs
+ones-of-requires : tie.Need-ones-of-requires Inv-loop μ-loop
+ones-of-requires c κs = search needs
 
 add-n : tie.Need-add-n Inv-loop μ-loop
-add-n c =
-    let l = c .before .before .before .loop in
-    let s = c .before .before .before .before .before in
-    let k = c .before .shared-slice-known2 .given (s .args .c * s .args .width + l .i) in
-    let few = ones-le 64 (getD (s .args .rows .now) (s .args .c * s .args .width + l .i) 0) (k .fits) in
-    omega (arith, c .wide .ensures)
+add-n c = omega (arith, c .ones-of .ensures)
 
 add-i : tie.Need-add-i Inv-loop μ-loop
 add-i c = omega arith
@@ -54,10 +49,7 @@ loop-again : tie.Need-loop-again Inv-loop μ-loop
 unfolding sum
 loop-again c =
     let l = c .before .before .before .loop in
-    let s = c .before .before .before .before .before in
-    let k = c .before .shared-slice-known2 .given (s .args .c * s .args .width + l .i) in
-    let few = ones-le 64 (getD (s .args .rows .now) (s .args .c * s .args .width + l .i) 0) (k .fits) in
-    (omega arith, omega (arith, c .wide .ensures), rw (add-one (l .i)) (omega (arith, c .wide .ensures)))
+    (omega arith, omega (arith, c .ones-of .ensures), rw (add-one (l .i)) (omega (arith, c .ones-of .ensures)))
 
 returns : tie.Need-returns Inv-loop μ-loop
 returns c =
@@ -72,11 +64,11 @@ weight-spec =
     Inv-loop
     μ-loop
     loop-holds
-    mul-wide
-    add-wide
-    mul-wide-2
-    shared-slice-read-wide
-    wide-requires
+    mul-ones-of
+    add-ones-of
+    mul-ones-of-2
+    shared-slice-read-ones-of
+    ones-of-requires
     add-n
     add-i
     loop-less

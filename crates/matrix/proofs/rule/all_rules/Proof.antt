@@ -26,8 +26,8 @@ rule-at-requires c κs = search needs
 returns : tie.Need-returns Inv-loop μ-loop
 unfolding ruleA
 returns c =
-    let i = c .before .before in
-    sym (all-false _ _ (i .before .loop .j) (omega arith) (sym (c .before .rule-at .ensures) ∙ not-true (c .before .rule-at .result) (c .if1 .taken)))
+    let f = sym (c .before .rule-at .ensures) ∙ not-true (c .before .rule-at .result) (c .if1 .taken) in
+    sym (all-false _ _ _ (omega arith) f)
 
 add-j : tie.Need-add-j Inv-loop μ-loop
 add-j c = search needs

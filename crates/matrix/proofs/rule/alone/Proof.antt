@@ -11,10 +11,10 @@ use Rattle.matrix.proofs.rule.alone.Statement.{statement}
 use Rattle.matrix.proofs.rule.alone.Tie as tie
 
 abbrev Inv-loop : tie.InvT-loop
-Inv-loop cols x y z c acc₀ i₀ acc i = (i ≤ 8) × Zeros 0 i (othersIn cols x y z c) acc
+Inv-loop cols width x y z c acc₀ i₀ acc i = (i ≤ width) × Zeros 0 i (othersIn width cols x y z c) acc
 
 abbrev μ-loop : tie.MeasureT-loop
-μ-loop cols x y z c acc₀ i₀ acc i = 8 - i
+μ-loop cols width x y z c acc₀ i₀ acc i = width - i
 
 loop-holds : tie.Need-loop-holds Inv-loop μ-loop
 loop-holds c = (omega arith, zeros-none _ _)
@@ -35,8 +35,8 @@ returns : tie.Need-returns Inv-loop μ-loop
 returns c =
     let k = c .before .before in
     let s = k .before in
-    let e : c .before .loop .i ≡ 8 = omega arith in
-    alone-law (s .args .cols .now) (s .args .x) (s .args .y) (s .args .z) (s .args .c) (omega arith) (λ i. omega (arith, k .shared-slice-known .given i))
+    let e : c .before .loop .i ≡ s .args .width = omega arith in
+    alone-law (s .args .width) (s .args .cols .now) (s .args .x) (s .args .y) (s .args .z) (s .args .c) (λ i. omega (arith, k .shared-slice-known .given i))
     _ (rw e at (c .before .loop .inv .1))
 
 pub alone-spec : {M : Type 1} → statement M

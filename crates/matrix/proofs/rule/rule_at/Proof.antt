@@ -32,7 +32,7 @@ returns c =
     let jk : s .args .j < s .args .k = omega (arith, s .pre .0) in
     let few : N ≤ 512 = omega (arith, s .pre .0) in
     let end : (b : ℕ) → N ≤ b → lent 8 ws (s .args .m + s .args .j) b ≡ false = λ b l. clean-bits 8 N M ws (s .pre .1 .0) .bits (s .args .m + s .args .j) b l in
-    sym (not-three (lent 8 ws) (s .args .n) (s .args .m) (s .args .k) (s .args .j) jk end few (λ e. c .if1 .taken (c .before .weight .ensures ∙ e)))
+    sym (not-three 512 (lent 8 ws) (s .args .n) (s .args .m) (s .args .k) (s .args .j) jk end few (λ e. c .if1 .taken (c .before .weight .ensures ∙ e)))
 
 has-requires : tie.Need-has-requires
 has-requires c κs = search needs
@@ -46,7 +46,7 @@ returns-2 c =
     let jk : s .args .j < s .args .k = omega (arith, s .pre .0) in
     let few : N ≤ 512 = omega (arith, s .pre .0) in
     let end : (b : ℕ) → N ≤ b → lent 8 ws (s .args .m + s .args .j) b ≡ false = λ b l. clean-bits 8 N M ws (s .pre .1 .0) .bits (s .args .m + s .args .j) b l in
-    sym (not-own (lent 8 ws) (s .args .n) (s .args .m) (s .args .k) (s .args .j) jk end few (sym (c .before .has .ensures) ∙ not-true (c .before .has .result) (c .if2 .taken)))
+    sym (not-own 512 (lent 8 ws) (s .args .n) (s .args .m) (s .args .k) (s .args .j) jk end few (sym (c .before .has .ensures) ∙ not-true (c .before .has .result) (c .if2 .taken)))
 
 next-one-requires : tie.Need-next-one-requires
 next-one-requires c κs = search needs
@@ -65,7 +65,7 @@ next-one-requires-2 c κs =
     let end : (b : ℕ) → N ≤ b → lent 8 ws (s .args .m + s .args .j) b ≡ false = λ b l. clean-bits 8 N M ws (s .pre .1 .0) .bits (s .args .m + s .args .j) b l in
     let e = c .before .before .before in
     let t : count 512 (lent 8 ws (s .args .m + s .args .j)) ≡ 3 = sym (e .before .weight .ensures) ∙ e .if1 .left in
-    (omega (arith, s .pre .0), omega (arith, s .pre .0), omega (arith, first-below (lent 8 ws) (s .args .n) (s .args .m) (s .args .k) (s .args .j) jk end few (c .next-one .result) 0 (c .next-one .ensures) t))
+    (omega (arith, s .pre .0), omega (arith, s .pre .0), omega (arith, first-below 512 (lent 8 ws) (s .args .n) (s .args .m) (s .args .k) (s .args .j) jk end few (c .next-one .result) 0 (c .next-one .ensures) t))
 
 returns-3 : tie.Need-returns-3
 returns-3 c =
@@ -79,7 +79,7 @@ returns-3 c =
     let x = c .before .before in
     let e = x .before .before .before in
     let t : count 512 (lent 8 ws (s .args .m + s .args .j)) ≡ 3 = sym (e .before .weight .ensures) ∙ e .if1 .left in
-    sym (not-lower (lent 8 ws) (s .args .n) (s .args .m) (s .args .k) (s .args .j) jk end few (x .next-one .result) (c .before .next-one2 .result) (x .next-one .ensures) t (c .before .next-one2 .ensures) (c .if3 .taken))
+    sym (not-lower 512 (lent 8 ws) (s .args .n) (s .args .m) (s .args .k) (s .args .j) jk end few (x .next-one .result) (c .before .next-one2 .result) (x .next-one .ensures) t (c .before .next-one2 .ensures) (omega (arith, c .if3 .taken)))
 
 alone-requires : tie.Need-alone-requires
 alone-requires c κs = search needs
@@ -101,10 +101,10 @@ returns-4 c =
     let l : y .next-one2 .result < s .args .n + s .args .j = omega (arith, c .before .if3 .left) in
     let m512 : M ≤ 512 = omega (arith, s .pre .0) in
     same-test (c .alone .result) _
-    (λ q. three-rule (lent 8 ws) (s .args .n) (s .args .m) (s .args .k) (s .args .j) jk end few (x .next-one .result) (y .next-one2 .result) (x .next-one .ensures) t (y .next-one2 .ensures) l own
-    (only-columns ws (s .args .cols .now) M _ _ _ _ (s .pre .1 .1) m512 (c .alone .ensures .yes-only q)))
-    (λ q. c .alone .ensures .only-yes (columns-only ws (s .args .cols .now) M _ _ _ _ (s .pre .1 .1) m512
-    (rule-three (lent 8 ws) (s .args .n) (s .args .m) (s .args .k) (s .args .j) jk end few (x .next-one .result) (y .next-one2 .result) (x .next-one .ensures) t (y .next-one2 .ensures) l own q)))
+    (λ q. three-rule 512 (lent 8 ws) (s .args .n) (s .args .m) (s .args .k) (s .args .j) jk end few (x .next-one .result) (y .next-one2 .result) (x .next-one .ensures) t (y .next-one2 .ensures) l own
+    (only-columns 8 (lent 8 ws) (s .args .cols .now) M _ _ _ _ (s .pre .1 .1) m512 (c .alone .ensures .yes-only q)))
+    (λ q. c .alone .ensures .only-yes (columns-only 8 (lent 8 ws) (s .args .cols .now) M _ _ _ _ (s .pre .1 .1) m512
+    (rule-three 512 (lent 8 ws) (s .args .n) (s .args .m) (s .args .k) (s .args .j) jk end few (x .next-one .result) (y .next-one2 .result) (x .next-one .ensures) t (y .next-one2 .ensures) l own q)))
 
 pub rule-at-spec : {M : Type 1} → statement M
 rule-at-spec =

@@ -1,4 +1,4 @@
--- `next_one` meets its contract. Assumes nothing.
+-- `rows::next_one` meets its contract. Assumes nothing.
 use mathlib.Core.Path.{_≡_}
 use Prim.Native.Nat.{_+_, _*_, _/_, _%_, _≤_}
 use native.Mathlib.Nat.{lt-of-le-of-lt}
@@ -10,13 +10,14 @@ use Rattle.parity.proofs.Digits.{one-shl}
 use Rattle.parity.proofs.Ones.{trailing-lowest}
 use Rattle.matrix.proofs.Next.{clear-none, clear-word, next-here, next-top, next-later, from-mask}
 use borrow.Author.Needs.{needs}
-use Rattle.matrix.proofs.ones.next_one.Statement.{statement}
-use Rattle.matrix.proofs.ones.next_one.Tie as tie
+use Rattle.matrix.proofs.rows.next_one.Statement.{statement}
+use Rattle.matrix.proofs.rows.next_one.Tie as tie
 
 returns : tie.Need-returns
 returns c =
-    let e : c .before .before .args .from ≡ 512 = omega arith in
-    next-top _ _ (omega arith) (clear-none _ _ _ (omega arith))
+    let a = c .before .before .args in
+    let e : a .from ≡ a .width * 64 = omega arith in
+    rw e (next-top _ _ _ (omega arith) (clear-none _ _ _ (omega arith)))
 
 mul-x : tie.Need-mul-x
 mul-x c = omega arith
@@ -50,9 +51,9 @@ add-result c = let t : c .wide .result ≤ 64 = rw (c .wide .ensures) (trailing-
 returns-2 : tie.Need-returns-2
 returns-2 c =
     let s = c .before .before .before .before .before in
-    let f = c .before .before .shared-slice-known2 .given (s .args .c .0 * 8 + s .args .from / 64) .fits in
+    let f = c .before .before .shared-slice-known2 .given (s .args .c * s .args .width + s .args .from / 64) .fits in
     rw (c .wide .ensures)
-    (next-here (s .args .words .now) (s .args .c .0) (s .args .from / 64) (s .args .from) _ (omega arith) (from-mask (s .args .words .now) (s .args .c .0) (s .args .from))
+    (next-here (s .args .width) (s .args .rows .now) (s .args .c) (s .args .from / 64) (s .args .from) _ (omega arith) (from-mask (s .args .width) (s .args .rows .now) (s .args .c) (s .args .from))
     (clear-none _ _ _ (omega arith)) _ (trailing-lowest 64 _ (lt-of-le-of-lt (and-le-l _ _) f) (c .before .if2 .taken)))
 
 add-next-in-words : tie.Need-add-next-in-words
@@ -64,8 +65,8 @@ next-in-words-requires c κs = search needs
 returns-3 : tie.Need-returns-3
 returns-3 c =
     let s = c .before .before .before .before .before in
-    next-later _ _ _ _ (omega arith)
-    (clear-word (s .args .words .now) (s .args .c .0) (s .args .from / 64) (s .args .from) _ (omega arith) (from-mask (s .args .words .now) (s .args .c .0) (s .args .from))
+    next-later _ _ _ _ _ (omega arith)
+    (clear-word (s .args .width) (s .args .rows .now) (s .args .c) (s .args .from / 64) (s .args .from) _ (omega arith) (from-mask (s .args .width) (s .args .rows .now) (s .args .c) (s .args .from))
     (clear-none _ _ _ (omega arith)) (c .before .if2 .left))
     (c .next-in-words .ensures)
 

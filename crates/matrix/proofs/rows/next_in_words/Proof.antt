@@ -1,4 +1,4 @@
--- `next_in_words` meets its contract. Assumes nothing.
+-- `rows::next_in_words` meets its contract. Assumes nothing.
 use mathlib.Core.Path.{_≡_}
 use Prim.Native.Nat.{_+_, _*_, _-_, _≤_}
 use native.Mathlib.Omega.{arith}
@@ -8,14 +8,14 @@ use lib.ListN.{getD}
 use Rattle.parity.specs.Matrix.{lent}
 use Rattle.parity.proofs.Ones.{trailing-lowest}
 use Rattle.matrix.proofs.Next.{Clear, clear-none, clear-word, next-here, next-top, from-all}
-use Rattle.matrix.proofs.ones.next_in_words.Statement.{statement}
-use Rattle.matrix.proofs.ones.next_in_words.Tie as tie
+use Rattle.matrix.proofs.rows.next_in_words.Statement.{statement}
+use Rattle.matrix.proofs.rows.next_in_words.Tie as tie
 
 abbrev Inv-loop : tie.InvT-loop
-Inv-loop words row from i₀ i = (from ≤ i) × (i ≤ 8) × Clear (lent 8 words row) (from * 64) (i * 64)
+Inv-loop rows width c from i₀ i = (from ≤ i) × (i ≤ width) × Clear (lent width rows c) (from * 64) (i * 64)
 
 abbrev μ-loop : tie.MeasureT-loop
-μ-loop words row from i₀ i = 8 - i
+μ-loop rows width c from i₀ i = width - i
 
 loop-holds : tie.Need-loop-holds Inv-loop μ-loop
 loop-holds c = (omega arith, omega arith, clear-none _ _ _ (omega arith))
@@ -42,16 +42,16 @@ add-result : tie.Need-add-result Inv-loop μ-loop
 add-result c =
     let l = c .before .before .before .before .loop in
     let s = c .before .before .before .before .before .before in
-    omega (arith, c .wide .ensures, trailing-le 64 (getD (s .args .words .now) (s .args .row * 8 + l .i) 0))
+    omega (arith, c .wide .ensures, trailing-le 64 (getD (s .args .rows .now) (s .args .c * s .args .width + l .i) 0))
 
 returns : tie.Need-returns Inv-loop μ-loop
 returns c =
     let l = c .before .before .before .before .loop in
     let s = c .before .before .before .before .before .before in
     rw (c .wide .ensures)
-    (next-here (s .args .words .now) (s .args .row) (l .i) (s .args .from * 64) _ (omega arith)
-    (from-all (s .args .words .now) (s .args .row) (l .i) (s .args .from * 64) (omega arith)) (l .inv .2)
-    _ (trailing-lowest 64 _ (c .before .before .shared-slice-known2 .given (s .args .row * 8 + l .i) .fits) (c .before .if1 .taken)))
+    (next-here (s .args .width) (s .args .rows .now) (s .args .c) (l .i) (s .args .from * 64) _ (omega arith)
+    (from-all (s .args .width) (s .args .rows .now) (s .args .c) (l .i) (s .args .from * 64) (omega arith)) (l .inv .2)
+    _ (trailing-lowest 64 _ (c .before .before .shared-slice-known2 .given (s .args .c * s .args .width + l .i) .fits) (c .before .if1 .taken)))
 
 add-i : tie.Need-add-i Inv-loop μ-loop
 add-i c = omega arith
@@ -65,14 +65,17 @@ loop-again c =
     let s = c .before .before .before .before .before in (
       omega arith,
       omega arith,
-      clear-word (s .args .words .now) (s .args .row) (l .i) (s .args .from * 64) _ (omega arith)
-          (from-all (s .args .words .now) (s .args .row) (l .i) (s .args .from * 64) (omega arith)) (l .inv .2) (c .if1 .left),
+      clear-word (s .args .width) (s .args .rows .now) (s .args .c) (l .i) (s .args .from * 64) _ (omega arith)
+          (from-all (s .args .width) (s .args .rows .now) (s .args .c) (l .i) (s .args .from * 64) (omega arith)) (l .inv .2) (c .if1 .left),
     )
+
+mul-result-2 : tie.Need-mul-result-2 Inv-loop μ-loop
+mul-result-2 c = omega arith
 
 returns-2 : tie.Need-returns-2 Inv-loop μ-loop
 returns-2 c =
-    let e : c .before .loop .i ≡ 8 = omega arith in
-    next-top _ _ (omega arith) (rw e at (c .before .loop .inv .2))
+    let e : c .before .loop .i ≡ c .before .before .before .args .width = omega arith in
+    next-top _ _ _ (omega arith) (rw e at (c .before .loop .inv .2))
 
 pub next-in-words-spec : {M : Type 1} → statement M
 next-in-words-spec =
@@ -92,4 +95,5 @@ next-in-words-spec =
     add-i
     loop-less
     loop-again
+    mul-result-2
     returns-2)

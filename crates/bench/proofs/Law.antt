@@ -15,14 +15,14 @@ use Rattle.parity.specs.Record.{Loaded, faulty, loaded, loading}
 use Rattle.parity.specs.Encoding.{rankOf, encoded}
 use Rattle.parity.specs.Causes.{answer, refusal}
 use Rattle.parity.specs.Calls.{byteOf, notPair, wrongByte, loadedReply, loadOutcome, splitReply, splitOutcome, orthogonalisedReply}
-use Rattle.parity.proofs.Sound.{Sound}
-use Rattle.parity.proofs.Orthogonal.{orthogonal-sound}
-use Rattle.parity.proofs.Accept.{Accepted, passes}
-use Rattle.parity.proofs.Bytes.{right-bytes, Word}
-use Rattle.parity.proofs.Splitting.{counts, orthogonalises as all-orthogonalises}
-use Rattle.parity.proofs.Peeling.{peel-made, peel-refused}
-use Rattle.parity.proofs.Messages.{ranks, encodes-list}
-use Rattle.parity.proofs.Steps.{Ended, peel-steps}
+use Rattle.parity.proofs.Matrix.Sound.{Sound}
+use Rattle.parity.proofs.Splits.Orthogonal.{orthogonal-sound}
+use Rattle.parity.proofs.Matrix.Accept.{Accepted, passes}
+use Rattle.parity.proofs.Words.Bytes.{right-bytes, Word}
+use Rattle.parity.proofs.Splits.Splitting.{counts, orthogonalises as all-orthogonalises}
+use Rattle.parity.proofs.Words.Peeling.{peel-made, peel-refused}
+use Rattle.parity.proofs.Encoding.Messages.{ranks, encodes-list}
+use Rattle.parity.proofs.Words.Steps.{Ended, peel-steps}
 use Rattle.bench.specs.Case.{listed, Lent, Case, wordsOf, counting, orthogonalising, splitting-no-pair, splitting-below-two, peeling, peeling-contradiction, ranking, encoding, loading-faulty, Holds, AllHold}
 use Rattle.bench.specs.Test.{sameList, fits, agree, orthogonalises, isWord, peelsTo, faultyAt, test, tests}
 use Rattle.bench.proofs.Listed.{listed-sound, accepted, held, agreed, same-list}

@@ -116,8 +116,8 @@ pub extern "C" fn parity_verify(
 ) -> u32
     ensures { λ r. ⌜ Passed (verifyReply (now (words .entry)) n m k (now (word .entry))) (now (values .entry)) (now (values .exit)) r ⌝ }
 {
-    let verified = word::verify(words, n, m, k, word);
-    let numbered = reply::verified(verified);
+    let verifying = word::verify(words, n, m, k, word);
+    let numbered = reply::verifying(verifying);
     reply::pass(numbered, values)
 }
 
@@ -135,8 +135,8 @@ pub extern "C" fn parity_extend(
     ensures { λ r. ⌜ Passed (extendOutcome (now (words .entry)) n m k (now (sent .entry)) (now (word .entry)) .reply) (now (values .entry)) (now (values .exit)) r ⌝ }
     ensures { λ r. ⌜ now (word .exit) ≡ extendOutcome (now (words .entry)) n m k (now (sent .entry)) (now (word .entry)) .after ⌝ }
 {
-    let extension = word::extend(words, n, m, k, sent, word);
-    let numbered = reply::extension(extension);
+    let extending = word::extend(words, n, m, k, sent, word);
+    let numbered = reply::extending(extending);
     reply::pass(numbered, values)
 }
 
@@ -170,8 +170,8 @@ pub extern "C" fn parity_peel(
     ensures { λ r. ⌜ Passed (peelOutcome (now (words .entry)) n m k (now (word .entry)) .reply) (now (values .entry)) (now (values .exit)) r ⌝ }
     ensures { λ r. ⌜ now (word .exit) ≡ peelOutcome (now (words .entry)) n m k (now (word .entry)) .after ⌝ }
 {
-    let peeled = peel::peel(words, n, m, k, word);
-    let numbered = reply::peeled(peeled);
+    let peeling = peel::peel(words, n, m, k, word);
+    let numbered = reply::peeling(peeling);
     reply::pass(numbered, values)
 }
 
@@ -186,8 +186,8 @@ pub extern "C" fn parity_rank(
 ) -> u32
     ensures { λ r. ⌜ Passed (rankReply (now (words .entry)) n m k) (now (values .entry)) (now (values .exit)) r ⌝ }
 {
-    let ranked = encode::rank(words, n, m, k);
-    let numbered = reply::ranked(ranked);
+    let ranking = encode::rank(words, n, m, k);
+    let numbered = reply::ranking(ranking);
     reply::pass(numbered, values)
 }
 
@@ -205,7 +205,7 @@ pub extern "C" fn parity_encode(
     ensures { λ r. ⌜ Passed (encodeOutcome (now (words .entry)) n m k (now (message .entry)) (now (word .entry)) .reply) (now (values .entry)) (now (values .exit)) r ⌝ }
     ensures { λ r. ⌜ now (word .exit) ≡ encodeOutcome (now (words .entry)) n m k (now (message .entry)) (now (word .entry)) .after ⌝ }
 {
-    let encoded = encode::encode(words, n, m, k, message, word);
-    let numbered = reply::encoded(encoded);
+    let encoding = encode::encode(words, n, m, k, message, word);
+    let numbered = reply::encoding(encoding);
     reply::pass(numbered, values)
 }

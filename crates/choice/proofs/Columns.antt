@@ -15,9 +15,9 @@ use borrow.Author.Tests.{eq-eqb, ne-eqb, lt-ltb, le-ltb}
 use Rattle.parity.specs.Finite.{one, count}
 use Rattle.parity.specs.Matrix.{Matrix, bitOf, lent}
 use Rattle.parity.specs.Cycles.{splitOf}
-use Rattle.parity.proofs.Sums.{sum-zero, count-cong, count-le, count-bound}
-use Rattle.parity.proofs.Digits.{bit-and, bit-not}
-use Rattle.parity.proofs.Lent.{row-room, lent-in, lent-out}
+use Rattle.parity.proofs.Finite.Sums.{sum-zero, count-cong, count-le, count-bound}
+use Rattle.parity.proofs.Matrix.Digits.{bit-and, bit-not}
+use Rattle.parity.proofs.Matrix.Lent.{row-room, lent-in, lent-out}
 use Rattle.matrix.specs.Rows.{Columns}
 use Rattle.choice.specs.Given.{together, parted, PartedWord, PartedTo, Parted}
 

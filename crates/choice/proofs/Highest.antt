@@ -10,8 +10,8 @@ use lib.Dec.{ltb}
 use lib.Pow.{pow-lt}
 use borrow.Author.Tests.{lt-ltb, le-ltb}
 use Rattle.parity.specs.Matrix.{bitOf}
-use Rattle.parity.proofs.Sums.{is, is-true, is-false, one≤1}
-use Rattle.parity.proofs.Digits.{one-shl, bit-zero, bit-and, bit-not, bit-mask}
+use Rattle.parity.proofs.Finite.Sums.{is, is-true, is-false, one≤1}
+use Rattle.parity.proofs.Matrix.Digits.{one-shl, bit-zero, bit-and, bit-not, bit-mask}
 use Rattle.choice.specs.Planes.{next, Candidates, From}
 
 -- the largest number: one plane more

@@ -10,11 +10,11 @@ use lib.ListN.{getD, length, set}
 use lib.Seq.{getD-set-same, getD-set-other}
 use borrow.Author.Tests.{ne-eqb}
 use Rattle.parity.specs.Matrix.{bitOf}
-use Rattle.parity.proofs.Sums.{one≤1}
-use Rattle.parity.proofs.Bools.{or-false-both}
-use Rattle.parity.proofs.Digits.{bit-zero, bit-or}
-use Rattle.parity.proofs.Ones.{Lowest}
-use Rattle.parity.proofs.Rest.{rest-bit}
+use Rattle.parity.proofs.Finite.Sums.{one≤1}
+use Rattle.parity.proofs.Finite.Bools.{or-false-both}
+use Rattle.parity.proofs.Matrix.Digits.{bit-zero, bit-or}
+use Rattle.parity.proofs.Matrix.Ones.{Lowest}
+use Rattle.parity.proofs.Matrix.Rest.{rest-bit}
 use Rattle.choice.specs.Planes.{number, high, Several, Lifted}
 use Rattle.choice.specs.declared.planes.Planes.{Planes}
 

@@ -12,9 +12,9 @@ use lib.Seq.{getD-set-same, getD-set-other}
 use borrow.Author.Tests.{lt-ltb, le-ltb}
 use Rattle.parity.specs.Finite.{sum}
 use Rattle.parity.specs.Matrix.{bitOf}
-use Rattle.parity.proofs.Sums.{is, is-true, is-false, sum-point}
-use Rattle.parity.proofs.Digits.{bit-zero}
-use Rattle.parity.proofs.Ones.{Lowest, trailing-lowest}
+use Rattle.parity.proofs.Finite.Sums.{is, is-true, is-false, sum-point}
+use Rattle.parity.proofs.Matrix.Digits.{bit-zero}
+use Rattle.parity.proofs.Matrix.Ones.{Lowest, trailing-lowest}
 use Rattle.choice.specs.Planes.{number, Shares, Best, From, Lifted}
 use Rattle.choice.specs.declared.planes.Planes.{Planes}
 use Rattle.choice.specs.Bounds.{Weights, Bounded, Head, Largest, FirstAt, RowBelow, Narrow, Scanned, Picked, NoPair, Raised}

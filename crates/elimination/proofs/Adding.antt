@@ -13,8 +13,8 @@ use lib.Arith.{digits-div}
 use lib.Bits.{bitXor}
 use borrow.Author.Tests.{eq-eqb, ne-eqb}
 use Rattle.parity.specs.Matrix.{Matrix, lent}
-use Rattle.parity.proofs.Lent.{lent-in, lent-out}
-use Rattle.parity.proofs.Sets.{bit-xor}
+use Rattle.parity.proofs.Matrix.Lent.{lent-in, lent-out}
+use Rattle.parity.proofs.Words.Sets.{bit-xor}
 use Rattle.elimination.specs.Reduction.{plus, when}
 use Rattle.elimination.specs.Rows.{Blank}
 

@@ -9,9 +9,9 @@ use borrow.Author.Tests.{lt-ltb, le-ltb, le-leb, lt-leb}
 use Rattle.parity.specs.Finite.{one, count}
 use Rattle.parity.specs.Matrix.{Matrix}
 use Rattle.parity.specs.Words.{inside, evenChecks}
-use Rattle.parity.proofs.Bools.{same-test}
-use Rattle.parity.proofs.Sums.{sum-add, sum-cong, count-cong}
-use Rattle.parity.proofs.Split.{Even, evens}
+use Rattle.parity.proofs.Finite.Bools.{same-test}
+use Rattle.parity.proofs.Finite.Sums.{sum-add, sum-cong, count-cong}
+use Rattle.parity.proofs.Splits.Split.{Even, evens}
 use Rattle.elimination.specs.Reduction.{plus, when, cleared, Same, Pivoted}
 use Rattle.elimination.proofs.Adding.{plus-at, plus-else}
 

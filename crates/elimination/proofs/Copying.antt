@@ -10,7 +10,7 @@ use lib.Arith.{digits-lt}
 use lib.ListN.{getD, length, set, replicate, length-set, length-replicate}
 use lib.Seq.{getD-set-same, getD-set-other}
 use Rattle.parity.specs.Matrix.{lent}
-use Rattle.parity.proofs.Lent.{lent-in, lent-out, lent-empty}
+use Rattle.parity.proofs.Matrix.Lent.{lent-in, lent-out, lent-empty}
 use Rattle.elimination.specs.Rows.{RowOf, SameRows}
 use Rattle.elimination.proofs.Adding.{word-in}
 

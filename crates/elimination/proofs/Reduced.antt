@@ -10,9 +10,9 @@ use borrow.Author.Tests.{eq-eqb, ne-eqb, eqb-true}
 use Rattle.parity.specs.Finite.{one, count, any}
 use Rattle.parity.specs.Matrix.{Matrix}
 use Rattle.parity.specs.Words.{inside, odd}
-use Rattle.parity.proofs.Sums.{Is, is-true, is-false, is, any-of, any-at, count-cong, sum-cong, sum-zero, sum-point, sum-add, sum-at}
-use Rattle.parity.proofs.Split.{Even}
-use Rattle.parity.proofs.Extend.{odd-added, odd-only}
+use Rattle.parity.proofs.Finite.Sums.{Is, is-true, is-false, is, any-of, any-at, count-cong, sum-cong, sum-zero, sum-point, sum-add, sum-at}
+use Rattle.parity.proofs.Splits.Split.{Even}
+use Rattle.parity.proofs.Words.Extend.{odd-added, odd-only}
 use Rattle.elimination.specs.Reduction.{Reduced, pivot}
 
 pub pivot-at : (r : ℕ) (at : ℕ → ℕ) (c : ℕ) → c < r → pivot r at (at c) ≡ true

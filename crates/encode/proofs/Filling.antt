@@ -15,8 +15,8 @@ use Rattle.parity.specs.Finite.{one, count, sum, listFrom}
 use Rattle.parity.specs.Matrix.{Matrix}
 use Rattle.parity.specs.Words.{isOne, inside, odd}
 use Rattle.parity.specs.Calls.{byteOf}
-use Rattle.parity.proofs.Sums.{is-true, is-false, is, count-suc, count-not, count-mono}
-use Rattle.parity.proofs.Packing.{length-listFrom, at-listFrom}
+use Rattle.parity.proofs.Finite.Sums.{is-true, is-false, is, count-suc, count-not, count-mono}
+use Rattle.parity.proofs.Matrix.Packing.{length-listFrom, at-listFrom}
 use Rattle.elimination.specs.Reduction.{pivot}
 use Rattle.elimination.proofs.Reduced.{pivot-at, pivot-of, pivot-count}
 use Rattle.encode.specs.Filling.{pivotAt, Rising, placed, Placing, Filled}

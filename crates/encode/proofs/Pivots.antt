@@ -10,11 +10,11 @@ use Rattle.parity.specs.Finite.{count}
 use Rattle.parity.specs.Matrix.{Matrix}
 use Rattle.parity.specs.Words.{inside, odd}
 use Rattle.parity.specs.Encoding.{dependent, parityBit, rankOf, encoded}
-use Rattle.parity.proofs.Sums.{is-true, is-false, is, one≤1, count-cong}
-use Rattle.parity.proofs.Split.{Even}
-use Rattle.parity.proofs.Extend.{inside-cong}
-use Rattle.parity.proofs.Encode.{encodes}
-use Rattle.parity.proofs.Dependent.{inside-suc, inside-end, inside-zero, depends-at, depends-of}
+use Rattle.parity.proofs.Finite.Sums.{is-true, is-false, is, one≤1, count-cong}
+use Rattle.parity.proofs.Splits.Split.{Even}
+use Rattle.parity.proofs.Words.Extend.{inside-cong}
+use Rattle.parity.proofs.Encoding.Encode.{encodes}
+use Rattle.parity.proofs.Encoding.Dependent.{inside-suc, inside-end, inside-zero, depends-at, depends-of}
 use Rattle.elimination.specs.Reduction.{Same, Reduced, pivot}
 use Rattle.elimination.proofs.Clearing.{same-at}
 use Rattle.elimination.proofs.Reduced.{pivot-at, pivot-of, pivot-count, solved, solved-at, solved-else, solved-even}

@@ -17,13 +17,14 @@ use Rattle.parity.specs.Causes.{Reply, answer, refusalOf, accepting}
 use Rattle.parity.specs.Calls.{byteOf, wrongByte, wrongPlace, acceptReply, rankReply, encodeReply, encodeOutcome}
 use Rattle.parity.specs.declared.Refusal.{Refusal}
 use Rattle.parity.specs.declared.Refusal.the-variants.{WrongLength, WrongByte, AddedBits}
-use Rattle.parity.proofs.Sums.{is-true, is-false, is, count-cong}
-use Rattle.parity.proofs.Firsts.{all-cong}
-use Rattle.parity.proofs.Encode.{lengths}
-use Rattle.parity.proofs.Accept.{Accepted, accepts, accepting-answers}
-use Rattle.parity.proofs.Refused.{refused-number, refused-same}
-use Rattle.parity.proofs.Replies.{right-bytes, ranks}
-use Rattle.parity.proofs.Packing.{at-listFrom}
+use Rattle.parity.proofs.Finite.Sums.{is-true, is-false, is, count-cong}
+use Rattle.parity.proofs.Finite.Firsts.{all-cong}
+use Rattle.parity.proofs.Encoding.Encode.{lengths}
+use Rattle.parity.proofs.Matrix.Accept.{Accepted, accepts, passes}
+use Rattle.parity.proofs.Causes.Refused.{refused-number, refused-same}
+use Rattle.parity.proofs.Words.Bytes.{right-bytes}
+use Rattle.parity.proofs.Encoding.Messages.{ranks}
+use Rattle.parity.proofs.Matrix.Packing.{at-listFrom}
 use Rattle.elimination.specs.Reduction.{Same, Reduced, Reduction, pivot}
 use Rattle.elimination.specs.Rows.{SameRows}
 use Rattle.elimination.proofs.Clearing.{same-trans}
@@ -148,16 +149,13 @@ module _ (ws : List ℕ) (n m k : ℕ) where
   rank-first r e = refused-same ws n m k r _ e
 
   module _ (A : Accepted ws n m k) where
-    passes : (after : Reply) → accepting ws n m k after ≡ after
-    passes after = accepting-answers ws n m k after (accepts ws n m k .1 A)
-
     pub rank-added : (k ≡ 0 → ⊥) → refusalOf AddedBits ≡ rankReply ws n m k
     unfolding rankReply
-    rank-added d = rw (passes _, lt-ltb 0 k (omega (arith, d)))
+    rank-added d = rw (passes ws n m k A _, lt-ltb 0 k (omega (arith, d)))
 
     pub rank-told : k ≡ 0 → (r : ℕ) → r ≡ rankOf (lent 8 ws) n m → answer (r ∷ []) ≡ rankReply ws n m k
     unfolding rankReply
-    rank-told e r q = rw (passes _, e, q)
+    rank-told e r q = rw (passes ws n m k A _, e, q)
 
   module _ (message w : List ℕ) where
     abbrev Told : Reply → List ℕ → Type 0
@@ -173,11 +171,11 @@ module _ (ws : List ℕ) (n m k : ℕ) where
 
     module _ (A : Accepted ws n m k) where
       pub encode-added : (k ≡ 0 → ⊥) → Told (refusalOf AddedBits) w
-      encode-added d = refused AddedBits (unfold encodeReply in rw (passes A _, lt-ltb 0 k (omega (arith, d))))
+      encode-added d = refused AddedBits (unfold encodeReply in rw (passes ws n m k A _, lt-ltb 0 k (omega (arith, d))))
 
       pub encode-length : k ≡ 0 → (length w ≡ n → ⊥) → Told (refusalOf WrongLength) w
-      encode-length e d = refused WrongLength (unfold encodeReply in rw (passes A _, e, ne-eqb (length w) n d))
+      encode-length e d = refused WrongLength (unfold encodeReply in rw (passes ws n m k A _, e, ne-eqb (length w) n d))
 
       pub encode-given : k ≡ 0 → length w ≡ n → givenOutcome ws m message w ≡ encodeOutcome ws n m k message w
       unfolding givenOutcome encodeOutcome encodeReply
-      encode-given e l = rw (passes A _, e, l, eq-eqb n n refl)
+      encode-given e l = rw (passes ws n m k A _, e, l, eq-eqb n n refl)

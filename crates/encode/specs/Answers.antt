@@ -8,18 +8,18 @@ use Rattle.parity.specs.Words.{isOne}
 use Rattle.parity.specs.Encoding.{rankOf, encoded}
 use Rattle.parity.specs.Causes.{Reply, answer, refusalOf, Outcome, leaving}
 use Rattle.parity.specs.Calls.{byteOf, checkingBytes}
-use Rattle.encode.specs.declared.Ranked.{Ranked}
-use Rattle.encode.specs.declared.Ranked.the-variants as ranks
-use Rattle.encode.specs.declared.Encoded.{Encoded}
-use Rattle.encode.specs.declared.Encoded.the-variants as encodes
+use Rattle.encode.specs.declared.Ranking.{Ranking}
+use Rattle.encode.specs.declared.Ranking.the-variants as ranks
+use Rattle.encode.specs.declared.Encoding.{Encoding}
+use Rattle.encode.specs.declared.Encoding.the-variants as encodes
 
-abbrev pub rankReplyOf : Ranked → Reply
-rankReplyOf (ranks.Rank r) = answer (r ∷ [])
-rankReplyOf (ranks.Refused r) = refusalOf r
+abbrev pub rankingReply : Ranking → Reply
+rankingReply (ranks.Rank r) = answer (r ∷ [])
+rankingReply (ranks.Refused r) = refusalOf r
 
-abbrev pub encodeReplyOf : Encoded → Reply
-encodeReplyOf encodes.Written = answer []
-encodeReplyOf (encodes.Refused r) = refusalOf r
+abbrev pub encodingReply : Encoding → Reply
+encodingReply encodes.Written = answer []
+encodingReply (encodes.Refused r) = refusalOf r
 
 -- encoding with an accepted matrix that has k = 0, for a word of n bytes
 unfoldable pub givenOutcome : List ℕ → ℕ → List ℕ → List ℕ → Outcome

@@ -5,7 +5,7 @@ use crate::message::fill;
 use crate::message::place;
 use elimination::reduce;
 use elimination::rows::copy;
-use matrix::Acceptance;
+use matrix::Accepting;
 use parity::Refusal;
 use word::bytes::first_above;
 ghost use mathlib.Core.Path.{_≡_};
@@ -15,17 +15,17 @@ ghost use Rattle.parity.specs.Matrix.{lent};
 ghost use Rattle.parity.specs.Encoding.{rankOf};
 ghost use Rattle.parity.specs.Calls.{rankReply, encodeOutcome};
 ghost use Rattle.elimination.specs.Reduction.{Reduction};
-ghost use Rattle.encode.specs.Answers.{rankReplyOf, encodeReplyOf, givenOutcome};
+ghost use Rattle.encode.specs.Answers.{rankingReply, encodingReply, givenOutcome};
 ghost use Rattle.encode.specs.Filling.{everyBit};
 
 // What the rank call answers.
-pub enum Ranked {
+pub enum Ranking {
     Rank { rank: u64 },
     Refused(Refusal),
 }
 
 // What encoding answers.
-pub enum Encoded {
+pub enum Encoding {
     Written,
     Refused(Refusal),
 }
@@ -59,26 +59,26 @@ fn rank_of(words: &[u64], n: usize, m: usize) -> u64
 }
 
 // Answers the rank: the number of parity bits.
-pub fn rank(words: &[u64], n: usize, m: usize, k: usize) -> Ranked
-    ensures { λ r. ⌜ rankReplyOf r ≡ rankReply (now (words .entry)) n m k ⌝ }
+pub fn rank(words: &[u64], n: usize, m: usize, k: usize) -> Ranking
+    ensures { λ r. ⌜ rankingReply r ≡ rankReply (now (words .entry)) n m k ⌝ }
 {
     let accepted = matrix::accept(words, n, m, k);
     match accepted {
-        Acceptance::Refused(r) => Ranked::Refused(r),
-        Acceptance::Accepted => {
+        Accepting::Refused(r) => Ranking::Refused(r),
+        Accepting::Accepted => {
             if k != 0 {
-                return Ranked::Refused(Refusal::AddedBits);
+                return Ranking::Refused(Refusal::AddedBits);
             }
             let rank = rank_of(words, n, m);
-            Ranked::Rank { rank }
+            Ranking::Rank { rank }
         }
     }
 }
 
 // Encoding with the given checks, for a word of the right length.
-fn encode_given(words: &[u64], m: usize, message: &[u8], word: &mut [u8]) -> Encoded
+fn encode_given(words: &[u64], m: usize, message: &[u8], word: &mut [u8]) -> Encoding
     requires { ⌜ (length (now words) ≡ 4096) × (m ≤ 120) × (length (now word) ≤ 120) ⌝ }
-    ensures { λ r. ⌜ encodeReplyOf r ≡ givenOutcome (now (words .entry)) m (now (message .entry)) (now (word .entry)) .reply ⌝ }
+    ensures { λ r. ⌜ encodingReply r ≡ givenOutcome (now (words .entry)) m (now (message .entry)) (now (word .entry)) .reply ⌝ }
     ensures { λ _. ⌜ now (word .exit) ≡ givenOutcome (now (words .entry)) m (now (message .entry)) (now (word .entry)) .after ⌝ }
 {
     let mut rows = [0u64; 240];
@@ -86,15 +86,15 @@ fn encode_given(words: &[u64], m: usize, message: &[u8], word: &mut [u8]) -> Enc
     let n = word.len();
     let r = eliminate(words, n, m, &mut rows, &mut pivots);
     if message.len() + r != n {
-        return Encoded::Refused(Refusal::WrongLength);
+        return Encoding::Refused(Refusal::WrongLength);
     }
     let at = first_above(message, 1);
     if at < message.len() {
-        return Encoded::Refused(Refusal::WrongByte { place: at });
+        return Encoding::Refused(Refusal::WrongByte { place: at });
     }
     place(&pivots, r, message, word);
     fill(&rows, &pivots, r, word);
-    Encoded::Written
+    Encoding::Written
 }
 
 // Writes the codeword of the message.
@@ -105,19 +105,19 @@ pub fn encode(
     k: usize,
     message: &[u8],
     word: &mut [u8],
-) -> Encoded
-    ensures { λ r. ⌜ encodeReplyOf r ≡ encodeOutcome (now (words .entry)) n m k (now (message .entry)) (now (word .entry)) .reply ⌝ }
+) -> Encoding
+    ensures { λ r. ⌜ encodingReply r ≡ encodeOutcome (now (words .entry)) n m k (now (message .entry)) (now (word .entry)) .reply ⌝ }
     ensures { λ _. ⌜ now (word .exit) ≡ encodeOutcome (now (words .entry)) n m k (now (message .entry)) (now (word .entry)) .after ⌝ }
 {
     let accepted = matrix::accept(words, n, m, k);
     match accepted {
-        Acceptance::Refused(r) => Encoded::Refused(r),
-        Acceptance::Accepted => {
+        Accepting::Refused(r) => Encoding::Refused(r),
+        Accepting::Accepted => {
             if k != 0 {
-                return Encoded::Refused(Refusal::AddedBits);
+                return Encoding::Refused(Refusal::AddedBits);
             }
             if word.len() != n {
-                return Encoded::Refused(Refusal::WrongLength);
+                return Encoding::Refused(Refusal::WrongLength);
             }
             encode_given(words, m, message, word)
         }

@@ -11,8 +11,8 @@ use lib.ListN.{getD}
 use lib.Pow.{ones-sub-lt}
 use borrow.Author.Tests.{eq-eqb, ne-eqb, eqb-true, lt-ltb, le-ltb}
 use Rattle.parity.specs.Matrix.{Matrix, bitOf, lent}
-use Rattle.parity.proofs.Digits.{bit-and, bit-or, bit-zero, bit-clear, same-bits}
-use Rattle.parity.proofs.Lent.{lent-word}
+use Rattle.parity.proofs.Matrix.Digits.{bit-and, bit-or, bit-zero, bit-clear, same-bits}
+use Rattle.parity.proofs.Matrix.Lent.{lent-word}
 use Rattle.matrix.specs.Rows.{Columns}
 use Rattle.matrix.specs.Three.{inTwo, othersIn, two, OnlyIn, Alone}
 use Rattle.matrix.specs.Zeros.{Zeros}

@@ -12,9 +12,9 @@ use lib.ListN.{getD}
 use lib.Pow.{pow-lt}
 use borrow.Author.Tests.{lt-ltb, le-ltb, ltb-false, not-true}
 use Rattle.parity.specs.Matrix.{bitOf, lent}
-use Rattle.parity.proofs.Digits.{one-shl, bit-and, bit-not, bit-mask, bit-zero}
-use Rattle.parity.proofs.Lent.{lent-word}
-use Rattle.parity.proofs.Ones.{Lowest}
+use Rattle.parity.proofs.Matrix.Digits.{one-shl, bit-and, bit-not, bit-mask, bit-zero}
+use Rattle.parity.proofs.Matrix.Lent.{lent-word}
+use Rattle.parity.proofs.Matrix.Ones.{Lowest}
 use Rattle.matrix.specs.Rows.{NextOne}
 
 -- the row contains no bit from `from` on up to `to`

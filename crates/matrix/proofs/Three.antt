@@ -8,8 +8,8 @@ use native.Mathlib.Numerals.{add-one}
 use borrow.Author.Tests.{eq-eqb, ne-eqb, not-true}
 use Rattle.parity.specs.Finite.{sum, count}
 use Rattle.parity.specs.Matrix.{Matrix, noOther, ruleAt}
-use Rattle.parity.proofs.Sums.{is-true, is-false, is, all-at, all-of, count-suc, count-mono, count-end}
-use Rattle.parity.proofs.Rule.{rule, alone-share, share-alone, Place, first, second, new}
+use Rattle.parity.proofs.Finite.Sums.{is-true, is-false, is, all-at, all-of, count-suc, count-mono, count-end}
+use Rattle.parity.proofs.Matrix.Rule.{rule, alone-share, share-alone, Place, first, second, new}
 use Rattle.matrix.specs.Rows.{NextOne}
 use Rattle.matrix.specs.Three.{two, OnlyIn}
 

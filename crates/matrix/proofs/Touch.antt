@@ -13,11 +13,11 @@ use lib.ListN.{getD}
 use borrow.Author.Tests.{eq-eqb, eqb-true}
 use Rattle.parity.specs.Finite.{count, sum}
 use Rattle.parity.specs.Matrix.{bitOf, lent}
-use Rattle.parity.proofs.Bools.{same-test}
-use Rattle.parity.proofs.Sums.{count-pos, sum-zero, sum-ge}
-use Rattle.parity.proofs.Lent.{ones-count}
-use Rattle.parity.proofs.Ones.{trailing-lowest}
-use Rattle.parity.proofs.Common.{common-words}
+use Rattle.parity.proofs.Finite.Bools.{same-test}
+use Rattle.parity.proofs.Finite.Sums.{count-pos, sum-zero, sum-ge}
+use Rattle.parity.proofs.Matrix.Lent.{ones-count}
+use Rattle.parity.proofs.Matrix.Ones.{trailing-lowest}
+use Rattle.parity.proofs.Splits.Common.{common-words}
 use Rattle.matrix.specs.Zeros.{Zeros, both}
 
 -- a word without ones

@@ -14,8 +14,8 @@ use lib.Seq.{getD-set-same, getD-set-other}
 use lib.Pow.{pow-pos, shl-exact, shr-mod}
 use borrow.Author.Tests.{eq-eqb, eqb-true}
 use Rattle.parity.specs.Matrix.{room, clean}
-use Rattle.parity.proofs.Bools.{same-test}
-use Rattle.parity.proofs.Clean.{room-in, room-out, word-fits, fits-clean}
+use Rattle.parity.proofs.Finite.Bools.{same-test}
+use Rattle.parity.proofs.Matrix.Clean.{room-in, room-out, word-fits, fits-clean}
 use Rattle.matrix.specs.Zeros.{Zeros, Masks, Under, word, both}
 
 -- an or is zero exactly if both its parts are

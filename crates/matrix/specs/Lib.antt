@@ -1,4 +1,4 @@
-pub mod Acceptance
+pub mod Answers
 pub mod Rows
 pub mod Three
 pub mod Zeros

@@ -12,10 +12,10 @@ use parity::Refusal;
 ghost use mathlib.Core.Path.{_≡_};
 ghost use Rattle.parity.specs.Matrix.{inRange};
 ghost use Rattle.parity.specs.Calls.{acceptReply};
-ghost use Rattle.matrix.specs.Acceptance.{acceptanceReply};
+ghost use Rattle.matrix.specs.Answers.{acceptingReply};
 
 // Whether a lent matrix is accepted.
-pub enum Acceptance {
+pub enum Accepting {
     Accepted,
     Refused(Refusal),
 }
@@ -37,20 +37,20 @@ fn in_range(n: usize, m: usize, k: usize) -> bool
 }
 
 // Accepts a lent matrix, or refuses it by the first of causes 1 to 4 that holds.
-pub fn accept(words: &[u64], n: usize, m: usize, k: usize) -> Acceptance
-    ensures { λ r. ⌜ acceptanceReply r ≡ acceptReply (now (words .entry)) n m k ⌝ }
+pub fn accept(words: &[u64], n: usize, m: usize, k: usize) -> Accepting
+    ensures { λ r. ⌜ acceptingReply r ≡ acceptReply (now (words .entry)) n m k ⌝ }
 {
     if words.len() != 4096 {
-        return Acceptance::Refused(Refusal::MatrixLength);
+        return Accepting::Refused(Refusal::MatrixLength);
     }
     if !in_range(n, m, k) {
-        return Acceptance::Refused(Refusal::OutOfRange);
+        return Accepting::Refused(Refusal::OutOfRange);
     }
     if !is_clean(words, n + k, m + k) {
-        return Acceptance::Refused(Refusal::OneOutside);
+        return Accepting::Refused(Refusal::OneOutside);
     }
     if !rule_a(words, n, m, k) {
-        return Acceptance::Refused(Refusal::RuleABroken);
+        return Accepting::Refused(Refusal::RuleABroken);
     }
-    Acceptance::Accepted
+    Accepting::Accepted
 }

@@ -22,6 +22,6 @@ rankOf h n m = count n (parityBit h m)
 unfoldable pub holds : Matrix → ℕ → ℕ → (ℕ → Bool) → (ℕ → Bool) → Bool
 holds h n m message x = all n (λ b. parityBit h m b || Bool·beq (x b) (message (count b (dependent h m))))
 
--- Encoding: the codeword whose other bits hold the message. There is exactly one: `encodes` of proofs/Encode.
+-- Encoding: the codeword whose other bits hold the message. There is exactly one: `encodes` of proofs/Encoding/Encode.
 unfoldable pub encoded : Matrix → ℕ → ℕ → (ℕ → Bool) → ℕ → Bool
 encoded h n m message b = anySet n (λ x. evenChecks h n m x && holds h n m message x && x b)

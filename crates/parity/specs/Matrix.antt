@@ -42,7 +42,7 @@ room W N M i = cond (ltb (i / W) M) (min 64 (N - i % W * 64)) 0
 
 -- No word from place i on has a one at bit N or above, or at check M or above: w < 2 ^ r says that w has no one at its bit r or above.
 -- So it also says that each word is below 2 ^ 64, and demand 3, which is over all lists of numbers, needs no further hypothesis. In bits
--- it is `cleans` of proofs/Clean.
+-- it is `cleans` of proofs/Matrix/Clean.
 unfoldable pub clean : ℕ → ℕ → ℕ → ℕ → List ℕ → Bool
 clean W N M i [] = true
 clean W N M i (w ∷ ws) = ltb w (2 ^ room W N M i) && clean W N M (suc i) ws

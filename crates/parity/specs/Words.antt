@@ -31,7 +31,7 @@ odd s = eqb (s % 2) 1
 
 -- Extending: the sent bits stay, and each added bit n + j is the sum modulo 2 of the two lower bits of its added check m + j. In document
 -- 000 this check is S_{m+u-n}, x_i + x_j = x_u with i and j below u; that the codeword determines the added bits (001) is `extend-only`
--- of proofs/Extend.
+-- of proofs/Words/Extend.
 unfoldable pub extended : Matrix → ℕ → ℕ → ℕ → (ℕ → Bool) → ℕ → Bool
 extended h n m zero x b = x b
 extended h n m (suc j) x b = cond (eqb b (n + j)) (odd (inside h (n + j) (m + j) (extended h n m j x))) (extended h n m j x b)
@@ -61,7 +61,7 @@ solves h N M e r x y =
 unfoldable pub peels : Matrix → ℕ → ℕ → (ℕ → ℕ) → Bool
 peels h N M w = anySet N (solves h N M (erased w) (residue h N M (erased w)) (isOne w))
 
--- Peeling: the residue keeps 2, and every other bit has the value that solves. It is unique: `unique` of proofs/Residue.
+-- Peeling: the residue keeps 2, and every other bit has the value that solves. It is unique: `unique` of proofs/Words/Residue.
 unfoldable pub peeled : Matrix → ℕ → ℕ → (ℕ → ℕ) → ℕ → ℕ
 peeled h N M w b =
     cond (residue h N M (erased w) b) 2
@@ -76,7 +76,7 @@ unfoldable pub leftBits : Matrix → ℕ → ℕ → (ℕ → ℕ) → ℕ
 leftBits h N M w = count N (residue h N M (erased w))
 
 -- Peeling by steps solves, as long as one exists, a check with exactly one erased bit. That it ends as defined above, in whatever order,
--- is a law: `any-order` and `peel-steps` of proofs/Steps.
+-- is a law: `any-order` and `peel-steps` of proofs/Words/Steps.
 -- Bit b of check c is solved: it becomes the sum modulo 2 of the check's ones.
 unfoldable pub solved : Matrix → ℕ → ℕ → ℕ → (ℕ → ℕ) → ℕ → ℕ
 solved h N c b w i = cond (eqb i b) (one (odd (inside h N c (isOne w)))) (w i)

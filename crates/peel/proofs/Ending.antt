@@ -16,12 +16,12 @@ use Rattle.parity.specs.Words.{erased, peels, peeled, recoveredBits, leftBits}
 use Rattle.parity.specs.Causes.{answer, refusal, refusalOf}
 use Rattle.parity.specs.Calls.{byteOf, wrongByte, peelReply, peelOutcome}
 use Rattle.parity.specs.declared.Refusal.{Refusal}
-use Rattle.parity.proofs.Sums.{is-true, is-false, is, sum-add, sum-cong, count-cong}
-use Rattle.parity.proofs.Packing.{length-listFrom, at-listFrom, listFrom-cong}
-use Rattle.parity.proofs.Residue.{Within}
-use Rattle.parity.proofs.Steps.{stage-start, Ended}
-use Rattle.parity.proofs.Replies.{right-bytes}
-use Rattle.parity.proofs.Refused.{refused-number}
+use Rattle.parity.proofs.Finite.Sums.{is-true, is-false, is, sum-add, sum-cong, count-cong}
+use Rattle.parity.proofs.Matrix.Packing.{length-listFrom, at-listFrom, listFrom-cong}
+use Rattle.parity.proofs.Words.Residue.{Within}
+use Rattle.parity.proofs.Words.Steps.{stage-start, Ended}
+use Rattle.parity.proofs.Words.Bytes.{right-bytes}
+use Rattle.parity.proofs.Causes.Refused.{refused-number}
 use Rattle.word.specs.Answers.{admitReply}
 use Rattle.word.proofs.Told.{taken, behind, refused}
 use Rattle.word.specs.Sets.{SetOf}

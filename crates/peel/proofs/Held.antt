@@ -9,11 +9,11 @@ use borrow.Author.Tests.{eq-eqb, ne-eqb, lt-ltb, le-ltb}
 use Rattle.parity.specs.Finite.{one, count}
 use Rattle.parity.specs.Matrix.{Matrix, put}
 use Rattle.parity.specs.Words.{erased, isOne, inside, odd, solved, agrees}
-use Rattle.parity.proofs.Sums.{sum-point, count-end}
-use Rattle.parity.proofs.Lent.{put-here, put-place}
-use Rattle.parity.proofs.Steps.{Stage, step, Ended, ended}
-use Rattle.parity.proofs.Firsts.{all-cong}
-use Rattle.parity.proofs.Sets.{inside-below}
+use Rattle.parity.proofs.Finite.Sums.{sum-point, count-end}
+use Rattle.parity.proofs.Matrix.Lent.{put-here, put-place}
+use Rattle.parity.proofs.Words.Steps.{Stage, step, Ended, ended}
+use Rattle.parity.proofs.Finite.Firsts.{all-cong}
+use Rattle.parity.proofs.Words.Sets.{inside-below}
 use Rattle.peel.specs.Next.{Lone, NoSingle}
 use Rattle.peel.specs.Steps.{held, Solved, Reached, start, next, agreeing}
 

@@ -13,11 +13,11 @@ use borrow.Author.Tests.{eq-eqb, ne-eqb}
 use Rattle.parity.specs.Finite.{one, count}
 use Rattle.parity.specs.Matrix.{Matrix, bitOf, lent}
 use Rattle.parity.specs.Words.{inside}
-use Rattle.parity.proofs.Sums.{sum-cong, sum-zero, sum-at, count-two}
-use Rattle.parity.proofs.Digits.{bit-zero}
-use Rattle.parity.proofs.Ones.{Lowest}
-use Rattle.parity.proofs.Rest.{rest-bit}
-use Rattle.parity.proofs.Sets.{common, common-bit}
+use Rattle.parity.proofs.Finite.Sums.{sum-cong, sum-zero, sum-at, count-two}
+use Rattle.parity.proofs.Matrix.Digits.{bit-zero}
+use Rattle.parity.proofs.Matrix.Ones.{Lowest}
+use Rattle.parity.proofs.Matrix.Rest.{rest-bit}
+use Rattle.parity.proofs.Words.Sets.{common, common-bit}
 use Rattle.peel.specs.Next.{NoSingle}
 
 -- bit b is an erased bit of check c

@@ -8,12 +8,12 @@ use Rattle.parity.specs.Matrix.{Matrix}
 use Rattle.parity.specs.Words.{peels, peeled, recoveredBits, leftBits}
 use Rattle.parity.specs.Causes.{Reply, answer, refusal, refuse, refusalOf, Outcome, leaving}
 use Rattle.parity.specs.Calls.{byteOf}
-use Rattle.peel.specs.declared.Peeled.{Peeled}
-use Rattle.peel.specs.declared.Peeled.the-variants.{Made, Refused}
+use Rattle.peel.specs.declared.Peeling.{Peeling}
+use Rattle.peel.specs.declared.Peeling.the-variants.{Made, Refused}
 
-abbrev pub peelReplyOf : Peeled → Reply
-peelReplyOf (Made recovered left) = answer (recovered ∷ left ∷ [])
-peelReplyOf (Refused r) = refusalOf r
+abbrev pub peelingReply : Peeling → Reply
+peelingReply (Made recovered left) = answer (recovered ∷ left ∷ [])
+peelingReply (Refused r) = refusalOf r
 
 -- peeling a word that the causes before 12 do not refuse, in M checks
 unfoldable pub wordReply : Matrix → ℕ → List ℕ → Reply

@@ -15,10 +15,10 @@ use Rattle.parity.specs.Words.{peels}
 use Rattle.parity.specs.Causes.{Reply, refusal, refuse, accepting}
 use Rattle.parity.specs.Calls.{byteOf, wrongLength, wrongByte, loadedReply, loadOutcome, orthogonalisedReply, orthogonaliseOutcome, peelReply, peelOutcome}
 use Rattle.parity.specs.Mend.{residueText, wrongInput, report, unlessRefused, mend}
-use Rattle.parity.proofs.Sums.{is, is-true, is-false, count-bound}
-use Rattle.parity.proofs.Pairs.{pairs-add}
-use Rattle.parity.proofs.Pick.{picked}
-use Rattle.parity.proofs.Orthogonal.{keeps}
+use Rattle.parity.proofs.Finite.Sums.{is, is-true, is-false, count-bound}
+use Rattle.parity.proofs.Splits.Pairs.{pairs-add}
+use Rattle.parity.proofs.Splits.Pick.{picked}
+use Rattle.parity.proofs.Splits.Orthogonal.{keeps}
 use Rattle.receiver.specs.Lines.{leftText}
 use Rattle.receiver.specs.Stages.{peelText, orthogonaliseText, loadInto, loadText}
 use Rattle.receiver.proofs.Pieces.{decimal-most}

@@ -10,7 +10,7 @@ use lib.ListN.{length, length-append, take-append-drop}
 use Rattle.parity.specs.Finite.{listFrom}
 use Rattle.parity.specs.Calls.{byteOf}
 use Rattle.parity.specs.Mend.{decimal, splitsHead, sumHead, residueHead, residueText, wordHead, shown, refusedLine, report, wordAt}
-use Rattle.parity.proofs.Packing.{length-listFrom}
+use Rattle.parity.proofs.Matrix.Packing.{length-listFrom}
 use Rattle.receiver.specs.Placed.{placed, Placed}
 use Rattle.receiver.specs.Lines.{leftText, wordText, splitsLine, residueLine, wordLine}
 use Rattle.receiver.specs.Stages.{wordsIn}

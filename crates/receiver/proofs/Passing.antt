@@ -16,11 +16,11 @@ use Rattle.parity.specs.Causes.{Reply, answer, refusal, refusalOf, Outcome}
 use Rattle.parity.specs.Calls.{byteOf, loadOutcome, orthogonalisedReply, orthogonaliseOutcome, peelReply, peelOutcome}
 use Rattle.parity.specs.Mend.{refusedLine, report, unlessRefused}
 use Rattle.parity.specs.declared.Refusal.{Refusal}
-use Rattle.parity.proofs.Sums.{one≤1}
-use Rattle.parity.proofs.Packing.{length-listFrom, at-listFrom}
-use Rattle.parity.proofs.Accept.{Accepted, accepts, accepting-answers, accepting-refuses}
-use Rattle.parity.proofs.Replies.{orthogonalises, orthogonal-accepted}
-use Rattle.parity.proofs.Refused.{refused-number}
+use Rattle.parity.proofs.Finite.Sums.{one≤1}
+use Rattle.parity.proofs.Matrix.Packing.{length-listFrom, at-listFrom}
+use Rattle.parity.proofs.Matrix.Accept.{Accepted, accepts, accepting-answers, accepting-refuses}
+use Rattle.parity.proofs.Splits.Splitting.{orthogonalises, orthogonal-accepted}
+use Rattle.parity.proofs.Causes.Refused.{refused-number}
 use Rattle.parity.specs.declared.Refusal.the-variants.{WrongLength}
 use Rattle.receiver.specs.Placed.{placed}
 use Rattle.receiver.specs.Lines.{Bytes}

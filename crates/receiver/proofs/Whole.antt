@@ -9,10 +9,10 @@ use lib.Dec.{ltb}
 use lib.ListN.{length, take, drop, length-drop}
 use lib.Seq.{take-at, take-all}
 use Rattle.parity.specs.Mend.{wordAt, wrongInput, recordIn, wordIn, refusedLine, mend}
-use Rattle.parity.proofs.Bools.{or-false-both}
+use Rattle.parity.proofs.Finite.Bools.{or-false-both}
 use Rattle.receiver.specs.Placed.{placed, Placed}
-use Rattle.receiver.specs.declared.Mended.the-variants.{Written, TooShort}
-use Rattle.receiver.specs.Answers.{mendedAnswer, mendedOutput}
+use Rattle.receiver.specs.declared.Mending.the-variants.{Written, TooShort}
+use Rattle.receiver.specs.Answers.{mendingAnswer, mendingOutput}
 use Rattle.receiver.specs.Stages.{wordsIn, Size, peelText, orthogonaliseText, loadInto, loadText}
 
 pub wrong-mend : (input : List ℕ) → wrongInput input ≡ true → refusedLine 14 ≡ mend input
@@ -48,12 +48,12 @@ first {old} {text} {new} {r} f = rw (f .made) (take-at text (drop (0 + length te
 
 -- an output without room is left, and one with room begins with the text
 module _ (text out : List ℕ) (r : ℕ) (e : r ≡ length text) where
-  pub no-room : length out < r → (TooShort r ≡ mendedAnswer text out) × (out ≡ mendedOutput text out)
-  unfolding mendedAnswer mendedOutput
+  pub no-room : length out < r → (TooShort r ≡ mendingAnswer text out) × (out ≡ mendingOutput text out)
+  unfolding mendingAnswer mendingOutput
   no-room h = let l = lt-ltb (length out) (length text) (omega arith) in (rw (l, e), rw l)
 
-  pub room : r ≤ length out → (s new : List ℕ) (q : ℕ) → s ≡ text → Placed out 0 s new q → (Written r ≡ mendedAnswer text out) × (new ≡ mendedOutput text out)
-  unfolding mendedAnswer mendedOutput placed
+  pub room : r ≤ length out → (s new : List ℕ) (q : ℕ) → s ≡ text → Placed out 0 s new q → (Written r ≡ mendingAnswer text out) × (new ≡ mendingOutput text out)
+  unfolding mendingAnswer mendingOutput placed
   room h s new q p f =
       let l = le-ltb (length out) (length text) (omega arith) in
       let z : 0 + length text ≡ length text = omega arith in

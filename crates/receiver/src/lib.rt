@@ -15,10 +15,10 @@ ghost use mathlib.Core.Path.{_≡_};
 ghost use lib.ListN.{length};
 ghost use Rattle.parity.specs.Mend.{mend as mendText};
 ghost use Rattle.receiver.specs.Placed.{Placed};
-ghost use Rattle.receiver.specs.Answers.{mendedAnswer, mendedOutput};
+ghost use Rattle.receiver.specs.Answers.{mendingAnswer, mendingOutput};
 
 // How many bytes of the output are written, or how many it would need.
-pub enum Mended {
+pub enum Mending {
     Written(usize),
     TooShort { needed: usize },
 }
@@ -53,15 +53,15 @@ pub fn put_text(out: &mut [u8; 4096], input: &[u8]) -> usize
 }
 
 // The same for an output of any length: the text is written at its start if it has room, and else it is left as it was.
-pub fn mend(input: &[u8], output: &mut [u8]) -> Mended
-    ensures { λ r. ⌜ r ≡ mendedAnswer (mendText (now (input .entry))) (now (output .entry)) ⌝ }
-    ensures { λ r. ⌜ now (output .exit) ≡ mendedOutput (mendText (now (input .entry))) (now (output .entry)) ⌝ }
+pub fn mend(input: &[u8], output: &mut [u8]) -> Mending
+    ensures { λ r. ⌜ r ≡ mendingAnswer (mendText (now (input .entry))) (now (output .entry)) ⌝ }
+    ensures { λ r. ⌜ now (output .exit) ≡ mendingOutput (mendText (now (input .entry))) (now (output .entry)) ⌝ }
 {
     let mut text = no_text();
     let needed = put_text(&mut text, input);
     if output.len() < needed {
-        return Mended::TooShort { needed };
+        return Mending::TooShort { needed };
     }
     put_bytes(output, 0, &text[..needed]);
-    Mended::Written(needed)
+    Mending::Written(needed)
 }

@@ -3,7 +3,7 @@ use crate::report::put_refused;
 use crate::report::put_report;
 use crate::text::put_bytes;
 use parity::Refusal;
-use peel::Peeled;
+use peel::Peeling;
 use record::Loading;
 use split::Orthogonalising;
 ghost use mathlib.Core.Path.{_≡_};
@@ -44,8 +44,8 @@ fn peel_word(
     ensures { λ r. ⌜ Placed (now (out .entry)) 0 (peelText (now (words .entry)) n m k splits sum (now (word .entry))) (now (out .exit)) r ⌝ }
 {
     match peel::peel(words, n, m, k, word) {
-        Peeled::Refused(r) => put_refused(out, r),
-        Peeled::Made {
+        Peeling::Refused(r) => put_refused(out, r),
+        Peeling::Made {
             recovered: _,
             left: _,
         } => put_report(out, splits, sum, word, n),

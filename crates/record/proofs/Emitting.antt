@@ -16,13 +16,13 @@ use borrow.Author.Tests.{eq-eqb, ne-eqb, lt-ltb, le-ltb, ltb-false, not-true}
 use Rattle.parity.specs.Finite.{sum, count}
 use Rattle.parity.specs.Matrix.{Matrix, bitOf, lent}
 use Rattle.parity.specs.Record.{bitWords, checkWords, written}
-use Rattle.parity.proofs.Sums.{count-mono}
-use Rattle.parity.proofs.Digits.{bit-zero}
-use Rattle.parity.proofs.Lent.{lent-word}
-use Rattle.parity.proofs.Ones.{Lowest}
-use Rattle.parity.proofs.Rest.{rest-bit}
-use Rattle.parity.proofs.Writing.{length-one, length-bits, length-check, checks-wider}
-use Rattle.parity.proofs.Accept.{Accepted}
+use Rattle.parity.proofs.Finite.Sums.{count-mono}
+use Rattle.parity.proofs.Matrix.Digits.{bit-zero}
+use Rattle.parity.proofs.Matrix.Lent.{lent-word}
+use Rattle.parity.proofs.Matrix.Ones.{Lowest}
+use Rattle.parity.proofs.Matrix.Rest.{rest-bit}
+use Rattle.parity.proofs.Record.Writing.{length-one, length-bits, length-check, checks-wider}
+use Rattle.parity.proofs.Matrix.Accept.{Accepted}
 use Rattle.record.specs.Write.{wordOnes, checkOf, plainRecord, Wrote}
 
 -- stores, one list after another

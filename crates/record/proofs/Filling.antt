@@ -12,9 +12,9 @@ use lib.ListN.{getD, length, set, length-set, List·getD-eq-default}
 use lib.Seq.{getD-set-same, getD-set-other, set-getD, set-set}
 use Rattle.parity.specs.Matrix.{Matrix, lent}
 use Rattle.parity.specs.Record.{payload, openWord, loaded, loading}
-use Rattle.parity.proofs.Digits.{bit-zero}
-use Rattle.parity.proofs.Lent.{lent-in, lent-out, raised-put}
-use Rattle.parity.proofs.Reading.{readingAt, bits, opens, read-open, read-bit, loads-more, loads-open, loads-bit, loads-end}
+use Rattle.parity.proofs.Matrix.Digits.{bit-zero}
+use Rattle.parity.proofs.Matrix.Lent.{lent-in, lent-out, raised-put}
+use Rattle.parity.proofs.Record.Reading.{readingAt, bits, opens, read-open, read-bit, loads-more, loads-open, loads-bit, loads-end}
 use Rattle.record.specs.Read.{puts}
 use Rattle.record.specs.Fill.{Zeroed, Payloads, Checks, Filled}
 

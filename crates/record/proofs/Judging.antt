@@ -11,9 +11,9 @@ use lib.ListN.{getD, length, drop}
 use borrow.Author.Tests.{eq-eqb, ne-eqb}
 use Rattle.parity.specs.Matrix.{Matrix, inRange}
 use Rattle.parity.specs.Record.{kindOf, payload, headWord, openWord, endWord, faulty, ending, loading}
-use Rattle.parity.proofs.Sums.{is-true, is-false, is}
-use Rattle.parity.proofs.Accept.{ranges}
-use Rattle.parity.proofs.Reading.{readingAt, read-missing, read-open, not-open, read-end, not-end, not-bit, end-last, end-more}
+use Rattle.parity.proofs.Finite.Sums.{is-true, is-false, is}
+use Rattle.parity.proofs.Matrix.Accept.{ranges}
+use Rattle.parity.proofs.Record.Reading.{readingAt, read-missing, read-open, not-open, read-end, not-end, not-bit, end-last, end-more}
 use Rattle.record.specs.Read.{puts, BitsRead}
 use Rattle.record.specs.Judge.{Gives, Complete, Stops, Reached, Loads}
 

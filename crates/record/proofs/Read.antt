@@ -8,7 +8,7 @@ use native.Mathlib.Numerals.{add-one}
 use native.Mathlib.Omega.{arith}
 use lib.ListN.{getD, length}
 use Rattle.parity.specs.Record.{payload, bitWord}
-use Rattle.parity.proofs.Reading.{read-bit}
+use Rattle.parity.proofs.Record.Reading.{read-bit}
 use Rattle.record.specs.Read.{puts, Rising}
 
 pub rising-none : (n : ℕ) (source : List ℕ) (from : ℕ) → Rising n source from 0 0

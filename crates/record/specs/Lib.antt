@@ -1,5 +1,5 @@
 pub mod Read
 pub mod Judge
 pub mod Fill
-pub mod Replies
+pub mod Answers
 pub mod Write

@@ -9,12 +9,12 @@ use crate::emit::put_record;
 use crate::fill::fill;
 use crate::judge::Judged;
 use crate::judge::judge;
-use matrix::Acceptance;
+use matrix::Accepting;
 use matrix::accept;
 use parity::Refusal;
 ghost use mathlib.Core.Path.{_≡_};
 ghost use Rattle.parity.specs.Calls.{loadOutcome, writeOutcome};
-ghost use Rattle.record.specs.Replies.{loadReplyOf, writeReplyOf};
+ghost use Rattle.record.specs.Answers.{loadingReply, writingReply};
 
 // How many words of a check may have ones where k = 0, so that its bits are below 120.
 const IN_USE: usize = 2;
@@ -33,7 +33,7 @@ pub enum Writing {
 
 // Loads the matrix of a record into all 4,096 words.
 pub fn load(record: &[u32], words: &mut [u64]) -> Loading
-    ensures { λ r. ⌜ loadReplyOf r ≡ loadOutcome (now («record» .entry)) (now (words .entry)) .reply ⌝ }
+    ensures { λ r. ⌜ loadingReply r ≡ loadOutcome (now («record» .entry)) (now (words .entry)) .reply ⌝ }
     ensures { λ r. ⌜ now (words .exit) ≡ loadOutcome (now («record» .entry)) (now (words .entry)) .after ⌝ }
 {
     if words.len() != 4096 {
@@ -50,11 +50,11 @@ pub fn load(record: &[u32], words: &mut [u64]) -> Loading
 
 // Writes a matrix with k = 0 into the first words of a record.
 pub fn write(words: &[u64], n: usize, m: usize, k: usize, record: &mut [u32]) -> Writing
-    ensures { λ r. ⌜ writeReplyOf r ≡ writeOutcome (now (words .entry)) n m k (now («record» .entry)) .reply ⌝ }
+    ensures { λ r. ⌜ writingReply r ≡ writeOutcome (now (words .entry)) n m k (now («record» .entry)) .reply ⌝ }
     ensures { λ r. ⌜ now («record» .exit) ≡ writeOutcome (now (words .entry)) n m k (now («record» .entry)) .after ⌝ }
 {
     let acceptance = accept(words, n, m, k);
-    if let Acceptance::Refused(why) = acceptance {
+    if let Accepting::Refused(why) = acceptance {
         return Writing::Refused(why);
     }
     if 0 < k {

@@ -1,27 +1,27 @@
 // Each call's answer, or its refusal, as document 01's number and values, and passing these to a caller in C.
 use cycles::Counting;
 use cycles::Sharing;
-use encode::Encoded;
-use encode::Ranked;
+use encode::Encoding;
+use encode::Ranking;
 use parity::Refusal;
-use peel::Peeled;
+use peel::Peeling;
 use record::Loading;
 use record::Writing;
 use split::Orthogonalising;
 use split::Splitting;
-use word::Extension;
+use word::Extending;
 use word::Stopping;
-use word::Verified;
+use word::Verifying;
 ghost use mathlib.Core.Path.{_≡_};
 ghost use lib.ListN.{set};
 ghost use Rattle.parity.specs.Causes.{refusalOf};
-ghost use Rattle.record.specs.Replies.{loadReplyOf, writeReplyOf};
+ghost use Rattle.record.specs.Answers.{loadingReply, writingReply};
 ghost use Rattle.cycles.specs.Answers.{sharingReply, countingReply};
 ghost use Rattle.split.specs.Answers.{splittingReply, orthogonalisingReply};
-ghost use Rattle.word.specs.Answers.{verifyReplyOf, stoppingReplyOf};
-ghost use Rattle.word.specs.Extending.{extendReplyOf};
-ghost use Rattle.peel.specs.Answers.{peelReplyOf};
-ghost use Rattle.encode.specs.Answers.{rankReplyOf, encodeReplyOf};
+ghost use Rattle.word.specs.Answers.{verifyingReply, stoppingReply};
+ghost use Rattle.word.specs.Answers.{extendingReply};
+ghost use Rattle.peel.specs.Answers.{peelingReply};
+ghost use Rattle.encode.specs.Answers.{rankingReply, encodingReply};
 ghost use Rattle.reply.specs.Passed.{numberedReply, Passed};
 
 // A number and the values that it carries.
@@ -57,7 +57,7 @@ fn refused(why: Refusal) -> Numbered
 
 // What loading answers.
 pub fn loading(answer: Loading) -> Numbered
-    ensures { λ r. ⌜ numberedReply r ≡ loadReplyOf answer ⌝ }
+    ensures { λ r. ⌜ numberedReply r ≡ loadingReply answer ⌝ }
 {
     match answer {
         Loading::Loaded { n, m } => Numbered::Two(0, n as u64, m as u64),
@@ -67,7 +67,7 @@ pub fn loading(answer: Loading) -> Numbered
 
 // What writing answers.
 pub fn writing(answer: Writing) -> Numbered
-    ensures { λ r. ⌜ numberedReply r ≡ writeReplyOf answer ⌝ }
+    ensures { λ r. ⌜ numberedReply r ≡ writingReply answer ⌝ }
 {
     match answer {
         Writing::Written { used } => Numbered::One(0, used as u64),
@@ -116,19 +116,19 @@ pub fn orthogonalising(answer: Orthogonalising) -> Numbered
 }
 
 // What verifying answers.
-pub fn verified(answer: Verified) -> Numbered
-    ensures { λ r. ⌜ numberedReply r ≡ verifyReplyOf answer ⌝ }
+pub fn verifying(answer: Verifying) -> Numbered
+    ensures { λ r. ⌜ numberedReply r ≡ verifyingReply answer ⌝ }
 {
     match answer {
-        Verified::Yes => Numbered::One(0, 1),
-        Verified::No => Numbered::One(0, 0),
-        Verified::Refused(why) => refused(why),
+        Verifying::Yes => Numbered::One(0, 1),
+        Verifying::No => Numbered::One(0, 0),
+        Verifying::Refused(why) => refused(why),
     }
 }
 
 // What the stopping-set test answers.
 pub fn stopping(answer: Stopping) -> Numbered
-    ensures { λ r. ⌜ numberedReply r ≡ stoppingReplyOf answer ⌝ }
+    ensures { λ r. ⌜ numberedReply r ≡ stoppingReply answer ⌝ }
 {
     match answer {
         Stopping::Yes => Numbered::One(0, 1),
@@ -138,42 +138,42 @@ pub fn stopping(answer: Stopping) -> Numbered
 }
 
 // What extending answers.
-pub fn extension(answer: Extension) -> Numbered
-    ensures { λ r. ⌜ numberedReply r ≡ extendReplyOf answer ⌝ }
+pub fn extending(answer: Extending) -> Numbered
+    ensures { λ r. ⌜ numberedReply r ≡ extendingReply answer ⌝ }
 {
     match answer {
-        Extension::Written => Numbered::Alone(0),
-        Extension::Refused(why) => refused(why),
+        Extending::Written => Numbered::Alone(0),
+        Extending::Refused(why) => refused(why),
     }
 }
 
 // What peeling answers.
-pub fn peeled(answer: Peeled) -> Numbered
-    ensures { λ r. ⌜ numberedReply r ≡ peelReplyOf answer ⌝ }
+pub fn peeling(answer: Peeling) -> Numbered
+    ensures { λ r. ⌜ numberedReply r ≡ peelingReply answer ⌝ }
 {
     match answer {
-        Peeled::Made { recovered, left } => Numbered::Two(0, recovered, left),
-        Peeled::Refused(why) => refused(why),
+        Peeling::Made { recovered, left } => Numbered::Two(0, recovered, left),
+        Peeling::Refused(why) => refused(why),
     }
 }
 
 // What the rank call answers.
-pub fn ranked(answer: Ranked) -> Numbered
-    ensures { λ r. ⌜ numberedReply r ≡ rankReplyOf answer ⌝ }
+pub fn ranking(answer: Ranking) -> Numbered
+    ensures { λ r. ⌜ numberedReply r ≡ rankingReply answer ⌝ }
 {
     match answer {
-        Ranked::Rank { rank } => Numbered::One(0, rank),
-        Ranked::Refused(why) => refused(why),
+        Ranking::Rank { rank } => Numbered::One(0, rank),
+        Ranking::Refused(why) => refused(why),
     }
 }
 
 // What encoding answers.
-pub fn encoded(answer: Encoded) -> Numbered
-    ensures { λ r. ⌜ numberedReply r ≡ encodeReplyOf answer ⌝ }
+pub fn encoding(answer: Encoding) -> Numbered
+    ensures { λ r. ⌜ numberedReply r ≡ encodingReply answer ⌝ }
 {
     match answer {
-        Encoded::Written => Numbered::Alone(0),
-        Encoded::Refused(why) => refused(why),
+        Encoding::Written => Numbered::Alone(0),
+        Encoding::Refused(why) => refused(why),
     }
 }
 

@@ -12,9 +12,9 @@ use lib.ListN.{getD, length, set, length-set}
 use lib.Seq.{getD-set-same, getD-set-other}
 use borrow.Author.Tests.{lt-ltb, le-ltb, eq-eqb}
 use Rattle.parity.specs.Matrix.{Matrix, lent}
-use Rattle.parity.proofs.Digits.{bit-and}
-use Rattle.parity.proofs.Lent.{lent-in, lent-out}
-use Rattle.parity.proofs.Clean.{Clean}
+use Rattle.parity.proofs.Matrix.Digits.{bit-and}
+use Rattle.parity.proofs.Matrix.Lent.{lent-in, lent-out}
+use Rattle.parity.proofs.Matrix.Clean.{Clean}
 use Rattle.matrix.specs.Rows.{Column, Columns}
 use Rattle.choice.specs.Given.{parted, Parted}
 use Rattle.split.specs.Merge.{Apart, Both, Kept}

@@ -10,14 +10,14 @@ use borrow.Author.Tests.{lt-ltb, le-ltb}
 use Rattle.parity.specs.Matrix.{Matrix}
 use Rattle.parity.specs.Cycles.{share, pairs, splitOf, largestShare, lowerBit, higherBit, orthogonal}
 use Rattle.parity.specs.Calls.{orthogonalisedReply}
-use Rattle.parity.proofs.Sums.{count-cong, count-end}
-use Rattle.parity.proofs.Pairs.{pairs-suc}
-use Rattle.parity.proofs.Split.{at-new-bit}
-use Rattle.parity.proofs.Rule.{at-le}
-use Rattle.parity.proofs.Sound.{Sound, split-sound}
-use Rattle.parity.proofs.Pick.{Chosen, picked, chosen-only}
-use Rattle.parity.proofs.Given.{apart, given, given-too}
-use Rattle.parity.proofs.Orthogonal.{finishes, stops-full, repeats}
+use Rattle.parity.proofs.Finite.Sums.{count-cong, count-end}
+use Rattle.parity.proofs.Splits.Pairs.{pairs-suc}
+use Rattle.parity.proofs.Splits.Split.{at-new-bit}
+use Rattle.parity.proofs.Matrix.Rule.{at-le}
+use Rattle.parity.proofs.Matrix.Sound.{Sound, split-sound}
+use Rattle.parity.proofs.Splits.Pick.{Chosen, picked, chosen-only}
+use Rattle.parity.proofs.Splits.Given.{apart, given, given-too}
+use Rattle.parity.proofs.Splits.Orthogonal.{finishes, stops-full, repeats}
 use Rattle.matrix.specs.Rows.{Columns}
 use Rattle.choice.specs.Given.{together, Parted, Given}
 use Rattle.choice.specs.Bounds.{Bounded, Head, Picked, NoPair, Narrow, Raised, Weights}

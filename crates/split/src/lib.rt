@@ -7,7 +7,7 @@ use crate::orthogonal::Course;
 use crate::orthogonal::repeat;
 use cycles::pairs::is_pair;
 use cycles::pairs::share_of;
-use matrix::Acceptance;
+use matrix::Accepting;
 use matrix::accept;
 use parity::Bit;
 use parity::Check;
@@ -59,8 +59,8 @@ pub fn split(words: &mut [u64], n: usize, m: usize, k: usize, u: Bit, v: Bit) ->
     ensures { λ r. ⌜ now (words .exit) ≡ splitOutcome (now (words .entry)) n m k (u .0) (v .0) .after ⌝ }
 {
     match accept(words, n, m, k) {
-        Acceptance::Refused(r) => Splitting::Refused(r),
-        Acceptance::Accepted => split_accepted(words, n, m, k, u, v),
+        Accepting::Refused(r) => Splitting::Refused(r),
+        Accepting::Accepted => split_accepted(words, n, m, k, u, v),
     }
 }
 
@@ -87,7 +87,7 @@ pub fn orthogonalise(words: &mut [u64], n: usize, m: usize, k: usize) -> Orthogo
     ensures { λ r. ⌜ now (words .exit) ≡ orthogonaliseOutcome (now (words .entry)) n m k .after ⌝ }
 {
     match accept(words, n, m, k) {
-        Acceptance::Refused(r) => Orthogonalising::Refused(r),
-        Acceptance::Accepted => told(repeat(words, n, m, k)),
+        Accepting::Refused(r) => Orthogonalising::Refused(r),
+        Accepting::Accepted => told(repeat(words, n, m, k)),
     }
 }

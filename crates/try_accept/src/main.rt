@@ -1,12 +1,12 @@
 // Acceptance on good and bad matrices: each line is a case and the number of its cause, 0 where it is accepted.
-use matrix::Acceptance;
+use matrix::Accepting;
 ghost use Prim.Native.Nat.{_<_};
 
 // The number of the cause.
-fn number(a: Acceptance) -> u64 {
+fn number(a: Accepting) -> u64 {
     match a {
-        Acceptance::Accepted => 0,
-        Acceptance::Refused(r) => parity::number(r),
+        Accepting::Accepted => 0,
+        Accepting::Refused(r) => parity::number(r),
     }
 }
 

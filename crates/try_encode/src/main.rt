@@ -1,7 +1,7 @@
 // Rank and encoding on case J's matrix for all 16 messages, on case L's circulant for some, and on bad input.
 // A message that is encoded is followed by its codeword, one that is refused by the number of its cause, and the place of cause 11.
-use encode::Encoded;
-use encode::Ranked;
+use encode::Encoding;
+use encode::Ranking;
 use parity::Refusal;
 
 fn wide(x: u8) -> u64 {
@@ -35,11 +35,11 @@ fn rank(head: &[u8], words: &[u64], n: usize, m: usize, k: usize) {
     io::write_all(1, head);
     let answer = encode::rank(words, n, m, k);
     match answer {
-        Ranked::Rank { rank: r } => {
+        Ranking::Rank { rank: r } => {
             io::write_all(1, b" rank ");
             io::print_decimal(1, r);
         }
-        Ranked::Refused(r) => refused(r),
+        Ranking::Refused(r) => refused(r),
     }
     io::write_all(1, b"\n");
 }
@@ -48,11 +48,11 @@ fn coded(words: &[u64], m: usize, k: usize, message: &[u8], n: usize, word: &mut
     show(message);
     let answer = encode::encode(words, n, m, k, message, word);
     match answer {
-        Encoded::Written => {
+        Encoding::Written => {
             io::write_all(1, b" ");
             show(word);
         }
-        Encoded::Refused(r) => refused(r),
+        Encoding::Refused(r) => refused(r),
     }
     io::write_all(1, b"\n");
 }

@@ -1,9 +1,9 @@
 // Peeling, verifying and testing sets on document 01's cases and on bad input. A line has the case, what the call answers, and after
 // peeling the word, with ? for erased and x for a byte above 2.
 use parity::Refusal;
-use peel::Peeled;
+use peel::Peeling;
 use word::Stopping;
-use word::Verified;
+use word::Verifying;
 ghost use mathlib.Core.Path.{_≡_};
 ghost use Prim.Native.Nat.{_<_, _≤_};
 ghost use lib.ListN.{length};
@@ -48,7 +48,7 @@ fn peel_line(head: &[u8], words: &[u64], n: usize, m: usize, k: usize, word: &mu
     io::write_all(1, head);
     let answer = peel::peel(words, n, m, k, word);
     match answer {
-        Peeled::Made {
+        Peeling::Made {
             recovered: a,
             left: b,
         } => {
@@ -57,7 +57,7 @@ fn peel_line(head: &[u8], words: &[u64], n: usize, m: usize, k: usize, word: &mu
             io::write_all(1, b" left ");
             io::print_decimal(1, b);
         }
-        Peeled::Refused(r) => refused(r),
+        Peeling::Refused(r) => refused(r),
     }
     show(word);
     end_line();
@@ -67,13 +67,13 @@ fn verify_line(head: &[u8], words: &[u64], n: usize, m: usize, k: usize, word: &
     io::write_all(1, head);
     let answer = word::verify(words, n, m, k, word);
     match answer {
-        Verified::Yes => {
+        Verifying::Yes => {
             io::write_all(1, b"yes");
         }
-        Verified::No => {
+        Verifying::No => {
             io::write_all(1, b"no");
         }
-        Verified::Refused(r) => refused(r),
+        Verifying::Refused(r) => refused(r),
     }
     end_line();
 }
@@ -283,11 +283,11 @@ fn comes_back(words: &[u64], a: usize, b: usize) -> bool
     w[b] = 2;
     let answer = peel::peel(words, 23, 23, 0, &mut w);
     match answer {
-        Peeled::Made {
+        Peeling::Made {
             recovered: _,
             left: l,
         } => l == 0 && check::same(&w, &CODEWORD),
-        Peeled::Refused(_) => false,
+        Peeling::Refused(_) => false,
     }
 }
 

@@ -9,7 +9,7 @@ use lib.Dec.{ltb}
 use lib.ListN.{length}
 use borrow.Author.Tests.{lt-ltb, le-ltb}
 use Rattle.parity.specs.Calls.{byteOf, wrongByte, wrongPlace}
-use Rattle.parity.proofs.Firsts.{any-none, least-none, least-is, least-in, least-out}
+use Rattle.parity.proofs.Finite.Firsts.{any-none, least-none, least-is, least-in, least-out}
 
 -- no byte below place i is above top
 pub record Passed (w : List ℕ) (top i : ℕ) : Type 0 where

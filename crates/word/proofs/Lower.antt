@@ -16,13 +16,12 @@ use Rattle.parity.specs.Finite.{one, sum, count, listFrom}
 use Rattle.parity.specs.Matrix.{Matrix}
 use Rattle.parity.specs.Words.{isOne, inside, odd, extended}
 use Rattle.parity.specs.Calls.{byteOf}
-use Rattle.parity.proofs.Sums.{is-true, is-false, is, one≤1, count-at, count-suc, count-mono, count-end, sum-two, sum-zero}
-use Rattle.parity.proofs.Packing.{length-listFrom, at-listFrom}
-use Rattle.parity.proofs.Replies.{byte-one, eqb-one}
-use Rattle.parity.proofs.Rule.{Rule}
-use Rattle.parity.proofs.Extend.{inside-cong}
+use Rattle.parity.proofs.Finite.Sums.{is-true, is-false, is, one≤1, count-at, count-suc, count-mono, count-end, sum-two, sum-zero, byte-one, eqb-one}
+use Rattle.parity.proofs.Matrix.Packing.{length-listFrom, at-listFrom}
+use Rattle.parity.proofs.Matrix.Rule.{Rule}
+use Rattle.parity.proofs.Words.Extend.{inside-cong}
 use Rattle.matrix.specs.Rows.{NextOne}
-use Rattle.word.specs.Extending.{Copied, Bits, ExtendedTo, extendedBytes}
+use Rattle.word.specs.Added.{Copied, Bits, ExtendedTo, extendedBytes}
 
 module _ (h : Matrix) (n m k j : ℕ) (R : Rule h n m k j) (x y : ℕ) (A : NextOne 512 (h (m + j)) 0 x) (few : n + j ≤ 512) where
   pub lower-first : x < n + j

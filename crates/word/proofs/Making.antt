@@ -13,9 +13,9 @@ use lib.Seq.{getD-set-same, getD-set-other}
 use borrow.Author.Tests.{eq-eqb, ne-eqb, lt-ltb, le-ltb}
 use Rattle.parity.specs.Matrix.{bitOf}
 use Rattle.parity.specs.Calls.{byteOf}
-use Rattle.parity.proofs.Sums.{below-next}
-use Rattle.parity.proofs.Digits.{bit-zero, bit-set}
-use Rattle.parity.proofs.Lent.{lent-in, lent-out}
+use Rattle.parity.proofs.Finite.Sums.{below-next}
+use Rattle.parity.proofs.Matrix.Digits.{bit-zero, bit-set}
+use Rattle.parity.proofs.Matrix.Lent.{lent-in, lent-out}
 use Rattle.word.specs.Sets.{WordOf, SetOf}
 
 -- x has the bits of word i below bit b whose byte is v

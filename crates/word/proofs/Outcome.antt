@@ -5,10 +5,10 @@ use mathlib.Core.List.{List, [], _∷_}
 use Prim.Native.Nat.{ℕ, _+_}
 use lib.ListN.{length}
 use borrow.Author.Tests.{eq-eqb, ne-eqb}
-use Rattle.parity.specs.Causes.{Reply, refusal, refusalOf, accepting}
+use Rattle.parity.specs.Causes.{refusal, refusalOf}
 use Rattle.parity.specs.Calls.{wrongByte, wrongPlace, acceptReply, extendReply, extendOutcome}
-use Rattle.parity.proofs.Accept.{Accepted, accepts, accepting-answers}
-use Rattle.parity.proofs.Refused.{refused-number, refused-same}
+use Rattle.parity.proofs.Matrix.Accept.{Accepted, passes}
+use Rattle.parity.proofs.Causes.Refused.{refused-number, refused-same}
 
 module _ (ws : List ℕ) (n m k : ℕ) (sent w : List ℕ) where
   -- by causes 1 to 4
@@ -18,19 +18,16 @@ module _ (ws : List ℕ) (n m k : ℕ) (sent w : List ℕ) where
   extend-refused r e = rw (← refused-same ws n m k r _ e, ne-eqb (refusalOf r .number) 0 (refused-number r))
 
   module _ (A : Accepted ws n m k) where
-    passes : (r : Reply) → accepting ws n m k r ≡ r
-    passes r = accepting-answers ws n m k r (accepts ws n m k .1 A)
-
     pub word-length : (length w ≡ n + k → ⊥) → extendOutcome ws n m k sent w ≡ record { reply = refusal 10 []; after = w }
     unfolding extendOutcome extendReply
-    word-length d = rw (passes, ne-eqb (length w) (n + k) d)
+    word-length d = rw (passes ws n m k A, ne-eqb (length w) (n + k) d)
 
     module _ (l : length w ≡ n + k) where
       pub sent-length : (length sent ≡ n → ⊥) → extendOutcome ws n m k sent w ≡ record { reply = refusal 10 []; after = w }
       unfolding extendOutcome extendReply
-      sent-length d = rw (passes, eq-eqb (length w) (n + k) l, ne-eqb (length sent) n d)
+      sent-length d = rw (passes ws n m k A, eq-eqb (length w) (n + k) l, ne-eqb (length sent) n d)
 
       pub sent-byte : length sent ≡ n → wrongByte 1 sent ≡ true
           → extendOutcome ws n m k sent w ≡ record { reply = refusal 11 (wrongPlace 1 sent ∷ []); after = w }
       unfolding extendOutcome extendReply
-      sent-byte e b = rw (passes, eq-eqb (length w) (n + k) l, eq-eqb (length sent) n e, b)
+      sent-byte e b = rw (passes ws n m k A, eq-eqb (length w) (n + k) l, eq-eqb (length sent) n e, b)

@@ -12,12 +12,12 @@ use Rattle.parity.specs.Words.{isOne, inside, evenChecks, codeword, stopping}
 use Rattle.parity.specs.Causes.{Reply, answer, refusalOf, accepting}
 use Rattle.parity.specs.Calls.{byteOf, wrongByte, checkingBytes, verifyReply, isStoppingReply}
 use Rattle.parity.specs.declared.Refusal.{Refusal}
-use Rattle.parity.proofs.Sums.{any-at, all-of, all-false}
-use Rattle.parity.proofs.Accept.{Accepted, accepts, accepting-answers}
-use Rattle.parity.proofs.Replies.{right-bytes, Word, word-right}
-use Rattle.parity.proofs.Firsts.{all-cong}
-use Rattle.parity.proofs.Sets.{inside-below}
-use Rattle.parity.proofs.Admit.{admitted, admit-first}
+use Rattle.parity.proofs.Finite.Sums.{any-at, all-of, all-false}
+use Rattle.parity.proofs.Matrix.Accept.{Accepted, accepts, accepting-answers}
+use Rattle.parity.proofs.Words.Bytes.{right-bytes, Word, word-right}
+use Rattle.parity.proofs.Finite.Firsts.{all-cong}
+use Rattle.parity.proofs.Words.Sets.{inside-below}
+use Rattle.parity.proofs.Causes.Admit.{admitted, admit-first}
 use Rattle.word.specs.Answers.{admitReply}
 use Rattle.word.specs.Sets.{SetOf}
 

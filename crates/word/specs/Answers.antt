@@ -5,8 +5,10 @@ use Rattle.parity.specs.Causes.{Reply, answer, accepting, refusalOf}
 use Rattle.parity.specs.Calls.{checkingBytes}
 use Rattle.word.specs.declared.Admission.{Admission}
 use Rattle.word.specs.declared.Admission.the-variants.{Admitted, Refused}
-use Rattle.word.specs.declared.Verified.{Verified}
-use Rattle.word.specs.declared.Verified.the-variants as verifies
+use Rattle.word.specs.declared.Verifying.{Verifying}
+use Rattle.word.specs.declared.Verifying.the-variants as verifies
+use Rattle.word.specs.declared.Extending.{Extending}
+use Rattle.word.specs.declared.Extending.the-variants as extends
 use Rattle.word.specs.declared.Stopping.{Stopping}
 use Rattle.word.specs.declared.Stopping.the-variants as stops
 
@@ -19,12 +21,16 @@ unfoldable pub admitReply : List ℕ → ℕ → ℕ → ℕ → List ℕ → �
 admitReply ws n m k w top = accepting ws n m k (checkingBytes (n + k) top w (answer []))
 
 -- yes is 1, no is 0
-abbrev pub verifyReplyOf : Verified → Reply
-verifyReplyOf verifies.Yes = answer (1 ∷ [])
-verifyReplyOf verifies.No = answer (0 ∷ [])
-verifyReplyOf (verifies.Refused r) = refusalOf r
+abbrev pub verifyingReply : Verifying → Reply
+verifyingReply verifies.Yes = answer (1 ∷ [])
+verifyingReply verifies.No = answer (0 ∷ [])
+verifyingReply (verifies.Refused r) = refusalOf r
 
-abbrev pub stoppingReplyOf : Stopping → Reply
-stoppingReplyOf stops.Yes = answer (1 ∷ [])
-stoppingReplyOf stops.No = answer (0 ∷ [])
-stoppingReplyOf (stops.Refused r) = refusalOf r
+abbrev pub stoppingReply : Stopping → Reply
+stoppingReply stops.Yes = answer (1 ∷ [])
+stoppingReply stops.No = answer (0 ∷ [])
+stoppingReply (stops.Refused r) = refusalOf r
+
+abbrev pub extendingReply : Extending → Reply
+extendingReply extends.Written = answer []
+extendingReply (extends.Refused r) = refusalOf r

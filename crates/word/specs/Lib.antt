@@ -1,3 +1,3 @@
 pub mod Answers
 pub mod Sets
-pub mod Extending
+pub mod Added

@@ -1,14 +1,14 @@
 // Words and sets of bits, one byte for each bit: verifying, extending, and testing stopping sets.
+mod added;
 pub mod bytes;
-mod extending;
 pub mod sets;
 
+use crate::added::write_word;
 use crate::bytes::first_above;
-use crate::extending::write_word;
 use crate::sets::common;
 use crate::sets::is_odd;
 use crate::sets::set_of;
-use matrix::Acceptance;
+use matrix::Accepting;
 use parity::Check;
 use parity::Refusal;
 ghost use mathlib.Core.Path.{_≡_};
@@ -17,8 +17,8 @@ ghost use lib.ListN.{length};
 ghost use Rattle.parity.specs.Matrix.{lent};
 ghost use Rattle.parity.specs.Words.{isOne, evenChecks, codeword, stopping};
 ghost use Rattle.parity.specs.Calls.{byteOf, verifyReply, extendOutcome, isStoppingReply};
-ghost use Rattle.word.specs.Answers.{admissionReply, admitReply, verifyReplyOf, stoppingReplyOf};
-ghost use Rattle.word.specs.Extending.{extendReplyOf};
+ghost use Rattle.word.specs.Answers.{admissionReply, admitReply, verifyingReply, stoppingReply};
+ghost use Rattle.word.specs.Answers.{extendingReply};
 
 // Whether a matrix and the bytes lent with it are taken.
 pub enum Admission {
@@ -27,14 +27,14 @@ pub enum Admission {
 }
 
 // What verifying answers.
-pub enum Verified {
+pub enum Verifying {
     Yes,
     No,
     Refused(Refusal),
 }
 
 // What extending answers.
-pub enum Extension {
+pub enum Extending {
     Written,
     Refused(Refusal),
 }
@@ -52,8 +52,8 @@ pub fn admit(words: &[u64], n: usize, m: usize, k: usize, bytes: &[u8], top: u8)
 {
     let accepted = matrix::accept(words, n, m, k);
     match accepted {
-        Acceptance::Refused(r) => Admission::Refused(r),
-        Acceptance::Accepted => {
+        Accepting::Refused(r) => Admission::Refused(r),
+        Accepting::Accepted => {
             if bytes.len() != n + k {
                 return Admission::Refused(Refusal::WrongLength);
             }
@@ -92,17 +92,17 @@ fn is_codeword(words: &[u64], checks: usize, bytes: &[u8]) -> bool
 }
 
 // Verifies a word: yes exactly for codewords.
-pub fn verify(words: &[u64], n: usize, m: usize, k: usize, word: &[u8]) -> Verified
-    ensures { λ r. ⌜ verifyReplyOf r ≡ verifyReply (now (words .entry)) n m k (now (word .entry)) ⌝ }
+pub fn verify(words: &[u64], n: usize, m: usize, k: usize, word: &[u8]) -> Verifying
+    ensures { λ r. ⌜ verifyingReply r ≡ verifyReply (now (words .entry)) n m k (now (word .entry)) ⌝ }
 {
     let admission = admit(words, n, m, k, word, 2);
     match admission {
-        Admission::Refused(r) => Verified::Refused(r),
+        Admission::Refused(r) => Verifying::Refused(r),
         Admission::Admitted => {
             if is_codeword(words, m + k, word) {
-                return Verified::Yes;
+                return Verifying::Yes;
             }
-            Verified::No
+            Verifying::No
         }
     }
 }
@@ -115,26 +115,26 @@ pub fn extend(
     k: usize,
     sent: &[u8],
     word: &mut [u8],
-) -> Extension
-    ensures { λ r. ⌜ (extendReplyOf r ≡ extendOutcome (now (words .entry)) n m k (now (sent .entry)) (now (word .entry)) .reply)
+) -> Extending
+    ensures { λ r. ⌜ (extendingReply r ≡ extendOutcome (now (words .entry)) n m k (now (sent .entry)) (now (word .entry)) .reply)
         × (now (word .exit) ≡ extendOutcome (now (words .entry)) n m k (now (sent .entry)) (now (word .entry)) .after) ⌝ }
 {
     let accepted = matrix::accept(words, n, m, k);
     match accepted {
-        Acceptance::Refused(r) => Extension::Refused(r),
-        Acceptance::Accepted => {
+        Accepting::Refused(r) => Extending::Refused(r),
+        Accepting::Accepted => {
             if word.len() != n + k {
-                return Extension::Refused(Refusal::WrongLength);
+                return Extending::Refused(Refusal::WrongLength);
             }
             if sent.len() != n {
-                return Extension::Refused(Refusal::WrongLength);
+                return Extending::Refused(Refusal::WrongLength);
             }
             let place = first_above(sent, 1);
             if place < sent.len() {
-                return Extension::Refused(Refusal::WrongByte { place });
+                return Extending::Refused(Refusal::WrongByte { place });
             }
             write_word(words, n, m, k, sent, word);
-            Extension::Written
+            Extending::Written
         }
     }
 }
@@ -163,7 +163,7 @@ fn stops(words: &[u64], checks: usize, bytes: &[u8]) -> bool
 
 // Tests a set of bits, given as bytes of 0 or 1: yes exactly for stopping sets.
 pub fn is_stopping(words: &[u64], n: usize, m: usize, k: usize, set: &[u8]) -> Stopping
-    ensures { λ r. ⌜ stoppingReplyOf r ≡ isStoppingReply (now (words .entry)) n m k (now (set .entry)) ⌝ }
+    ensures { λ r. ⌜ stoppingReply r ≡ isStoppingReply (now (words .entry)) n m k (now (set .entry)) ⌝ }
 {
     let admission = admit(words, n, m, k, set, 1);
     match admission {

@@ -8,8 +8,8 @@ use Rattle.capi.proofs.parity_extend.Tie as tie
 extend-requires : tie.Need-extend-requires
 extend-requires c κs = search needs
 
-extension-requires : tie.Need-extension-requires
-extension-requires c κs = search needs
+extending-requires : tie.Need-extending-requires
+extending-requires c κs = search needs
 
 pass-requires : tie.Need-pass-requires
 pass-requires c κs = search needs
@@ -21,8 +21,8 @@ same-length-2 : tie.Need-same-length-2
 same-length-2 c = search needs
 
 returns : tie.Need-returns
-returns c = (same (c .before .before .before .before .extension .ensures ∙ c .before .before .before .before .before .before .before .extend .ensures .0) (c .before .before .pass .ensures), c .before .before .before .before .before .before .before .extend .ensures .1)
+returns c = (same (c .before .before .before .before .extending .ensures ∙ c .before .before .before .before .before .before .before .extend .ensures .0) (c .before .before .pass .ensures), c .before .before .before .before .before .before .before .extend .ensures .1)
 
 pub parity-extend-spec : {M : Type 1} → statement M
 parity-extend-spec =
-    tie.close (tie.spec extend-requires extension-requires pass-requires same-length same-length-2 returns)
+    tie.close (tie.spec extend-requires extending-requires pass-requires same-length same-length-2 returns)

@@ -8,8 +8,8 @@ use Rattle.capi.proofs.parity_peel.Tie as tie
 peel-requires : tie.Need-peel-requires
 peel-requires c κs = search needs
 
-peeled-requires : tie.Need-peeled-requires
-peeled-requires c κs = search needs
+peeling-requires : tie.Need-peeling-requires
+peeling-requires c κs = search needs
 
 pass-requires : tie.Need-pass-requires
 pass-requires c κs = search needs
@@ -21,8 +21,8 @@ same-length-2 : tie.Need-same-length-2
 same-length-2 c = search needs
 
 returns : tie.Need-returns
-returns c = (same (c .before .before .before .before .peeled .ensures ∙ c .before .before .before .before .before .before .before .peel .ensures .0) (c .before .before .pass .ensures), c .before .before .before .before .before .before .before .peel .ensures .1)
+returns c = (same (c .before .before .before .before .peeling .ensures ∙ c .before .before .before .before .before .before .before .peel .ensures .0) (c .before .before .pass .ensures), c .before .before .before .before .before .before .before .peel .ensures .1)
 
 pub parity-peel-spec : {M : Type 1} → statement M
 parity-peel-spec =
-    tie.close (tie.spec peel-requires peeled-requires pass-requires same-length same-length-2 returns)
+    tie.close (tie.spec peel-requires peeling-requires pass-requires same-length same-length-2 returns)

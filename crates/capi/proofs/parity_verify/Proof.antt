@@ -8,8 +8,8 @@ use Rattle.capi.proofs.parity_verify.Tie as tie
 verify-requires : tie.Need-verify-requires
 verify-requires c κs = search needs
 
-verified-requires : tie.Need-verified-requires
-verified-requires c κs = search needs
+verifying-requires : tie.Need-verifying-requires
+verifying-requires c κs = search needs
 
 pass-requires : tie.Need-pass-requires
 pass-requires c κs = search needs
@@ -18,7 +18,7 @@ same-length : tie.Need-same-length
 same-length c = search needs
 
 returns : tie.Need-returns
-returns c = same (c .before .before .before .before .verified .ensures ∙ c .before .before .before .before .before .verify .ensures) (c .before .before .pass .ensures)
+returns c = same (c .before .before .before .before .verifying .ensures ∙ c .before .before .before .before .before .verify .ensures) (c .before .before .pass .ensures)
 
 pub parity-verify-spec : {M : Type 1} → statement M
-parity-verify-spec = tie.close (tie.spec verify-requires verified-requires pass-requires same-length returns)
+parity-verify-spec = tie.close (tie.spec verify-requires verifying-requires pass-requires same-length returns)

@@ -1,6 +1,6 @@
 -- `make_pivot` meets its contract. Assumes nothing.
 use Rattle.elimination.proofs.Clearing.{around-pivoted, lifted, lifted-own}
-use Rattle.parity.proofs.Lent.{row-room}
+use Rattle.parity.proofs.Matrix.Lent.{row-room}
 use Rattle.elimination.specs.Reduction.{Pivoted}
 use Rattle.parity.specs.Matrix.{Matrix, lent}
 use lib.ListN.{length}

@@ -2,7 +2,7 @@
 use mathlib.Core.Path.{sym, _∙_}
 use native.Mathlib.Omega.{arith}
 use borrow.Author.Tests.{not-true, not-false}
-use Rattle.parity.proofs.Accept.{ranges, cause-0, cause-1, cause-2, cause-3, cause-4, accept-refuses, accept-answers}
+use Rattle.parity.proofs.Matrix.Accept.{ranges, cause-0, cause-1, cause-2, cause-3, cause-4, accept-refuses, accept-answers}
 use borrow.Author.Needs.{needs}
 use Rattle.matrix.proofs.accept.Statement.{statement}
 use Rattle.matrix.proofs.accept.Tie as tie

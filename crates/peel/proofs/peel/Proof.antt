@@ -2,7 +2,7 @@
 use mathlib.Core.Path.{sym, ap, _∙_}
 use native.Mathlib.Omega.{arith}
 use Rattle.parity.specs.Causes.{Outcome}
-use Rattle.parity.proofs.Replies.{word-right}
+use Rattle.parity.proofs.Words.Bytes.{word-right}
 use Rattle.word.specs.Answers.{admissionReply}
 use Rattle.word.proofs.Told.{taken}
 use Rattle.peel.proofs.Ending.{outcome-refused, outcome-word}

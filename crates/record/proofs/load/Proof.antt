@@ -3,8 +3,8 @@ use mathlib.Core.Path.{sym, ap, _∙_}
 use lib.Dec.{lit<}
 use Rattle.parity.specs.Matrix.{pack}
 use Rattle.parity.specs.Causes.{Outcome}
-use Rattle.parity.proofs.Packing.{pack-lent}
-use Rattle.parity.proofs.Records.{load-length, load-faulty, load-right}
+use Rattle.parity.proofs.Matrix.Packing.{pack-lent}
+use Rattle.parity.proofs.Record.Records.{load-length, load-faulty, load-right}
 use borrow.Author.Needs.{needs}
 use Rattle.record.proofs.load.Statement.{statement}
 use Rattle.record.proofs.load.Tie as tie

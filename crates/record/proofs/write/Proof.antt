@@ -6,9 +6,9 @@ use lib.ListN.{length}
 use Rattle.parity.specs.Matrix.{lent, cause}
 use Rattle.parity.specs.Record.{written}
 use Rattle.parity.specs.Causes.{Outcome}
-use Rattle.parity.proofs.Accept.{Accepted, accepts}
-use Rattle.parity.proofs.Refused.{accepted-cause}
-use Rattle.parity.proofs.Records.{write-refused, write-added, write-short, write-made}
+use Rattle.parity.proofs.Matrix.Accept.{Accepted, accepts}
+use Rattle.parity.proofs.Causes.Refused.{accepted-cause}
+use Rattle.parity.proofs.Record.Records.{write-refused, write-added, write-short, write-made}
 use Rattle.record.proofs.Emitting.{plain-length, plain-written, wrote-first}
 use borrow.Author.Needs.{needs}
 use Rattle.record.proofs.write.Statement.{statement}

@@ -1,7 +1,7 @@
 -- `reply::writing` meets its contract. Assumes nothing.
 use borrow.Author.Needs.{needs}
 use mathlib.Core.Path.{sym, ap}
-use Rattle.record.specs.Replies.{writeReplyOf}
+use Rattle.record.specs.Answers.{writingReply}
 use Rattle.reply.proofs.writing.Statement.{statement}
 use Rattle.reply.proofs.writing.Tie as tie
 
@@ -15,7 +15,7 @@ refused-requires : tie.Need-refused-requires
 refused-requires c κs = search needs
 
 returns : tie.Need-returns
-returns c = sym (ap writeReplyOf (c .before .answer .given .1))
+returns c = sym (ap writingReply (c .before .answer .given .1))
 
 returns-2 : tie.Need-returns-2
 returns-2 c = search needs

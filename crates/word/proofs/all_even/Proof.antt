@@ -7,8 +7,8 @@ use borrow.Author.Needs.{needs}
 use Rattle.parity.specs.Finite.{all}
 use Rattle.parity.specs.Matrix.{lent}
 use Rattle.parity.specs.Words.{evenChecks}
-use Rattle.parity.proofs.Sums.{all-more, all-false}
-use Rattle.parity.proofs.Sets.{odd-even, not-odd-even}
+use Rattle.parity.proofs.Finite.Sums.{all-more, all-false}
+use Rattle.parity.proofs.Words.Sets.{odd-even, not-odd-even}
 use Rattle.word.proofs.all_even.Statement.{statement}
 use Rattle.word.proofs.all_even.Tie as tie
 

@@ -8,7 +8,7 @@ use borrow.Author.Tests.{ne-eqb}
 use Rattle.parity.specs.Finite.{all}
 use Rattle.parity.specs.Matrix.{lent}
 use Rattle.parity.specs.Words.{stopping}
-use Rattle.parity.proofs.Sums.{all-more, all-false}
+use Rattle.parity.proofs.Finite.Sums.{all-more, all-false}
 use Rattle.word.proofs.none_single.Statement.{statement}
 use Rattle.word.proofs.none_single.Tie as tie
 

@@ -2,7 +2,7 @@
 use Prim.Native.Nat.{ℕ, _+_, _*_, _<_, _≤_}
 use native.Mathlib.Omega.{arith}
 use lib.ListN.{length-set}
-use Rattle.parity.proofs.Lent.{row-room}
+use Rattle.parity.proofs.Matrix.Lent.{row-room}
 use Rattle.choice.proofs.Columns.{part-word}
 use borrow.Author.Needs.{needs}
 use Rattle.choice.proofs.given.part_word.Statement.{statement}

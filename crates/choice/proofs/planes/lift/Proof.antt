@@ -6,8 +6,8 @@ use native.Mathlib.Omega.{arith}
 use lib.Bits.{and-le-l}
 use borrow.Author.Needs.{needs}
 use lib.ListN.{length, length-set}
-use Rattle.parity.proofs.Ones.{trailing-lowest}
-use Rattle.parity.proofs.Rest.{rest-less}
+use Rattle.parity.proofs.Matrix.Ones.{trailing-lowest}
+use Rattle.parity.proofs.Matrix.Rest.{rest-less}
 use Rattle.choice.specs.Planes.{Lifted}
 use Rattle.choice.proofs.Lifting.{lifted-none, lifted-next}
 use Rattle.choice.proofs.planes.lift.Statement.{statement}

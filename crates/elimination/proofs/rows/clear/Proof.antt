@@ -1,6 +1,6 @@
 -- `rows::clear` meets its contract. Assumes nothing.
 use Rattle.elimination.proofs.Clearing.{cleared-none, cleared-more}
-use Rattle.parity.proofs.Lent.{row-room}
+use Rattle.parity.proofs.Matrix.Lent.{row-room}
 use Rattle.elimination.specs.Reduction.{plus, when, cleared}
 use Rattle.parity.specs.Matrix.{Matrix, lent}
 use lib.ListN.{length}

@@ -5,7 +5,7 @@ use native.Mathlib.Omega.{arith}
 use borrow.Author.Needs.{needs}
 use lib.ListN.{getD}
 use Rattle.parity.specs.Matrix.{lent, bitOf}
-use Rattle.parity.proofs.Lent.{lent-in}
+use Rattle.parity.proofs.Matrix.Lent.{lent-in}
 use Rattle.elimination.specs.Reduction.{plus}
 use Rattle.elimination.proofs.Adding.{pick-room, picked}
 use Rattle.elimination.proofs.rows.clear_check.Statement.{statement}

@@ -1,6 +1,6 @@
 -- `rows::copy` meets its contract. Assumes nothing.
 use Rattle.elimination.proofs.Copying.{rows-none, rows-more}
-use Rattle.parity.proofs.Lent.{row-room}
+use Rattle.parity.proofs.Matrix.Lent.{row-room}
 use Rattle.elimination.specs.Rows.{SameRows}
 use lib.ListN.{length}
 use borrow.Author.Needs.{needs}

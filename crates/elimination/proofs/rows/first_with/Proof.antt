@@ -1,5 +1,5 @@
 -- `rows::first_with` meets its contract. Assumes nothing.
-use Rattle.parity.proofs.Lent.{row-room}
+use Rattle.parity.proofs.Matrix.Lent.{row-room}
 use Rattle.parity.specs.Matrix.{lent}
 use native.Mathlib.Decide.{ℕ-discrete}
 use native.Mathlib.Omega.{arith}

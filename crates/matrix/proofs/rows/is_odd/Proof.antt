@@ -1,5 +1,5 @@
 -- `rows::is_odd` meets its contract. Assumes nothing.
-use Rattle.parity.proofs.Sets.{inside-word, ones-xor}
+use Rattle.parity.proofs.Words.Sets.{inside-word, ones-xor}
 use Rattle.parity.specs.Words.{inside, odd}
 use Rattle.parity.specs.Matrix.{lent}
 use lib.Count.{ones as onesOf}

@@ -1,8 +1,8 @@
 -- `rows::lower` meets its contract. Assumes nothing.
 use Prim.Native.Nat.{_%_}
 use native.Mathlib.Omega.{arith}
-use Rattle.parity.proofs.Digits.{one-shl}
-use Rattle.parity.proofs.Lent.{lowered-put}
+use Rattle.parity.proofs.Matrix.Digits.{one-shl}
+use Rattle.parity.proofs.Matrix.Lent.{lowered-put}
 use borrow.Author.Needs.{needs}
 use Rattle.matrix.proofs.rows.lower.Statement.{statement}
 use Rattle.matrix.proofs.rows.lower.Tie as tie

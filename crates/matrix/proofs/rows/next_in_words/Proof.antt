@@ -6,7 +6,7 @@ use borrow.Author.Needs.{needs}
 use lib.Count.{trailing-le}
 use lib.ListN.{getD}
 use Rattle.parity.specs.Matrix.{lent}
-use Rattle.parity.proofs.Ones.{trailing-lowest}
+use Rattle.parity.proofs.Matrix.Ones.{trailing-lowest}
 use Rattle.matrix.proofs.Next.{Clear, clear-none, clear-word, next-here, next-top, from-all}
 use Rattle.matrix.proofs.rows.next_in_words.Statement.{statement}
 use Rattle.matrix.proofs.rows.next_in_words.Tie as tie

@@ -6,8 +6,8 @@ use native.Mathlib.Omega.{arith}
 use lib.Bits.{and-le-l}
 use lib.Count.{trailing-le}
 use lib.Pow.{pow-pos}
-use Rattle.parity.proofs.Digits.{one-shl}
-use Rattle.parity.proofs.Ones.{trailing-lowest}
+use Rattle.parity.proofs.Matrix.Digits.{one-shl}
+use Rattle.parity.proofs.Matrix.Ones.{trailing-lowest}
 use Rattle.matrix.proofs.Next.{clear-none, clear-word, next-here, next-top, next-later, from-mask}
 use borrow.Author.Needs.{needs}
 use Rattle.matrix.proofs.rows.next_one.Statement.{statement}

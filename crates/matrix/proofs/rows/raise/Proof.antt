@@ -1,8 +1,8 @@
 -- `rows::raise` meets its contract. Assumes nothing.
 use Prim.Native.Nat.{_%_}
 use native.Mathlib.Omega.{arith}
-use Rattle.parity.proofs.Digits.{one-shl}
-use Rattle.parity.proofs.Lent.{raised-put}
+use Rattle.parity.proofs.Matrix.Digits.{one-shl}
+use Rattle.parity.proofs.Matrix.Lent.{raised-put}
 use borrow.Author.Needs.{needs}
 use Rattle.matrix.proofs.rows.raise.Statement.{statement}
 use Rattle.matrix.proofs.rows.raise.Tie as tie

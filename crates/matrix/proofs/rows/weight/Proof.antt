@@ -7,7 +7,7 @@ use borrow.Author.Needs.{needs}
 use lib.Count.{ones as onesOf}
 use lib.ListN.{getD}
 use Rattle.parity.specs.Finite.{sum}
-use Rattle.parity.proofs.Lent.{weight}
+use Rattle.parity.proofs.Matrix.Lent.{weight}
 use Rattle.matrix.proofs.rows.weight.Statement.{statement}
 use Rattle.matrix.proofs.rows.weight.Tie as tie
 

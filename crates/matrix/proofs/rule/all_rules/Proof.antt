@@ -7,7 +7,7 @@ use borrow.Author.Needs.{needs}
 use borrow.Author.Tests.{not-true, not-false}
 use Rattle.parity.specs.Finite.{all}
 use Rattle.parity.specs.Matrix.{lent, ruleAt, ruleA}
-use Rattle.parity.proofs.Sums.{all-false, all-more}
+use Rattle.parity.proofs.Finite.Sums.{all-false, all-more}
 use Rattle.matrix.proofs.rule.all_rules.Statement.{statement}
 use Rattle.matrix.proofs.rule.all_rules.Tie as tie
 

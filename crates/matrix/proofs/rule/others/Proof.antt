@@ -2,7 +2,7 @@
 use Prim.Native.Nat.{_/_, _%_}
 use native.Mathlib.Omega.{arith}
 use borrow.Author.Tests.{eq-eqb, ne-eqb}
-use Rattle.parity.proofs.Digits.{one-shl}
+use Rattle.parity.proofs.Matrix.Digits.{one-shl}
 use Rattle.matrix.specs.Three.{othersIn}
 use borrow.Author.Needs.{needs}
 use Rattle.matrix.proofs.rule.others.Statement.{statement}

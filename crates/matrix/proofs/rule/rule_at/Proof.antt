@@ -6,8 +6,8 @@ use native.Mathlib.Omega.{arith}
 use borrow.Author.Tests.{not-true, not-false}
 use Rattle.parity.specs.Finite.{count}
 use Rattle.parity.specs.Matrix.{lent}
-use Rattle.parity.proofs.Bools.{same-test}
-use Rattle.parity.proofs.Clean.{clean-bits}
+use Rattle.parity.proofs.Finite.Bools.{same-test}
+use Rattle.parity.proofs.Matrix.Clean.{clean-bits}
 use Rattle.matrix.proofs.Three.{not-three, not-own, first-below, not-lower, three-rule, rule-three}
 use Rattle.matrix.proofs.Alone.{only-columns, columns-only}
 use borrow.Author.Needs.{needs}

@@ -9,8 +9,8 @@ use borrow.Author.Needs.{needs}
 use borrow.Author.Tests.{not-true, not-false}
 use Rattle.parity.specs.Finite.{all}
 use Rattle.parity.specs.Matrix.{lent}
-use Rattle.parity.proofs.Sums.{all-more, all-false}
-use Rattle.parity.proofs.Sets.{odd-even, not-odd-even}
+use Rattle.parity.proofs.Finite.Sums.{all-more, all-false}
+use Rattle.parity.proofs.Words.Sets.{odd-even, not-odd-even}
 use Rattle.peel.specs.Steps.{agreeing}
 use Rattle.peel.proofs.result.agree.Statement.{statement}
 use Rattle.peel.proofs.result.agree.Tie as tie

@@ -5,9 +5,9 @@ use Prim.Native.Nat.{_+_, _*_, _-_, _≤_, _<_}
 use native.Mathlib.Omega.{arith}
 use borrow.Author.Needs.{needs}
 use Rattle.parity.specs.Matrix.{lent}
-use Rattle.parity.proofs.Lent.{row-room}
-use Rattle.parity.proofs.Ones.{trailing-lowest}
-use Rattle.parity.proofs.Rest.{rest-less}
+use Rattle.parity.proofs.Matrix.Lent.{row-room}
+use Rattle.parity.proofs.Matrix.Ones.{trailing-lowest}
+use Rattle.parity.proofs.Matrix.Rest.{rest-less}
 use Rattle.peel.specs.Next.{NoSingle}
 use Rattle.peel.proofs.Seen.{Row, Bits, row-start, bits-start, bits-end, bits-first, bits-second, row-one, row-none, none-more, none-all}
 use Rattle.peel.proofs.scan.next_single.Statement.{statement}

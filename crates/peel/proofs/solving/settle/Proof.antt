@@ -9,7 +9,7 @@ use lib.Dec.{ltb}
 use lib.ListN.{length}
 use Rattle.parity.specs.Finite.{one, count}
 use Rattle.parity.specs.Matrix.{lent}
-use Rattle.parity.proofs.Sums.{one≤1}
+use Rattle.parity.proofs.Finite.Sums.{one≤1}
 use Rattle.peel.specs.Steps.{Reached, start, next}
 use Rattle.peel.proofs.Held.{fewer}
 use Rattle.peel.proofs.solving.settle.Statement.{statement}

@@ -1,7 +1,7 @@
 -- `receiver::stages::load` meets its contract. Assumes nothing.
 use mathlib.Core.Path.{sym, ap, _∙_}
 use borrow.Author.Needs.{needs}
-use Rattle.record.specs.Replies.{loadReplyOf}
+use Rattle.record.specs.Answers.{loadingReply}
 use Rattle.receiver.proofs.Lines.{same-text}
 use Rattle.receiver.proofs.Passing.{load-refused, load-passes, load-zero}
 use Rattle.receiver.proofs.stages.load.Statement.{statement}
@@ -25,7 +25,7 @@ put-refused-requires c κs =
     let p = c .before .before .before .before .before .load in
     let z = c .before .before .before .before .before .before .before .empty-words in
     let g = c .before .before .r .given in
-    let e = sym (ap loadReplyOf (g .1)) ∙ p .ensures .0 in
+    let e = sym (ap loadingReply (g .1)) ∙ p .ensures .0 in
     rw (load-refused (z .result) (a .source .now) (a .sent .now) (g .0 .0) e, load-zero (z .result) (a .source .now) (a .sent .now) (z .ensures)) (c .before .before .before .before .before .before .before .before .before .before .before .pre)
 
 enum-known-n : tie.Need-enum-known-n
@@ -40,7 +40,7 @@ orthogonalise-requires c κs =
     let p = c .before .before .before .before .before .before .load in
     let z = c .before .before .before .before .before .before .before .before .empty-words in
     let g = c .before .before .before .n .given in
-    let e = sym (ap loadReplyOf (g .1)) ∙ p .ensures .0 in
+    let e = sym (ap loadingReply (g .1)) ∙ p .ensures .0 in
     rw (p .ensures .1, load-passes (z .result) (a .source .now) (a .sent .now) (g .0 .0) (g .0 .1 .0) e, load-zero (z .result) (a .source .now) (a .sent .now) (z .ensures)) (c .before .before .before .before .before .before .before .before .before .before .before .before .pre)
 
 same-length : tie.Need-same-length
@@ -52,7 +52,7 @@ returns c =
     let p = c .before .before .before .before .before .before .before .before .load in
     let z = c .before .before .before .before .before .before .before .before .before .before .empty-words in
     let g = c .before .before .before .before .before .r .given in
-    let e = sym (ap loadReplyOf (g .1)) ∙ p .ensures .0 in
+    let e = sym (ap loadingReply (g .1)) ∙ p .ensures .0 in
     same-text
     (load-refused (z .result) (a .source .now) (a .sent .now) (g .0 .0) e ∙ load-zero (z .result) (a .source .now) (a .sent .now) (z .ensures))
     (c .before .before .put-refused .ensures)
@@ -66,7 +66,7 @@ returns-2 c =
     let p = c .before .before .before .before .before .before .before .before .before .before .load in
     let z = c .before .before .before .before .before .before .before .before .before .before .before .before .empty-words in
     let g = c .before .before .before .before .before .before .before .n .given in
-    let e = sym (ap loadReplyOf (g .1)) ∙ p .ensures .0 in
+    let e = sym (ap loadingReply (g .1)) ∙ p .ensures .0 in
     same-text
     (rw (p .ensures .1) (load-passes (z .result) (a .source .now) (a .sent .now) (g .0 .0) (g .0 .1 .0) e ∙ load-zero (z .result) (a .source .now) (a .sent .now) (z .ensures)))
     (c .before .before .before .orthogonalise .ensures)

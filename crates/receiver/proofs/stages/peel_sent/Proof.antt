@@ -7,7 +7,7 @@ use native.Mathlib.Omega.{arith}
 use lib.ListN.{length}
 use lib.Seq.{length-take-le}
 use Rattle.parity.specs.Mend.{digitsOf, decimal, refusedLine}
-use Rattle.parity.proofs.Accept.{accepts}
+use Rattle.parity.proofs.Matrix.Accept.{accepts}
 use Rattle.receiver.specs.Stages.{peelText}
 use Rattle.receiver.proofs.Lines.{same-text}
 use Rattle.receiver.proofs.Passing.{peel-short, length-erased, erased-rest}

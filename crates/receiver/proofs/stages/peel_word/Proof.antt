@@ -1,7 +1,7 @@
 -- `receiver::stages::peel_word` meets its contract. Assumes nothing.
 use mathlib.Core.Path.{sym, ap, _∙_}
 use borrow.Author.Needs.{needs}
-use Rattle.peel.specs.Answers.{peelReplyOf}
+use Rattle.peel.specs.Answers.{peelingReply}
 use Rattle.receiver.proofs.Lines.{same-text}
 use Rattle.receiver.proofs.Passing.{peel-refused, peel-passes, peel-bytes}
 use Rattle.receiver.proofs.stages.peel_word.Statement.{statement}
@@ -18,7 +18,7 @@ put-refused-requires c κs =
     let a = c .before .before .before .before .before .before .before .before .before .before .before .args in
     let p = c .before .before .before .before .before .before .peel in
     let g = c .before .before .r .given in
-    let e = sym (ap peelReplyOf (g .1)) ∙ p .ensures .0 in
+    let e = sym (ap peelingReply (g .1)) ∙ p .ensures .0 in
     rw (peel-refused (a .words .now) (a .n) (a .m) (a .k) (a .splits) (a .sum) (a .word .now) (g .0 .0) e) (c .before .before .before .before .before .before .before .before .before .before .before .pre .0)
 
 enum-told : tie.Need-enum-told
@@ -29,7 +29,7 @@ put-report-requires c κs =
     let a = c .before .before .before .before .before .before .before .before .before .before .before .args in
     let p = c .before .before .before .before .before .before .peel in
     let g = c .before .before .enum-told .given in
-    let e = sym (ap peelReplyOf (g .1)) ∙ p .ensures .0 in (
+    let e = sym (ap peelingReply (g .1)) ∙ p .ensures .0 in (
       rw (p .ensures .1, peel-passes (a .words .now) (a .n) (a .m) (a .k) (a .splits) (a .sum) (a .word .now) (g .0 .0) (g .0 .1 .0) e) (c .before .before .before .before .before .before .before .before .before .before .before .pre .0),
       (search needs, rw (p .ensures .1) (peel-bytes (a .words .now) (a .n) (a .m) (a .k) (a .splits) (a .sum) (a .word .now) (g .0 .0) (g .0 .1 .0) e)),
     )
@@ -45,7 +45,7 @@ returns c =
     let a = c .before .before .before .before .before .before .before .before .before .before .before .before .before .before .args in
     let p = c .before .before .before .before .before .before .before .before .before .peel in
     let g = c .before .before .before .before .before .r .given in
-    let e = sym (ap peelReplyOf (g .1)) ∙ p .ensures .0 in
+    let e = sym (ap peelingReply (g .1)) ∙ p .ensures .0 in
     same-text
     (peel-refused (a .words .now) (a .n) (a .m) (a .k) (a .splits) (a .sum) (a .word .now) (g .0 .0) e)
     (c .before .before .put-refused .ensures)
@@ -61,7 +61,7 @@ returns-2 c =
     let a = c .before .before .before .before .before .before .before .before .before .before .before .before .before .before .args in
     let p = c .before .before .before .before .before .before .before .before .before .peel in
     let g = c .before .before .before .before .before .enum-told .given in
-    let e = sym (ap peelReplyOf (g .1)) ∙ p .ensures .0 in
+    let e = sym (ap peelingReply (g .1)) ∙ p .ensures .0 in
     same-text
     (rw (p .ensures .1) (peel-passes (a .words .now) (a .n) (a .m) (a .k) (a .splits) (a .sum) (a .word .now) (g .0 .0) (g .0 .1 .0) e))
     (c .before .before .put-report .ensures)

@@ -6,8 +6,8 @@ use native.Mathlib.Omega.{arith}
 use lib.ListN.{length}
 use Rattle.parity.specs.Matrix.{lent}
 use Rattle.parity.specs.Record.{checkWords}
-use Rattle.parity.proofs.Sums.{count-bound}
-use Rattle.parity.proofs.Writing.{length-check}
+use Rattle.parity.proofs.Finite.Sums.{count-bound}
+use Rattle.parity.proofs.Record.Writing.{length-check}
 use Rattle.record.proofs.emit.needed.Statement.{statement}
 use Rattle.record.proofs.emit.needed.Tie as tie
 

@@ -4,7 +4,7 @@ use Prim.Native.Nat.{_+_, _*_}
 use native.Mathlib.Omega.{arith}
 use lib.ListN.{length-set}
 use Rattle.parity.specs.Matrix.{lent}
-use Rattle.parity.proofs.Sums.{count-bound}
+use Rattle.parity.proofs.Finite.Sums.{count-bound}
 use Rattle.record.proofs.Emitting.{wrote-length, check-length, wrote-check}
 use borrow.Author.Needs.{needs}
 use Rattle.record.proofs.emit.put_check.Statement.{statement}

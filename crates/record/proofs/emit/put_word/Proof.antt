@@ -3,8 +3,8 @@ use Prim.Native.Nat.{_+_, _≤_}
 use native.Mathlib.Omega.{arith}
 use lib.Count.{trailingZeros}
 use lib.ListN.{length}
-use Rattle.parity.proofs.Ones.{Lowest, trailing-lowest}
-use Rattle.parity.proofs.Rest.{rest-less}
+use Rattle.parity.proofs.Matrix.Ones.{Lowest, trailing-lowest}
+use Rattle.parity.proofs.Matrix.Rest.{rest-less}
 use Rattle.record.proofs.Emitting.{Emitting, wrote-length, emitting-none, emitting-end, emitting-room, emitting-next}
 use Rattle.record.proofs.emit.put_word.Statement.{statement}
 use Rattle.record.proofs.emit.put_word.Tie as tie

@@ -2,7 +2,7 @@
 use mathlib.Core.Path.{_∙_}
 use mathlib.Core.Bool.{and-self}
 use borrow.Author.Needs.{needs}
-use Rattle.parity.proofs.Sums.{count-cong}
+use Rattle.parity.proofs.Finite.Sums.{count-cong}
 use Rattle.record.proofs.emit.weight.Statement.{statement}
 use Rattle.record.proofs.emit.weight.Tie as tie
 

@@ -6,7 +6,7 @@ use native.Mathlib.Omega.{arith}
 use borrow.Author.Needs.{needs}
 use lib.ListN.{getD, length-set}
 use Rattle.parity.specs.Record.{payload}
-use Rattle.parity.proofs.Digits.{one-shl}
+use Rattle.parity.proofs.Matrix.Digits.{one-shl}
 use Rattle.record.proofs.Filling.{Held, held-none, held-same, held-other}
 use Rattle.record.proofs.fill.fill_row.Statement.{statement}
 use Rattle.record.proofs.fill.fill_row.Tie as tie

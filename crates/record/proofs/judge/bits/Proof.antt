@@ -4,7 +4,7 @@ use mathlib.Core.List.{[], _∷_}
 use Prim.Native.Nat.{_-_, _≤_}
 use native.Mathlib.Omega.{arith}
 use borrow.Author.Needs.{needs}
-use Rattle.parity.proofs.Reading.{bit-yes, bit-kind, bit-low, bit-large}
+use Rattle.parity.proofs.Record.Reading.{bit-yes, bit-kind, bit-low, bit-large}
 use Rattle.record.specs.Read.{Rising}
 use Rattle.record.proofs.Other.{other-kind}
 use Rattle.record.proofs.Read.{rising-none, rising-next}

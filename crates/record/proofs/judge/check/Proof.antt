@@ -5,7 +5,7 @@ use mathlib.Core.List.{[], _∷_}
 use Prim.Native.Nat.{_+_, _≤_, _<_}
 use native.Mathlib.Omega.{arith}
 use lib.ListN.{length}
-use Rattle.parity.proofs.Reading.{open-yes, open-kind, open-large}
+use Rattle.parity.proofs.Record.Reading.{open-yes, open-kind, open-large}
 use Rattle.record.proofs.Other.{other-kind}
 use Rattle.record.proofs.Judging.{stop-missing, stop-open, check-stops, check-complete}
 use borrow.Author.Needs.{needs}

@@ -1,7 +1,7 @@
 -- `judge::last` meets its contract. Assumes nothing.
 use mathlib.Core.List.{[], _∷_}
 use native.Mathlib.Omega.{arith}
-use Rattle.parity.proofs.Reading.{end-yes, end-kind, end-unnamed}
+use Rattle.parity.proofs.Record.Reading.{end-yes, end-kind, end-unnamed}
 use Rattle.record.proofs.Other.{other-kind}
 use Rattle.record.proofs.Judging.{last-missing, last-other, last-more, last-right}
 use borrow.Author.Needs.{needs}

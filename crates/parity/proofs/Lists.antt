@@ -1,0 +1,4 @@
+-- Document 01, 'The words of demand 3': laws of lists of calls, and demand 3's proof. Assumes nothing.
+pub mod Chain
+pub mod Demand3
+pub mod Theorems

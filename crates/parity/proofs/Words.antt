@@ -1,0 +1,9 @@
+-- Document 01, 'Words, peeling': laws of lists of bytes, verifying, extending, stopping sets, the residue and peeling. Assumes nothing.
+pub mod Sets
+pub mod Extend
+pub mod Residue
+pub mod Peel
+pub mod Steps
+pub mod Bytes
+pub mod Verifying
+pub mod Peeling

@@ -1,0 +1,78 @@
+-- Words, messages and sets as lists of bytes: those that causes 10 and 11 do not refuse, codewords, and the first bytes of a longer word.
+-- Assumes nothing.
+use mathlib.Core.Path.{_≡_, sym, _∙_}
+use mathlib.Core.Logic.{_↔_}
+use mathlib.Core.Bool.{false, true≢false}
+use mathlib.Core.List.{List}
+use Prim.Native.Nat.{ℕ, _≤_, _<_}
+use native.Mathlib.Omega.{arith}
+use lib.Dec.{eqb, ltb}
+use lib.ListN.{length, take}
+use lib.Seq.{getD-take, length-take-le}
+use borrow.Author.Tests.{eqb-true, ltb-true, ltb-false}
+use Rattle.parity.specs.Finite.{any}
+use Rattle.parity.specs.Matrix.{Matrix}
+use Rattle.parity.specs.Words.{isOne, inside}
+use Rattle.parity.specs.Causes.{Reply}
+use Rattle.parity.specs.Calls.{byteOf, wrongByte, checkingBytes}
+use Rattle.parity.proofs.Finite.Sums.{is-true, is-false, is, any-of, any-at}
+use Rattle.parity.proofs.Splits.Split.{Stops, Even}
+use Rattle.parity.proofs.Words.Extend.{inside-cong}
+
+-- bytes that cause 11 does not refuse
+pub right-bytes : (top : ℕ) (w : List ℕ) → (wrongByte top w ≡ false) ↔ ((b : ℕ) → b < length w → byteOf w b ≤ top)
+unfolding wrongByte
+right-bytes top w = (
+  λ e b l. elim (is (ltb top (byteOf w b))) [
+    | is-false q ↦ ltb-false top (byteOf w b) q
+    | is-true q ↦ absurd (true≢false (sym (any-of (length w) (λ b. ltb top (byteOf w b)) b l q) ∙ e))
+  ],
+  λ f. elim (is (any (length w) (λ b. ltb top (byteOf w b)))) [
+    | is-false q ↦ q
+    | is-true q ↦ let (b, l, r) = any-at (length w) (λ b. ltb top (byteOf w b)) q in absurd (omega (arith, f b l, ltb-true top (byteOf w b) r))
+  ],
+)
+
+-- a word of N bytes up to `top`: causes 10 and 11 do not refuse it
+pub record Word (N top : ℕ) (w : List ℕ) : Type 0 where
+  pub size : length w ≡ N
+  pub bytes : (b : ℕ) → b < N → byteOf w b ≤ top
+
+pub word-right : (N top : ℕ) (w : List ℕ) → Word N top w → wrongByte top w ≡ false
+word-right N top w W = right-bytes top w .1 (λ b l. W .bytes b (omega (arith, W .size)))
+
+-- an answer behind causes 10 and 11
+pub read-word : (N top : ℕ) (w : List ℕ) (r : Reply) → checkingBytes N top w r .number ≡ 0 → Word N top w × (checkingBytes N top w r ≡ r)
+read-word N top w r e =
+    elim (is (eqb (length w) N)) [
+      | is-false p ↦ absurd (omega (arith, rw p at e))
+      | is-true p ↦ elim (is (wrongByte top w)) [
+        | is-true q ↦ absurd (omega (arith, rw (p, q) at e))
+        | is-false q ↦ (
+          record { size = eqb-true (length w) N p; bytes = λ b l. right-bytes top w .0 q b (omega (arith, eqb-true (length w) N p)) },
+          rw (p, q),
+        )
+      ]
+    ]
+
+-- a codeword, as a list of bytes
+pub record Codeword (h : Matrix) (N M : ℕ) (w : List ℕ) : Type 0 where
+  pub word : Word N 1 w
+  pub even : Even h N M (isOne (byteOf w))
+
+-- the first bytes of a longer word
+module _ (N L top : ℕ) (w : List ℕ) (W : Word L top w) (l : N ≤ L) where
+  pub take-word : Word N top (take N w)
+  take-word = record {
+    size = length-take-le N w (omega (arith, W .size));
+    bytes = λ b k. rw (getD-take N w b 0 k) (W .bytes b (omega arith));
+  }
+
+  take-inside : (h : Matrix) (c : ℕ) → inside h N c (isOne (byteOf (take N w))) ≡ inside h N c (isOne (byteOf w))
+  take-inside h c = inside-cong h N c (λ b k. rw (getD-take N w b 0 k))
+
+  pub take-even : (h : Matrix) (M : ℕ) → Even h N M (isOne (byteOf w)) → Even h N M (isOne (byteOf (take N w)))
+  take-even h M e c k = rw (take-inside h c) (e c k)
+
+  pub take-stops : (h : Matrix) (M : ℕ) → Stops h N M (isOne (byteOf w)) → Stops h N M (isOne (byteOf (take N w)))
+  take-stops h M t c k e = t c k (sym (take-inside h c) ∙ e)

@@ -1,0 +1,15 @@
+-- What loading and writing answer, as document 01's numbers and values. Assumes nothing.
+use mathlib.Core.List.{[], _∷_}
+use Rattle.parity.specs.Causes.{Reply, answer, refusalOf}
+use Rattle.record.specs.declared.Loading.{Loading}
+use Rattle.record.specs.declared.Loading.the-variants as L
+use Rattle.record.specs.declared.Writing.{Writing}
+use Rattle.record.specs.declared.Writing.the-variants as W
+
+abbrev pub loadingReply : Loading → Reply
+loadingReply (L.Loaded n m) = answer (n ∷ m ∷ [])
+loadingReply (L.Refused r) = refusalOf r
+
+abbrev pub writingReply : Writing → Reply
+writingReply (W.Written used) = answer (used ∷ [])
+writingReply (W.Refused r) = refusalOf r

@@ -1,11 +1,12 @@
 -- `write` meets its contract. Assumes nothing.
 use mathlib.Core.Path.{_≡_, sym, ap, _∙_}
-use Prim.Native.Nat.{_≤_}
+use mathlib.Core.List.{[], _∷_}
+use Prim.Native.Nat.{ℕ, _≤_}
 use native.Mathlib.Omega.{arith}
 use lib.ListN.{length}
 use Rattle.parity.specs.Matrix.{lent, cause}
 use Rattle.parity.specs.Record.{written}
-use Rattle.parity.specs.Causes.{Outcome}
+use Rattle.parity.specs.Causes.{Outcome, answer}
 use Rattle.parity.proofs.Matrix.Accept.{Accepted, accepts}
 use Rattle.parity.proofs.Causes.Refused.{accepted-cause}
 use Rattle.parity.proofs.Record.Records.{write-refused, write-added, write-short, write-made}
@@ -95,7 +96,7 @@ returns-4 c =
     let e = write-made _ _ _ _ (s .args .«record» .now) (accepted (c .before .before .before .before .before .before .before)) z k in
     let A = plain (c .before .before .before .before .before .before) in
     let W = rw (plain-written (s .args .words .now) 128 (s .args .n) (s .args .m) (omega (arith, A .sound .n120)) A) at (c .before .before .put-record .ensures) in
-    (rw u (sym (ap (λ (o : Outcome). o .reply) e)), wrote-first _ _ _ _ W k ∙ sym (ap (λ (o : Outcome). o .after) e))
+    (ap (λ (x : ℕ). answer (x ∷ [])) u ∙ sym (ap (λ (o : Outcome). o .reply) e), wrote-first _ _ _ _ W k ∙ sym (ap (λ (o : Outcome). o .after) e))
 
 pub write-spec : {M : Type 1} → statement M
 write-spec =

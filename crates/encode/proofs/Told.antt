@@ -17,7 +17,7 @@ use Rattle.parity.specs.Causes.{Reply, answer, refusalOf, accepting}
 use Rattle.parity.specs.Calls.{byteOf, wrongByte, wrongPlace, acceptReply, rankReply, encodeReply, encodeOutcome}
 use Rattle.parity.specs.declared.Refusal.{Refusal}
 use Rattle.parity.specs.declared.Refusal.the-variants.{WrongLength, WrongByte, AddedBits}
-use Rattle.parity.proofs.Finite.Sums.{is-true, is-false, is, count-cong}
+use Rattle.parity.proofs.Finite.Sums.{is-true, is-false, is, count-cong, byte-one}
 use Rattle.parity.proofs.Finite.Firsts.{all-cong}
 use Rattle.parity.proofs.Encoding.Encode.{lengths}
 use Rattle.parity.proofs.Matrix.Accept.{Accepted, accepts, passes}
@@ -70,11 +70,6 @@ eliminated ws w u g l n m r at k e C R =
       form = every-reduced g n m (erased (byteOf (take n l))) r (pivotAt at) (unknown-at l n e k) (S .form);
     }
 
-small-byte : (a : ℕ) → a ≤ 1 → one (eqb a 1) ≡ a
-small-byte zero k = refl
-small-byte (suc zero) k = refl
-small-byte (suc (suc a)) k = absurd (omega arith)
-
 module _ (h g : Matrix) (n m r : ℕ) (at : List ℕ) (R : Reduction h g n m everyBit n r at) where
   pub is-rank : r ≡ rankOf h n m
   is-rank = sym (pivots.ranks h g n m r (pivotAt at) (R .form) (R .same))
@@ -109,7 +104,7 @@ module _ (h g : Matrix) (n m r : ℕ) (at : List ℕ) (R : Reduction h g n m eve
               let (c, i, e) = pivot-of r (pivotAt at) b q in
               rw (x, ← e) (F .done c i ∙ ap one (sym (solved-at g n m everyBit r (pivotAt at) (R .form) (isOne (byteOf w)) c i)))
           | is-false q ↦
-              rw x (F .else b q ∙ sym (small-byte (byteOf w b) (rw (at-else b k q) (message-small _)))
+              rw x (F .else b q ∙ sym (byte-one (byteOf w b) (rw (at-else b k q) (message-small _)))
               ∙ ap one (sym (solved-else g n m everyBit r (pivotAt at) (R .form) (isOne (byteOf w)) b q)))
         ])
 

@@ -19,10 +19,6 @@ pub or-else : (a b : Bool) → a || b ≡ true → a ≡ false → b ≡ true
 or-else true b e f = absurd (true≢false f)
 or-else false b e f = e
 
-pub not-both : (p : Bool) → (p && not p) ≡ false
-not-both true = refl
-not-both false = refl
-
 -- two tests that say the same
 pub same-test : (a b : Bool) → (a ≡ true → b ≡ true) → (b ≡ true → a ≡ true) → a ≡ b
 same-test true b f g = sym (f refl)

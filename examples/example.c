@@ -1,5 +1,6 @@
 /* Case C of the specification through the C interface: of 2,2,2,1,1,1,1 the given
- * matrix leaves all three erased bits; orthogonalised, it recovers them.
+ * matrix leaves all three erased bits; orthogonalised, it recovers them and the
+ * added bit.
  *
  *   rt staticlib capi
  *   cc -Iinclude -o target/example examples/example.c target/staticlib/libcapi.a
@@ -24,29 +25,38 @@ static int refused(const char *call, uint32_t number)
     return 1;
 }
 
+static void show(const char *matrix, const uint64_t *values)
+{
+    printf("%s: %u sent and %u added recovered, %u sent and %u added left", matrix,
+           (unsigned)values[0], (unsigned)values[1], (unsigned)values[2], (unsigned)values[3]);
+}
+
 int main(void)
 {
-    uint64_t values[3];
+    uint64_t values[PARITY_VALUES_MOST];
     uint8_t given[7] = {2, 2, 2, 1, 1, 1, 1};
     uint8_t word[8] = {2, 2, 2, 1, 1, 1, 1, 2};
     const uint8_t expected[8] = {0, 0, 1, 1, 1, 1, 1, 0};
     uint32_t number;
     size_t n, m, k, b;
 
-    number = parity_load(record, sizeof record / sizeof record[0], words, PARITY_WORDS, values, 3);
+    number = parity_load(record, sizeof record / sizeof record[0], words, PARITY_WORDS,
+                         values, PARITY_VALUES_MOST);
     if (number != PARITY_ANSWER)
         return refused("loading", number);
     n = (size_t)values[0];
     m = (size_t)values[1];
 
-    number = parity_peel(words, PARITY_WORDS, n, m, 0, given, sizeof given, values, 3);
+    number = parity_peel(words, PARITY_WORDS, n, m, 0, given, sizeof given,
+                         values, PARITY_VALUES_MOST);
     if (number != PARITY_ANSWER)
         return refused("peeling", number);
-    printf("given: %u recovered, %u left\n", (unsigned)values[0], (unsigned)values[1]);
-    if (values[0] != 0 || values[1] != 3)
+    show("given", values);
+    printf("\n");
+    if (values[0] != 0 || values[1] != 0 || values[2] != 3 || values[3] != 0)
         return 1;
 
-    number = parity_orthogonalise(words, PARITY_WORDS, n, m, 0, values, 3);
+    number = parity_orthogonalise(words, PARITY_WORDS, n, m, 0, values, PARITY_VALUES_MOST);
     if (number != PARITY_ANSWER)
         return refused("orthogonalising", number);
     k = (size_t)values[2];
@@ -54,10 +64,12 @@ int main(void)
     if (n + k != sizeof word)
         return 1;
 
-    number = parity_peel(words, PARITY_WORDS, n, m, k, word, sizeof word, values, 3);
+    number = parity_peel(words, PARITY_WORDS, n, m, k, word, sizeof word,
+                         values, PARITY_VALUES_MOST);
     if (number != PARITY_ANSWER)
         return refused("peeling", number);
-    printf("extended: %u recovered, %u left:", (unsigned)values[0], (unsigned)values[1]);
+    show("extended", values);
+    printf(":");
     for (b = 0; b < sizeof word; b++)
         printf(" %u", (unsigned)word[b]);
     printf("\n");

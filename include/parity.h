@@ -22,7 +22,10 @@
  * RESULTS. Every call returns 0 for an answer, or the number of the refusal. The
  * values that the answer or the refusal carries fill the first elements of
  * `values` as far as it reaches; its other elements are left as they were. A
- * length of 3 holds the values of every call.
+ * length of PARITY_VALUES_MOST holds the values of every call. Below, the number
+ * of values that an answer carries stands before them; a refusal carries the one
+ * value named with it, or none where none is named, and PARITY_FULL of
+ * parity_orthogonalise three.
  *
  * REFUSALS. A call refuses for the first of its causes that holds, in the order
  * 1, 2, 3, 4, 13, then the rest by number. A refusal leaves every lent element
@@ -53,6 +56,8 @@ extern "C" {
 /* The most words that parity_write uses. */
 #define PARITY_RECORD_MOST 14522
 
+/* The most values that a call carries. */
+#define PARITY_VALUES_MOST 4
 /* The most bytes of stack that a call needs. */
 #define PARITY_STACK_MOST 65536
 
@@ -94,7 +99,7 @@ extern "C" {
  *   it: bits 0-7 a bit number below n, rising within the check. Kind 15, after
  *   m checks, is the last word.
  * words: all PARITY_WORDS are written.
- * Values of the answer: n, m.
+ * Values of the answer, 2: n, m.
  * Refusals: 1; 5 with the place of the first faulty word, where a missing word
  *   is faulty at the place where it should be and a word after the last one is
  *   faulty. A first word with n outside 1 to 120 or m above 120 is refused 5 at
@@ -108,7 +113,7 @@ uint32_t parity_load(const uint32_t *record, size_t record_len,
  *
  * words: read.
  * record: its first elements are written, the others are left.
- * Values of the answer: the number of words used, at most PARITY_RECORD_MOST.
+ * Values of the answer, 1: the number of words used, at most PARITY_RECORD_MOST.
  * Refusals: 1, 2, 3, 4, 13; 6 with the number of words needed.
  */
 uint32_t parity_write(const uint64_t *words, size_t words_len,
@@ -120,7 +125,7 @@ uint32_t parity_write(const uint64_t *words, size_t words_len,
  *
  * words: read.
  * u, v: bits below n+k, in either order.
- * Values of the answer: the share.
+ * Values of the answer, 1: the share.
  * Refusals: 1, 2, 3, 4, 7.
  */
 uint32_t parity_share(const uint64_t *words, size_t words_len,
@@ -132,7 +137,7 @@ uint32_t parity_share(const uint64_t *words, size_t words_len,
  * share * (share-1) / 2.
  *
  * words: read.
- * Values of the answer: the cycle count.
+ * Values of the answer, 1: the cycle count.
  * Refusals: 1, 2, 3, 4.
  */
 uint32_t parity_count(const uint64_t *words, size_t words_len,
@@ -145,7 +150,7 @@ uint32_t parity_count(const uint64_t *words, size_t words_len,
  *
  * words: read, and written by an answer.
  * u, v: bits below n+k, in either order.
- * Values of the answer: the share that the pair had, the new k.
+ * Values of the answer, 2: the share that the pair had, the new k.
  * Refusals: 1, 2, 3, 4, 7; 8 with the share; 9.
  */
 uint32_t parity_split(uint64_t *words, size_t words_len,
@@ -157,7 +162,7 @@ uint32_t parity_split(uint64_t *words, size_t words_len,
  * share, then the smallest lower bit, then the smallest higher bit.
  *
  * words: read, and written by an answer and by refusal 9.
- * Values of the answer: the number of splits made, the sum of s(s-1)/2 over
+ * Values of the answer, 3: the number of splits made, the sum of s(s-1)/2 over
  *   their shares s, k.
  * Refusals: 1, 2, 3, 4; 9 with the same three values, and then the matrix stands
  *   after the splits made.
@@ -171,7 +176,7 @@ uint32_t parity_orthogonalise(uint64_t *words, size_t words_len,
  *
  * words: read.
  * word: read. n+k bytes of 0, 1 or 2 (erased).
- * Values of the answer: 1 for yes, 0 for no.
+ * Values of the answer, 1: 1 for yes, 0 for no.
  * Refusals: 1, 2, 3, 4, 10; 11 with the place in `word`.
  */
 uint32_t parity_verify(const uint64_t *words, size_t words_len,
@@ -199,7 +204,7 @@ uint32_t parity_extend(const uint64_t *words, size_t words_len,
  *
  * words: read.
  * set: read. n+k bytes, 1 for a bit of the set and 0 for another.
- * Values of the answer: 1 for yes, 0 for no.
+ * Values of the answer, 1: 1 for yes, 0 for no.
  * Refusals: 1, 2, 3, 4, 10; 11 with the place in `set`.
  */
 uint32_t parity_is_stopping(const uint64_t *words, size_t words_len,
@@ -213,8 +218,9 @@ uint32_t parity_is_stopping(const uint64_t *words, size_t words_len,
  * words: read.
  * word: n+k bytes of 0, 1 or 2 (erased). An answer writes the recovered bits;
  *   the residue keeps 2.
- * Values of the answer: the number of bits recovered, the number of bits left
- *   erased, both of all n+k bits.
+ * Values of the answer, 4: the number of sent bits recovered, of added bits
+ *   recovered, of sent bits left, of added bits left. A bit is left if its byte
+ *   is 2 afterwards, and recovered if it was 2 before and isn't afterwards.
  * Refusals: 1, 2, 3, 4, 10; 11 with the place in `word`; 12 if no values of the
  *   erased bits outside the residue make every check without a residue bit even.
  */
@@ -227,7 +233,7 @@ uint32_t parity_peel(const uint64_t *words, size_t words_len,
  * parity bit if its column is not a sum modulo 2 of some columns of lower bits.
  *
  * words: read.
- * Values of the answer: r.
+ * Values of the answer, 1: r.
  * Refusals: 1, 2, 3, 4, 13.
  */
 uint32_t parity_rank(const uint64_t *words, size_t words_len,

@@ -3,7 +3,7 @@
 
 mod plain;
 
-use parity::ffi;
+use parity::{ffi, VALUES_MOST};
 use std::hint::black_box;
 use std::process::ExitCode;
 use std::time::Instant;
@@ -42,7 +42,7 @@ struct Job {
     record: Vec<u32>,
     input: Vec<u8>,
     word: Vec<u8>,
-    values: [u64; 3],
+    values: [u64; VALUES_MOST],
 }
 
 fn in_plain(job: &mut Job) -> u32 {
@@ -181,7 +181,7 @@ impl Case {
 
     fn orthogonalised(&self) -> Case {
         let mut case = self.clone();
-        let mut values = [0; 3];
+        let mut values = [0; VALUES_MOST];
         plain::orthogonalise(&mut case.words, case.n, case.m, case.k, &mut values);
         case.k = values[2] as usize;
         case
@@ -199,7 +199,7 @@ impl Case {
             record: Vec::new(),
             input: Vec::new(),
             word: Vec::new(),
-            values: [0; 3],
+            values: [0; VALUES_MOST],
         }
     }
 
@@ -249,7 +249,7 @@ fn cases(r: &mut Random) -> Vec<Case> {
 
 /// A codeword of the given matrix, and the same extended.
 fn codeword(r: &mut Random, given: &Case, extended: &Case) -> (Vec<u8>, Vec<u8>) {
-    let mut values = [0; 3];
+    let mut values = [0; VALUES_MOST];
     plain::rank(&given.words, given.n, given.m, 0, &mut values);
     let message: Vec<u8> = (0..given.n - values[0] as usize).map(|_| r.below(2) as u8).collect();
     let mut sent = vec![0; given.n];
@@ -299,7 +299,7 @@ fn jobs(r: &mut Random, given: &Case, case: &Case) -> Vec<(String, Job)> {
         row(&format!("peel {part} %"), job);
     }
     if case.k == 0 {
-        let mut values = [0; 3];
+        let mut values = [0; VALUES_MOST];
         let mut job = case.job(Call::Write);
         plain::write(&case.words, case.n, case.m, 0, &mut [], &mut values);
         job.record = vec![0; values[0] as usize];

@@ -14,6 +14,9 @@ pub const WORDS: usize = 4096;
 /// The most words that [`write`] uses.
 pub const RECORD_MOST: usize = 14_522;
 
+/// The most values that a call carries.
+pub const VALUES_MOST: usize = 4;
+
 /// The most bytes of stack that a call needs.
 pub const STACK_MOST: usize = 65_536;
 
@@ -119,15 +122,18 @@ pub struct Orthogonalised {
     pub k: usize,
 }
 
-/// The answer of [`peel`], of all n+k bits.
+/// The answer of [`peel`]: how many sent and how many added bits were recovered (2 before and not afterwards), and how
+/// many of each are left (2 afterwards).
 #[derive(Clone, Copy, PartialEq, Eq, Debug)]
 pub struct Peeled {
-    pub recovered: usize,
-    pub left: usize,
+    pub recovered_sent: usize,
+    pub recovered_added: usize,
+    pub left_sent: usize,
+    pub left_added: usize,
 }
 
-/// The values that a call carries: at most three.
-type Values = [u64; 3];
+/// Room for the values of every call.
+type Values = [u64; VALUES_MOST];
 
 /// Turns a call's number into its answer or its refusal.
 fn reply(number: u32, values: Values) -> Result<Values, Refusal> {
@@ -152,7 +158,7 @@ fn reply(number: u32, values: Values) -> Result<Values, Refusal> {
 
 /// Loads a record into a matrix with k = 0; writes all words.
 pub fn load(record: &[u32], words: &mut [u64]) -> Result<Loaded, Refusal> {
-    let mut values: Values = [0; 3];
+    let mut values: Values = [0; VALUES_MOST];
     // The pointers and lengths are those of live slices, and the written ones are borrowed alone; so in each call below.
     let number = unsafe {
         ffi::parity_load(
@@ -169,7 +175,7 @@ pub fn load(record: &[u32], words: &mut [u64]) -> Result<Loaded, Refusal> {
 
 /// Writes a matrix with k = 0 as a record; answers the number of words used, and leaves the others.
 pub fn write(words: &[u64], n: usize, m: usize, k: usize, record: &mut [u32]) -> Result<usize, Refusal> {
-    let mut values: Values = [0; 3];
+    let mut values: Values = [0; VALUES_MOST];
     let number = unsafe {
         ffi::parity_write(
             words.as_ptr(),
@@ -188,7 +194,7 @@ pub fn write(words: &[u64], n: usize, m: usize, k: usize, record: &mut [u32]) ->
 
 /// The number of checks that contain both bits.
 pub fn share(words: &[u64], n: usize, m: usize, k: usize, u: usize, v: usize) -> Result<u64, Refusal> {
-    let mut values: Values = [0; 3];
+    let mut values: Values = [0; VALUES_MOST];
     let number =
         unsafe { ffi::parity_share(words.as_ptr(), words.len(), n, m, k, u, v, values.as_mut_ptr(), values.len()) };
     reply(number, values).map(|v| v[0])
@@ -196,14 +202,14 @@ pub fn share(words: &[u64], n: usize, m: usize, k: usize, u: usize, v: usize) ->
 
 /// The number of four-cycles.
 pub fn count(words: &[u64], n: usize, m: usize, k: usize) -> Result<u64, Refusal> {
-    let mut values: Values = [0; 3];
+    let mut values: Values = [0; VALUES_MOST];
     let number = unsafe { ffi::parity_count(words.as_ptr(), words.len(), n, m, k, values.as_mut_ptr(), values.len()) };
     reply(number, values).map(|v| v[0])
 }
 
 /// Splits a pair of bits with share two or more.
 pub fn split(words: &mut [u64], n: usize, m: usize, k: usize, u: usize, v: usize) -> Result<Split, Refusal> {
-    let mut values: Values = [0; 3];
+    let mut values: Values = [0; VALUES_MOST];
     let number =
         unsafe { ffi::parity_split(words.as_mut_ptr(), words.len(), n, m, k, u, v, values.as_mut_ptr(), values.len()) };
     reply(number, values).map(|v| Split { share: v[0], k: v[1] as usize })
@@ -211,11 +217,11 @@ pub fn split(words: &mut [u64], n: usize, m: usize, k: usize, u: usize, v: usize
 
 /// Splits until no pair has share two or more, or is refused with [`Refusal::FullAfter`].
 pub fn orthogonalise(words: &mut [u64], n: usize, m: usize, k: usize) -> Result<Orthogonalised, Refusal> {
-    let mut values: Values = [0; 3];
+    let mut values: Values = [0; VALUES_MOST];
     let number = unsafe {
         ffi::parity_orthogonalise(words.as_mut_ptr(), words.len(), n, m, k, values.as_mut_ptr(), values.len())
     };
-    let [splits, sum, last] = values;
+    let [splits, sum, last, _] = values;
     let k = last as usize;
     match reply(number, values) {
         Ok(_) => Ok(Orthogonalised { splits, sum, k }),
@@ -226,7 +232,7 @@ pub fn orthogonalise(words: &mut [u64], n: usize, m: usize, k: usize) -> Result<
 
 /// Whether the word of n+k bytes is a codeword.
 pub fn verify(words: &[u64], n: usize, m: usize, k: usize, word: &[u8]) -> Result<bool, Refusal> {
-    let mut values: Values = [0; 3];
+    let mut values: Values = [0; VALUES_MOST];
     let number = unsafe {
         ffi::parity_verify(
             words.as_ptr(),
@@ -245,7 +251,7 @@ pub fn verify(words: &[u64], n: usize, m: usize, k: usize, word: &[u8]) -> Resul
 
 /// Writes the n sent bits and then the k added ones into the word of n+k bytes.
 pub fn extend(words: &[u64], n: usize, m: usize, k: usize, sent: &[u8], word: &mut [u8]) -> Result<(), Refusal> {
-    let mut values: Values = [0; 3];
+    let mut values: Values = [0; VALUES_MOST];
     let number = unsafe {
         ffi::parity_extend(
             words.as_ptr(),
@@ -266,7 +272,7 @@ pub fn extend(words: &[u64], n: usize, m: usize, k: usize, sent: &[u8], word: &m
 
 /// Whether no check contains exactly one bit of the set, given as n+k bytes.
 pub fn is_stopping(words: &[u64], n: usize, m: usize, k: usize, set: &[u8]) -> Result<bool, Refusal> {
-    let mut values: Values = [0; 3];
+    let mut values: Values = [0; VALUES_MOST];
     let number = unsafe {
         ffi::parity_is_stopping(
             words.as_ptr(),
@@ -285,7 +291,7 @@ pub fn is_stopping(words: &[u64], n: usize, m: usize, k: usize, set: &[u8]) -> R
 
 /// Recovers the erased bits (2) of the word of n+k bytes, as far as checks with one erased bit reach.
 pub fn peel(words: &[u64], n: usize, m: usize, k: usize, word: &mut [u8]) -> Result<Peeled, Refusal> {
-    let mut values: Values = [0; 3];
+    let mut values: Values = [0; VALUES_MOST];
     let number = unsafe {
         ffi::parity_peel(
             words.as_ptr(),
@@ -299,19 +305,24 @@ pub fn peel(words: &[u64], n: usize, m: usize, k: usize, word: &mut [u8]) -> Res
             values.len(),
         )
     };
-    reply(number, values).map(|v| Peeled { recovered: v[0] as usize, left: v[1] as usize })
+    reply(number, values).map(|v| Peeled {
+        recovered_sent: v[0] as usize,
+        recovered_added: v[1] as usize,
+        left_sent: v[2] as usize,
+        left_added: v[3] as usize,
+    })
 }
 
 /// The number of parity bits of a matrix with k = 0.
 pub fn rank(words: &[u64], n: usize, m: usize, k: usize) -> Result<usize, Refusal> {
-    let mut values: Values = [0; 3];
+    let mut values: Values = [0; VALUES_MOST];
     let number = unsafe { ffi::parity_rank(words.as_ptr(), words.len(), n, m, k, values.as_mut_ptr(), values.len()) };
     reply(number, values).map(|v| v[0] as usize)
 }
 
 /// Writes the codeword of n bytes that holds the message of n - rank bytes.
 pub fn encode(words: &[u64], n: usize, m: usize, k: usize, message: &[u8], word: &mut [u8]) -> Result<(), Refusal> {
-    let mut values: Values = [0; 3];
+    let mut values: Values = [0; VALUES_MOST];
     let number = unsafe {
         ffi::parity_encode(
             words.as_ptr(),

@@ -12,6 +12,10 @@ fn matrix(checks: &[&[usize]]) -> Vec<u64> {
     words
 }
 
+fn peeled(recovered_sent: usize, recovered_added: usize, left_sent: usize, left_added: usize) -> Peeled {
+    Peeled { recovered_sent, recovered_added, left_sent, left_added }
+}
+
 fn a() -> Vec<u64> {
     matrix(&[&[0, 3, 4, 6], &[1, 3, 5, 6], &[2, 4, 5, 6]])
 }
@@ -56,14 +60,14 @@ fn c_and_d() {
     let mut words = c();
     assert_eq!(parity::count(&words, 7, 3, 0), Ok(2));
     let mut word = [2, 2, 2, 1, 1, 1, 1];
-    assert_eq!(parity::peel(&words, 7, 3, 0, &mut word), Ok(Peeled { recovered: 0, left: 3 }));
+    assert_eq!(parity::peel(&words, 7, 3, 0, &mut word), Ok(peeled(0, 0, 3, 0)));
     assert_eq!(word, [2, 2, 2, 1, 1, 1, 1]);
     assert_eq!(parity::is_stopping(&words, 7, 3, 0, &[1, 1, 1, 0, 0, 0, 0]), Ok(true));
     assert_eq!(parity::is_stopping(&words, 7, 3, 0, &[1, 0, 0, 0, 0, 0, 0]), Ok(false));
     assert!(parity::orthogonalise(&mut words, 7, 3, 0).is_ok());
     assert_eq!(words, matrix(&[&[2, 3, 7], &[4, 5, 7], &[0, 2, 6], &[0, 1, 7]]));
     let mut word = [2, 2, 2, 1, 1, 1, 1, 2];
-    assert_eq!(parity::peel(&words, 7, 3, 1, &mut word), Ok(Peeled { recovered: 4, left: 0 }));
+    assert_eq!(parity::peel(&words, 7, 3, 1, &mut word), Ok(peeled(3, 1, 0, 0)));
     assert_eq!(word, [0, 0, 1, 1, 1, 1, 1, 0]);
     assert_eq!(parity::verify(&words, 7, 3, 1, &word), Ok(true));
     let mut extended = [9; 8];
@@ -83,8 +87,17 @@ fn e() {
 #[test]
 fn f() {
     let mut word = [2, 2];
-    assert_eq!(parity::peel(&matrix(&[]), 2, 0, 0, &mut word), Ok(Peeled { recovered: 0, left: 2 }));
+    assert_eq!(parity::peel(&matrix(&[]), 2, 0, 0, &mut word), Ok(peeled(0, 0, 2, 0)));
     assert_eq!(word, [2, 2]);
+}
+
+/// Four different numbers: bits 1, 2 and 3 are bit 0, the added bit 9 is their sum, and 4 to 7, 10 and 11 are left.
+#[test]
+fn sent_and_added() {
+    let words = matrix(&[&[0, 1], &[0, 2], &[0, 3], &[1, 2, 9], &[4, 5, 10], &[6, 7, 11]]);
+    let mut word = [1, 2, 2, 2, 2, 2, 2, 2, 0, 2, 2, 2];
+    assert_eq!(parity::peel(&words, 9, 3, 3, &mut word), Ok(peeled(3, 1, 4, 2)));
+    assert_eq!(word, [1, 1, 1, 1, 2, 2, 2, 2, 0, 0, 2, 2]);
 }
 
 #[test]

@@ -140,6 +140,7 @@ fn header_has_the_numbers_of_the_wrapper() {
         ("CHECKS_MOST", 120),
         ("ADDED_MOST", 392),
         ("RECORD_MOST", parity::RECORD_MOST),
+        ("VALUES_MOST", parity::VALUES_MOST),
         ("STACK_MOST", parity::STACK_MOST),
         ("ANSWER", 0),
     ];

@@ -7,10 +7,10 @@ use native.Mathlib.Omega.{arith}
 use lib.Dec.{eqb, ltb}
 use lib.ListN.{length}
 use borrow.Author.Tests.{eqb-true, eq-eqb, not-true}
-use Rattle.parity.specs.Finite.{one, count, listFrom}
+use Rattle.parity.specs.Finite.{one, listFrom}
 use Rattle.parity.specs.Matrix.{Matrix, lent, pack}
 use Rattle.parity.specs.Cycles.{share, cycles, Orthogonalised, orthogonal}
-use Rattle.parity.specs.Words.{erased, isOne, steps, agrees}
+use Rattle.parity.specs.Words.{isOne, steps, agrees, losses}
 use Rattle.parity.specs.Record.{Loaded, faulty, loaded, loading}
 use Rattle.parity.specs.Encoding.{rankOf, encoded}
 use Rattle.parity.specs.Causes.{answer, refusal}
@@ -100,15 +100,13 @@ module _ (g : Lent) (f : fits (g .n) (g .m) (g .k) (g .checks) ≡ true) where
     E : Ended h N M (byteOf w) end
     E = peel-steps h N M (byteOf w) (W .bytes)
 
-    law-peeling : (recovered left : ℕ) (after : List ℕ) → peelsTo h N M w recovered left after ≡ true → Holds (peeling g w recovered left after)
+    law-peeling : (numbers after : List ℕ) → peelsTo h (g .n) (g .m) (g .k) w numbers after ≡ true → Holds (peeling g w numbers after)
     unfolding peelsTo
-    law-peeling recovered left after e =
-        let r = count N (λ b. erased (byteOf w) b && not (erased end b)) in
-        let (e₁, s) = and-eq-true-iff (agrees h N M end && eqb r recovered && eqb (count N (erased end)) left) (sameList (listFrom 0 N end) after) .0 e in
-        let (e₂, l) = and-eq-true-iff (agrees h N M end && eqb r recovered) (eqb (count N (erased end)) left) .0 e₁ in
-        let (a, q) = and-eq-true-iff (agrees h N M end) (eqb r recovered) .0 e₂ in
+    law-peeling numbers after e =
+        let (e₁, s) = and-eq-true-iff (agrees h N M end && sameList (losses (g .n) (g .k) (byteOf w) end) numbers) (sameList (listFrom 0 N end) after) .0 e in
+        let (a, q) = and-eq-true-iff (agrees h N M end) (sameList (losses (g .n) (g .k) (byteOf w) end) numbers) .0 e₁ in
         peel-made ws (g .n) (g .m) (g .k) A w W end (rw same E) (rw same a)
-        ∙ rw (same, E .recovered, E .left, eqb-true r recovered q, eqb-true (count N (erased end)) left l, same-list (listFrom 0 N end) after s)
+        ∙ rw (same-list (losses (g .n) (g .k) (byteOf w) end) numbers q, same-list (listFrom 0 N end) after s)
 
     law-contradiction : agrees h N M end ≡ false → Holds (peeling-contradiction g w)
     law-contradiction e = peel-refused ws (g .n) (g .m) (g .k) A w W end (rw same E) (rw same e)
@@ -146,10 +144,10 @@ law (splitting-below-two g u v s) e =
     let (p, q) = and-eq-true-iff (fits (g .n) (g .m) (g .k) (g .checks) && not (notPair (g .n + g .k) u v)) _ .0 d in
     let (f, r) = and-eq-true-iff (fits (g .n) (g .m) (g .k) (g .checks)) _ .0 p in
     law-below-two g f u v s (not-true _ r) q l
-law (peeling g w recovered left after) e =
+law (peeling g w numbers after) e =
     let (p, q) = and-eq-true-iff (fits (g .n) (g .m) (g .k) (g .checks) && isWord (g .n + g .k) 2 w) _ .0 e in
     let (f, i) = and-eq-true-iff (fits (g .n) (g .m) (g .k) (g .checks)) _ .0 p in
-    law-peeling g f w i recovered left after q
+    law-peeling g f w i numbers after q
 law (peeling-contradiction g w) e =
     let (p, q) = and-eq-true-iff (fits (g .n) (g .m) (g .k) (g .checks) && isWord (g .n + g .k) 2 w) _ .0 e in
     let (f, i) = and-eq-true-iff (fits (g .n) (g .m) (g .k) (g .checks)) _ .0 p in

@@ -41,8 +41,8 @@ pub data Case : Type 0 where
   splitting-no-pair : Lent → ℕ → ℕ → Case
   -- splitting u and v is refused 8 with the share
   splitting-below-two : Lent → ℕ → ℕ → ℕ → Case
-  -- peeling a word answers how many bits were recovered and how many are left, and leaves a word
-  peeling : Lent → List ℕ → ℕ → ℕ → List ℕ → Case
+  -- peeling a word answers how many sent and added bits were recovered and how many of each are left, and leaves a word
+  peeling : Lent → List ℕ → List ℕ → List ℕ → Case
   -- peeling a word is refused 12
   peeling-contradiction : Lent → List ℕ → Case
   -- the rank
@@ -61,8 +61,8 @@ Holds (splitting-no-pair g u v) =
     splitOutcome (wordsOf (g .checks)) (g .n) (g .m) (g .k) u v ≡ record { reply = refusal 7 []; after = wordsOf (g .checks) }
 Holds (splitting-below-two g u v s) =
     splitOutcome (wordsOf (g .checks)) (g .n) (g .m) (g .k) u v ≡ record { reply = refusal 8 (s ∷ []); after = wordsOf (g .checks) }
-Holds (peeling g w recovered left after) =
-    peelOutcome (wordsOf (g .checks)) (g .n) (g .m) (g .k) w ≡ record { reply = answer (recovered ∷ left ∷ []); after = after }
+Holds (peeling g w numbers after) =
+    peelOutcome (wordsOf (g .checks)) (g .n) (g .m) (g .k) w ≡ record { reply = answer numbers; after = after }
 Holds (peeling-contradiction g w) =
     peelOutcome (wordsOf (g .checks)) (g .n) (g .m) (g .k) w ≡ record { reply = refusal 12 []; after = w }
 Holds (ranking g r) = rankReply (wordsOf (g .checks)) (g .n) (g .m) (g .k) ≡ answer (r ∷ [])

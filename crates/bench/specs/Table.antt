@@ -43,16 +43,16 @@ table =
     ∷ orthogonalising matrixA 1 1 1 (matrixB .checks)
     -- C
     ∷ counting matrixC 2
-    ∷ peeling matrixC (2 ∷ 2 ∷ 2 ∷ 1 ∷ 1 ∷ 1 ∷ 1 ∷ []) 0 3 (2 ∷ 2 ∷ 2 ∷ 1 ∷ 1 ∷ 1 ∷ 1 ∷ [])
+    ∷ peeling matrixC (2 ∷ 2 ∷ 2 ∷ 1 ∷ 1 ∷ 1 ∷ 1 ∷ []) (0 ∷ 0 ∷ 3 ∷ 0 ∷ []) (2 ∷ 2 ∷ 2 ∷ 1 ∷ 1 ∷ 1 ∷ 1 ∷ [])
     -- D
     ∷ orthogonalising matrixC 1 1 1 (matrixD .checks)
-    ∷ peeling matrixD (2 ∷ 2 ∷ 2 ∷ 1 ∷ 1 ∷ 1 ∷ 1 ∷ 2 ∷ []) 4 0 (0 ∷ 0 ∷ 1 ∷ 1 ∷ 1 ∷ 1 ∷ 1 ∷ 0 ∷ [])
+    ∷ peeling matrixD (2 ∷ 2 ∷ 2 ∷ 1 ∷ 1 ∷ 1 ∷ 1 ∷ 2 ∷ []) (3 ∷ 1 ∷ 0 ∷ 0 ∷ []) (0 ∷ 0 ∷ 1 ∷ 1 ∷ 1 ∷ 1 ∷ 1 ∷ 0 ∷ [])
     -- E
     ∷ counting matrixE 3
     ∷ orthogonalising matrixE 2 2 2 (splitE .checks)
     ∷ counting splitE 0
     -- F
-    ∷ peeling matrixF (2 ∷ 2 ∷ []) 0 2 (2 ∷ 2 ∷ [])
+    ∷ peeling matrixF (2 ∷ 2 ∷ []) (0 ∷ 0 ∷ 2 ∷ 0 ∷ []) (2 ∷ 2 ∷ [])
     -- G
     ∷ splitting-below-two matrixC 0 3 1
     -- H

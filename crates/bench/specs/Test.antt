@@ -5,10 +5,10 @@ use mathlib.Core.Bool.{Bool, true, false, not, _&&_, Bool·beq}
 use mathlib.Core.List.{List, [], _∷_}
 use lib.Dec.{eqb, ltb, leb}
 use lib.ListN.{length}
-use Rattle.parity.specs.Finite.{one, count, all, listFrom}
+use Rattle.parity.specs.Finite.{one, all, listFrom}
 use Rattle.parity.specs.Matrix.{Matrix, inRange, ruleA}
 use Rattle.parity.specs.Cycles.{share, cycles, Orthogonalised, orthogonal}
-use Rattle.parity.specs.Words.{erased, isOne, steps, agrees}
+use Rattle.parity.specs.Words.{isOne, steps, agrees, losses}
 use Rattle.parity.specs.Record.{Loaded, faulty, loaded, loading}
 use Rattle.parity.specs.Encoding.{rankOf, encoded}
 use Rattle.parity.specs.Calls.{byteOf, notPair, wrongByte}
@@ -46,11 +46,10 @@ orthogonalises o n m splits total k after =
 unfoldable pub isWord : ℕ → ℕ → List ℕ → Bool
 isWord N top w = eqb (length w) N && not (wrongByte top w)
 
-unfoldable pub peelsTo : Matrix → ℕ → ℕ → List ℕ → ℕ → ℕ → List ℕ → Bool
-peelsTo h N M w recovered left after =
-    let end = steps N h N M (byteOf w) in
-    agrees h N M end && eqb (count N (λ b. erased (byteOf w) b && not (erased end b))) recovered && eqb (count N (erased end)) left
-    && sameList (listFrom 0 N end) after
+unfoldable pub peelsTo : Matrix → ℕ → ℕ → ℕ → List ℕ → List ℕ → List ℕ → Bool
+peelsTo h n m k w numbers after =
+    let end = steps (n + k) h (n + k) (m + k) (byteOf w) in
+    agrees h (n + k) (m + k) end && sameList (losses n k (byteOf w) end) numbers && sameList (listFrom 0 (n + k) end) after
 
 unfoldable pub faultyAt : Loaded → ℕ → Bool
 faultyAt (faulty p) place = eqb p place
@@ -64,9 +63,9 @@ test (orthogonalising g splits total k after) =
 test (splitting-no-pair g u v) = fits (g .n) (g .m) (g .k) (g .checks) && notPair (g .n + g .k) u v
 test (splitting-below-two g u v s) =
     fits (g .n) (g .m) (g .k) (g .checks) && not (notPair (g .n + g .k) u v) && eqb (share (listed (g .checks)) (g .m + g .k) u v) s && ltb s 2
-test (peeling g w recovered left after) =
+test (peeling g w numbers after) =
     fits (g .n) (g .m) (g .k) (g .checks) && isWord (g .n + g .k) 2 w
-    && peelsTo (listed (g .checks)) (g .n + g .k) (g .m + g .k) w recovered left after
+    && peelsTo (listed (g .checks)) (g .n) (g .m) (g .k) w numbers after
 test (peeling-contradiction g w) =
     fits (g .n) (g .m) (g .k) (g .checks) && isWord (g .n + g .k) 2 w
     && not (agrees (listed (g .checks)) (g .n + g .k) (g .m + g .k) (steps (g .n + g .k) (listed (g .checks)) (g .n + g .k) (g .m + g .k) (byteOf w)))

@@ -157,7 +157,7 @@ pub extern "C" fn parity_is_stopping(
     reply::pass(numbered, values)
 }
 
-// Carries how many bits were recovered and how many are left.
+// Carries how many sent bits and how many added bits were recovered, and how many of each are left.
 #[no_mangle]
 pub extern "C" fn parity_peel(
     words: &[u64],

@@ -75,6 +75,16 @@ pub fn common(a: &[u64], i: usize, b: &[u64], j: usize, width: usize, used: usiz
     n
 }
 
+// How many of the bits below `bits` row `c` contains.
+pub fn weight_below(rows: &[u64], width: usize, c: usize, bits: usize) -> usize
+    requires { ⌜ (c * width + width ≤ length (now rows)) × (bits < width * 64) × (width ≤ 8) ⌝ }
+    ensures { λ r. ⌜ r ≡ count bits (lent width (now (rows .entry)) c) ⌝ }
+{
+    let full = bits / 64;
+    let last = rows[c * width + full] & ((1 << (bits % 64)) - 1);
+    common(rows, c, rows, c, width, full) + ones_of(last)
+}
+
 // Whether row `c` contains an odd number of the set's bits.
 pub fn is_odd(rows: &[u64], width: usize, c: usize, set: &[u64]) -> bool
     requires { ⌜ (c * width + width ≤ length (now rows)) × (width ≤ length (now set)) ⌝ }

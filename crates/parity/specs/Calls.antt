@@ -8,7 +8,7 @@ use lib.ListN.{getD, length, drop}
 use Rattle.parity.specs.Finite.{one, any, least, listFrom}
 use Rattle.parity.specs.Matrix.{lent, pack, cause}
 use Rattle.parity.specs.Cycles.{share, cycles, splitOf, Orthogonalised, orthogonal}
-use Rattle.parity.specs.Words.{isOne, codeword, extended, stopping, peels, peeled, recoveredBits, leftBits}
+use Rattle.parity.specs.Words.{isOne, codeword, extended, stopping, peels, peeled, losses}
 use Rattle.parity.specs.Record.{Loaded, faulty, loaded, loading, written}
 use Rattle.parity.specs.Encoding.{rankOf, encoded}
 use Rattle.parity.specs.Causes.{Reply, answer, refusal, refuse, accepting, Outcome, leaving}
@@ -116,13 +116,13 @@ unfoldable pub isStoppingReply : List ℕ → ℕ → ℕ → ℕ → List ℕ �
 isStoppingReply ws n m k set =
     accepting ws n m k (checkingBytes (n + k) 1 set (answer (one (stopping (lent 8 ws) (n + k) (m + k) (isOne (byteOf set))) ∷ [])))
 
--- peel: answers how many bits were recovered and how many of all n+k are left
+-- peel: answers how many sent bits and how many added bits were recovered, and how many of each are left
 unfoldable pub peelReply : List ℕ → ℕ → ℕ → ℕ → List ℕ → Reply
 peelReply ws n m k w =
     accepting ws n m k
     (checkingBytes (n + k) 2 w
     (refuse (not (peels (lent 8 ws) (n + k) (m + k) (byteOf w))) (refusal 12 [])
-    (answer (recoveredBits (lent 8 ws) (n + k) (m + k) (byteOf w) ∷ leftBits (lent 8 ws) (n + k) (m + k) (byteOf w) ∷ []))))
+    (answer (losses n k (byteOf w) (peeled (lent 8 ws) (n + k) (m + k) (byteOf w))))))
 
 unfoldable pub peelOutcome : List ℕ → ℕ → ℕ → ℕ → List ℕ → Outcome
 peelOutcome ws n m k w = leaving w (peelReply ws n m k w) (listFrom 0 (n + k) (peeled (lent 8 ws) (n + k) (m + k) (byteOf w)))

@@ -2,6 +2,7 @@
 -- A word gives each bit its byte; a set of bits says of each bit whether it is in it. N bits and M checks are looked at.
 use Prim.Native.Nat.{ℕ, zero, suc, _+_, _%_}
 use mathlib.Core.Bool.{Bool, not, cond, _&&_, _||_, Bool·beq}
+use mathlib.Core.List.{List, [], _∷_}
 use lib.Dec.{eqb, leb}
 use Rattle.parity.specs.Finite.{one, count, all, any, least, anySet}
 use Rattle.parity.specs.Matrix.{Matrix}
@@ -67,13 +68,16 @@ peeled h N M w b =
     cond (residue h N M (erased w) b) 2
     (one (anySet N (λ y. solves h N M (erased w) (residue h N M (erased w)) (isOne w) y && y b)))
 
--- how many bits peeling recovers: the erased ones outside the residue
-unfoldable pub recoveredBits : Matrix → ℕ → ℕ → (ℕ → ℕ) → ℕ
-recoveredBits h N M w = count N (λ b. erased w b && not (residue h N M (erased w) b))
+-- Of a word before and a word after, a bit is left if its byte is 2 afterwards, and recovered if it was 2 before and isn't afterwards.
+unfoldable pub recovered : (ℕ → ℕ) → (ℕ → ℕ) → ℕ → Bool
+recovered before after b = erased before b && not (erased after b)
 
--- how many it leaves
-unfoldable pub leftBits : Matrix → ℕ → ℕ → (ℕ → ℕ) → ℕ
-leftBits h N M w = count N (residue h N M (erased w))
+-- Document 02, M-100: what was recovered and what is left, counted in sent bits and in added bits: the recovered sent bits, the recovered added bits,
+-- the sent bits left, the added bits left. The sent bits are the first n, the added ones the k after them.
+unfoldable pub losses : ℕ → ℕ → (ℕ → ℕ) → (ℕ → ℕ) → List ℕ
+losses n k before after =
+    count n (recovered before after) ∷ count k (λ j. recovered before after (n + j))
+    ∷ count n (erased after) ∷ count k (λ j. erased after (n + j)) ∷ []
 
 -- Peeling by steps solves, as long as one exists, a check with exactly one erased bit. That it ends as defined above, in whatever order,
 -- is a law: `any-order` and `peel-steps` of proofs/Words/Steps.

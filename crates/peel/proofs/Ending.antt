@@ -12,21 +12,23 @@ use lib.Seq.{ext-getD, getD-set-same, getD-set-other}
 use borrow.Author.Tests.{lt-ltb, le-ltb, eqb-true, ne-eqb}
 use Rattle.parity.specs.Finite.{one, count, listFrom}
 use Rattle.parity.specs.Matrix.{Matrix, lent}
-use Rattle.parity.specs.Words.{erased, peels, peeled, recoveredBits, leftBits}
+use Rattle.parity.specs.Words.{erased, peels, peeled, recovered, losses}
 use Rattle.parity.specs.Causes.{answer, refusal, refusalOf}
 use Rattle.parity.specs.Calls.{byteOf, wrongByte, peelReply, peelOutcome}
 use Rattle.parity.specs.declared.Refusal.{Refusal}
-use Rattle.parity.proofs.Finite.Sums.{is-true, is-false, is, sum-add, sum-cong, count-cong}
+use Rattle.parity.proofs.Finite.Sums.{count-cong, count-part}
 use Rattle.parity.proofs.Matrix.Packing.{length-listFrom, at-listFrom, listFrom-cong}
-use Rattle.parity.proofs.Words.Residue.{Within}
+use Rattle.parity.proofs.Matrix.Lent.{count-add}
+use Rattle.parity.proofs.Words.Peeling.{losses-same}
 use Rattle.parity.proofs.Words.Steps.{stage-start, Ended}
 use Rattle.parity.proofs.Words.Bytes.{right-bytes}
 use Rattle.parity.proofs.Causes.Refused.{refused-number}
 use Rattle.word.specs.Answers.{admitReply}
-use Rattle.word.proofs.Told.{taken, behind, refused}
+use Rattle.word.proofs.Told.{behind, refused}
 use Rattle.word.specs.Sets.{SetOf}
 use Rattle.peel.specs.Steps.{held, Settled, agreeing}
 use Rattle.peel.specs.Answers.{wordReply, wordOutcome}
+use Rattle.peel.specs.Losses.{Counted}
 use Rattle.peel.proofs.Held.{erased-held, count-short, Held, held-reached, held-ended, held-agrees}
 
 -- a byte from its two tests
@@ -36,37 +38,63 @@ three (suc zero) k = refl
 three (suc (suc zero)) k = refl
 three (suc (suc (suc a))) k = absurd (omega arith)
 
--- a set and a part of it
-count-part : (n : ℕ) (p q : ℕ → Bool) → Within n q p → count n (λ i. p i && not (q i)) + count n q ≡ count n p
-unfolding count
-count-part n p q w =
-    sym (sum-add n (λ i. one (p i && not (q i))) (λ i. one (q i))) ∙ sum-cong n (λ i k. elim (is (q i)) [
-      | is-true e ↦ rw (e, w i k e)
-      | is-false e ↦ rw e (go (p i))
-    ])
-  where
-    go : (a : Bool) → one (a && true) + 0 ≡ one a
-    go true = refl
-    go false = refl
+-- The four numbers, from the sizes of the set s of erased bits before and of the set t after.
+module _ (N n k : ℕ) (before after : ℕ → ℕ) (s t : ℕ → Bool) (few : n + k ≤ N) (short-s : (b : ℕ) → n + k ≤ b → s b ≡ false) (short-t : (b : ℕ) → n + k ≤ b → t b ≡ false)
+    (is-s : (b : ℕ) → b < n + k → erased before b ≡ s b) (is-t : (b : ℕ) → erased after b ≡ t b) (shrinks : (b : ℕ) → b < n + k → t b ≡ true → s b ≡ true)
+    (bs ba ls la : ℕ) (S : Counted N n s bs ba) (T : Counted N n t ls la) where
+  -- a set's added bits, by those of all its bits
+  added-are : (u : ℕ → Bool) → ((b : ℕ) → n + k ≤ b → u b ≡ false) → count N u ≡ count n u + count k (λ j. u (n + j))
+  added-are u short = count-short N (n + k) u few short ∙ count-add n k u
 
-module _ (W : ℕ) (h : Matrix) (M : ℕ) (w es os : List ℕ) (few : length w ≤ W * 64) (right : wrongByte 2 w ≡ false) (E : SetOf W w 2 es) (O : SetOf W w 1 os) where
+  sent-part : count n (λ b. s b && not (t b)) + count n t ≡ count n s
+  sent-part = count-part n s t (λ b l. shrinks b (omega arith))
+
+  added-part : count k (λ j. s (n + j) && not (t (n + j))) + count k (λ j. t (n + j)) ≡ count k (λ j. s (n + j))
+  added-part = count-part k (λ j. s (n + j)) (λ j. t (n + j)) (λ j l. shrinks (n + j) (omega arith))
+
+  pub fewer-left : (ls ≤ bs) × (la ≤ ba)
+  fewer-left =
+      let p = sent-part in
+      let q = added-part in
+      let x = added-are s short-s in
+      let y = added-are t short-t in
+      (omega (arith, S .sent-is, T .sent-is), omega (arith, S .sent-is, S .all-are, T .sent-is, T .all-are))
+
+  pub losses-sizes : losses n k before after ≡ (bs - ls) ∷ (ba - la) ∷ ls ∷ la ∷ []
+  unfolding losses recovered
+  losses-sizes =
+      let p = sent-part in
+      let q = added-part in
+      let x = added-are s short-s in
+      let y = added-are t short-t in
+      let f = count-cong n {p = λ b. erased before b && not (erased after b)} {q = λ b. s b && not (t b)} (λ b l. rw (is-s b (omega arith), is-t b)) in
+      let g = count-cong k {p = λ j. erased before (n + j) && not (erased after (n + j))} {q = λ j. s (n + j) && not (t (n + j))} (λ j l. rw (is-s (n + j) (omega arith), is-t (n + j))) in
+      let c = count-cong n {p = erased after} {q = t} (λ b l. is-t b) in
+      let d = count-cong k {p = λ j. erased after (n + j)} {q = λ j. t (n + j)} (λ j l. is-t (n + j)) in
+      let e₁ : count n (λ b. erased before b && not (erased after b)) ≡ bs - ls = omega (arith, S .sent-is, T .sent-is) in
+      let e₂ : count k (λ j. erased before (n + j) && not (erased after (n + j))) ≡ ba - la = omega (arith, S .sent-is, S .all-are, T .sent-is, T .all-are) in
+      let e₃ : count n (erased after) ≡ ls = omega (arith, T .sent-is) in
+      let e₄ : count k (λ j. erased after (n + j)) ≡ la = omega (arith, T .sent-is, T .all-are) in
+      cc
+
+module _ (W : ℕ) (h : Matrix) (n k M : ℕ) (w es os : List ℕ) (size : length w ≡ n + k) (few : length w ≤ W * 64) (right : wrongByte 2 w ≡ false) (E : SetOf W w 2 es) (O : SetOf W w 1 os) where
   -- the sets that the bytes make hold the word
   bytes-held : held (lent W es 0) (lent W os 0) ≡ byteOf w
   bytes-held = fun-ext (λ b. rw (E .at b, O .at b) (elim (decLt b (length w)) [
-    | yes k ↦ rw (lt-ltb b (length w) k) (three (byteOf w b) (right-bytes 2 w .0 right b k))
-    | no k ↦ rw (le-ltb b (length w) (omega arith), List·getD-eq-default w 0 {n = b} (omega arith))
+    | yes l ↦ rw (lt-ltb b (length w) l) (three (byteOf w b) (right-bytes 2 w .0 right b l))
+    | no l ↦ rw (le-ltb b (length w) (omega arith), List·getD-eq-default w 0 {n = b} (omega arith))
   ]))
 
   held-start : Held h (length w) M (byteOf w) (lent W es 0) (lent W os 0)
   held-start = record {
     apart = λ a p. elim (decLt a (length w)) [
-      | yes k ↦
-          let q : byteOf w a ≡ 2 = eqb-true (byteOf w a) 2 (rw (lt-ltb a (length w) k) at (sym (E .at a) ∙ p)) in
-          O .at a ∙ rw (lt-ltb a (length w) k, q)
-      | no k ↦ O .at a ∙ rw (le-ltb a (length w) (omega arith))
+      | yes l ↦
+          let q : byteOf w a ≡ 2 = eqb-true (byteOf w a) 2 (rw (lt-ltb a (length w) l) at (sym (E .at a) ∙ p)) in
+          O .at a ∙ rw (lt-ltb a (length w) l, q)
+      | no l ↦ O .at a ∙ rw (le-ltb a (length w) (omega arith))
     ];
-    short-e = λ a k. E .at a ∙ rw (le-ltb a (length w) k);
-    short-o = λ a k. O .at a ∙ rw (le-ltb a (length w) k);
+    short-e = λ a l. E .at a ∙ rw (le-ltb a (length w) l);
+    short-o = λ a l. O .at a ∙ rw (le-ltb a (length w) l);
     stage = rw bytes-held (stage-start h (length w) M (byteOf w) (right-bytes 2 w .0 right));
   }
 
@@ -74,56 +102,42 @@ module _ (W : ℕ) (h : Matrix) (M : ℕ) (w es os : List ℕ) (few : length w �
     H : Held h (length w) M (byteOf w) e o
     H = held-reached h (W * 64) (length w) M few (byteOf w) (lent W es 0) (lent W os 0) e o (S .reached) held-start
 
-    D : Ended h (length w) M (byteOf w) (held e o)
-    D = held-ended h (W * 64) (length w) M few (byteOf w) e o H (S .over)
+    D : Ended h (n + k) M (byteOf w) (held e o)
+    D = rw size at (held-ended h (W * 64) (length w) M few (byteOf w) e o H (S .over))
 
-    decides : peels h (length w) M (byteOf w) ≡ agreeing h (W * 64) M e o
-    decides = D .answers ∙ held-agrees h (W * 64) (length w) M few (byteOf w) e o H
+    decides : peels h (n + k) M (byteOf w) ≡ agreeing h (W * 64) M e o
+    decides = D .answers ∙ rw size at (held-agrees h (W * 64) (length w) M few (byteOf w) e o H)
 
-    left-count : leftBits h (length w) M (byteOf w) ≡ count (W * 64) e
-    left-count = D .left ∙ ap (count (length w)) (erased-held e o) ∙ sym (count-short (W * 64) (length w) e few (H .short-e))
-
-    before-count : count (W * 64) (lent W es 0) ≡ count (length w) (erased (byteOf w))
-    before-count =
-        count-short (W * 64) (length w) (lent W es 0) few (held-start .short-e)
-        ∙ count-cong (length w) (λ b k. E .at b ∙ rw (lt-ltb b (length w) k))
-
-    recovered-count : recoveredBits h (length w) M (byteOf w) + count (W * 64) e ≡ count (W * 64) (lent W es 0)
-    recovered-count =
-        let q : count (length w) (erased (held e o)) ≡ count (W * 64) e = ap (count (length w)) (erased-held e o) ∙ sym (count-short (W * 64) (length w) e few (H .short-e)) in
-        let p = count-part (length w) (erased (byteOf w)) (erased (held e o)) (H .stage .shrinks) in
-        let r = D .recovered in
-        let t = before-count in
-        sum-up (recoveredBits h (length w) M (byteOf w)) (count (W * 64) e) (count (W * 64) (lent W es 0)) (count (length w) (λ b. erased (byteOf w) b && not (erased (held e o) b)))
-        (count (length w) (erased (held e o))) (count (length w) (erased (byteOf w))) r q p t
-      where
-        sum-up : (a b d x y z : ℕ) → a ≡ x → y ≡ b → x + y ≡ z → d ≡ z → a + b ≡ d
-        sum-up a b d x y z p q r s = omega arith
-
-    pub word-refused : agreeing h (W * 64) M e o ≡ false → wordOutcome h M w ≡ record { reply = refusal 12 []; after = w }
+    pub word-refused : agreeing h (W * 64) M e o ≡ false → wordOutcome h n k M w ≡ record { reply = refusal 12 []; after = w }
     unfolding wordOutcome wordReply
     word-refused f = rw (decides ∙ f)
 
-    -- the totals, from the sizes of the erased sets before and after
-    module _ (b l : ℕ) (p : b ≡ count (W * 64) (lent W es 0)) (q : l ≡ count (W * 64) e) where
-      pub fewer-left : l ≤ b
-      fewer-left = at-most (recoveredBits h (length w) M (byteOf w)) (count (W * 64) e) (count (W * 64) (lent W es 0)) recovered-count p q
-        where
-          at-most : (a x y : ℕ) → a + x ≡ y → b ≡ y → l ≡ x → l ≤ b
-          at-most a x y r s t = omega arith
+    -- from the sizes of the erased set before and after
+    module _ (bs ba ls la : ℕ) (B : Counted (W * 64) n (lent W es 0) bs ba) (L : Counted (W * 64) n e ls la) where
+      is-erased : (b : ℕ) → b < n + k → erased (byteOf w) b ≡ lent W es 0 b
+      is-erased b l = sym (E .at b ∙ rw (lt-ltb b (length w) (omega arith)))
 
-      recovered-is : recoveredBits h (length w) M (byteOf w) ≡ b - l
-      recovered-is = taken-away (recoveredBits h (length w) M (byteOf w)) (count (W * 64) e) (count (W * 64) (lent W es 0)) recovered-count p q
-        where
-          taken-away : (a x y : ℕ) → a + x ≡ y → b ≡ y → l ≡ x → a ≡ b - l
-          taken-away a x y r s t = omega arith
+      held-at : (b : ℕ) → erased (held e o) b ≡ e b
+      held-at b = ap (λ (f : ℕ → Bool). f b) (erased-held e o)
 
-      pub word-made : agreeing h (W * 64) M e o ≡ true → wordOutcome h M w ≡ record { reply = answer ((b - l) ∷ l ∷ []); after = listFrom 0 (length w) (held e o) }
+      within : (b : ℕ) → b < n + k → e b ≡ true → lent W es 0 b ≡ true
+      within b l q = sym (is-erased b l) ∙ H .stage .shrinks b (omega arith) (held-at b ∙ q)
+
+      pub word-fewer : (ls ≤ bs) × (la ≤ ba)
+      word-fewer =
+          fewer-left (W * 64) n k (byteOf w) (held e o) (lent W es 0) e (omega arith) (λ b l. held-start .short-e b (omega arith)) (λ b l. H .short-e b (omega arith))
+          is-erased held-at within bs ba ls la B L
+
+      pub word-made : agreeing h (W * 64) M e o ≡ true
+          → wordOutcome h n k M w ≡ record { reply = answer ((bs - ls) ∷ (ba - la) ∷ ls ∷ la ∷ []); after = listFrom 0 (length w) (held e o) }
       unfolding wordOutcome wordReply
       word-made f =
-          let a : peels h (length w) M (byteOf w) ≡ true = decides ∙ f in
-          let u : listFrom 0 (length w) (peeled h (length w) M (byteOf w)) ≡ listFrom 0 (length w) (held e o) = listFrom-cong 0 (length w) (peeled h (length w) M (byteOf w)) (held e o) (λ j k. D .word a (0 + j) (omega arith)) in
-          rw (a, recovered-is, left-count ∙ sym q, u)
+          let a : peels h (n + k) M (byteOf w) ≡ true = decides ∙ f in
+          let u : listFrom 0 (n + k) (peeled h (n + k) M (byteOf w)) ≡ listFrom 0 (n + k) (held e o) = listFrom-cong 0 (n + k) (peeled h (n + k) M (byteOf w)) (held e o) (λ j l. D .word a (0 + j) (omega arith)) in
+          let v = losses-same n k (byteOf w) (peeled h (n + k) M (byteOf w)) (held e o) (D .word a) in
+          let t = losses-sizes (W * 64) n k (byteOf w) (held e o) (lent W es 0) e (omega arith) (λ b l. held-start .short-e b (omega arith)) (λ b l. H .short-e b (omega arith))
+          is-erased held-at within bs ba ls la B L in
+          rw (a, v ∙ t, u, size)
 
 -- the word that is written, byte by byte
 pub record Written (f : ℕ → ℕ) (n b : ℕ) (w : List ℕ) : Type 0 where
@@ -158,8 +172,6 @@ module _ (ws : List ℕ) (n m k : ℕ) (w : List ℕ) where
       let f : refusalOf r ≡ peelReply ws n m k w = unfold peelReply in refused ws n m k w 2 r e _ in
       (f, rw (← f, ne-eqb (refusalOf r .number) 0 (refused-number r)))
 
-  pub outcome-word : answer [] ≡ admitReply ws n m k w 2 → peelOutcome ws n m k w ≡ wordOutcome (lent 8 ws) (m + k) w
+  pub outcome-word : answer [] ≡ admitReply ws n m k w 2 → peelOutcome ws n m k w ≡ wordOutcome (lent 8 ws) n k (m + k) w
   unfolding peelOutcome peelReply wordOutcome wordReply
-  outcome-word e =
-      let (A, W) = taken ws n m k w 2 e in
-      rw (behind ws n m k w 2 e, W .size)
+  outcome-word e = rw (behind ws n m k w 2 e)

@@ -1,3 +1,4 @@
 pub mod Answers
+pub mod Losses
 pub mod Next
 pub mod Steps

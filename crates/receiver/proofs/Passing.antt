@@ -122,7 +122,7 @@ module _ (ws : List ℕ) (n m k splits total : ℕ) (w : List ℕ) where
   unfolding peelText
   peel-refused r e = unless r _ _ e
 
-  module _ (recovered left : ℕ) (e : answer (recovered ∷ left ∷ []) ≡ peelOutcome ws n m k w .reply) where
+  module _ (numbers : List ℕ) (e : answer numbers ≡ peelOutcome ws n m k w .reply) where
     pub peel-passes : report n splits total (peelOutcome ws n m k w .after) ≡ peelText ws n m k splits total w
     unfolding peelText unlessRefused
     peel-passes = rw (← e)

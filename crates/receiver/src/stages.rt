@@ -46,8 +46,10 @@ fn peel_word(
     match peel::peel(words, n, m, k, word) {
         Peeling::Refused(r) => put_refused(out, r),
         Peeling::Made {
-            recovered: _,
-            left: _,
+            recovered_sent: _,
+            recovered_added: _,
+            left_sent: _,
+            left_added: _,
         } => put_report(out, splits, sum, word, n),
     }
 }

@@ -30,6 +30,7 @@ pub enum Numbered {
     One(u32, u64),
     Two(u32, u64, u64),
     Three(u32, u64, u64, u64),
+    Four(u32, u64, u64, u64, u64),
 }
 
 // A refusal.
@@ -152,7 +153,12 @@ pub fn peeling(answer: Peeling) -> Numbered
     ensures { λ r. ⌜ numberedReply r ≡ peelingReply answer ⌝ }
 {
     match answer {
-        Peeling::Made { recovered, left } => Numbered::Two(0, recovered, left),
+        Peeling::Made {
+            recovered_sent,
+            recovered_added,
+            left_sent,
+            left_added,
+        } => Numbered::Four(0, recovered_sent, recovered_added, left_sent, left_added),
         Peeling::Refused(why) => refused(why),
     }
 }
@@ -205,6 +211,13 @@ pub fn pass(reply: Numbered, values: &mut [u64]) -> u32
             put(values, 0, first);
             put(values, 1, second);
             put(values, 2, third);
+            number
+        }
+        Numbered::Four(number, first, second, third, fourth) => {
+            put(values, 0, first);
+            put(values, 1, second);
+            put(values, 2, third);
+            put(values, 3, fourth);
             number
         }
     }

@@ -1,5 +1,5 @@
-// Peeling, verifying and testing sets on document 01's cases and on bad input. A line has the case, what the call answers, and after
-// peeling the word, with ? for erased and x for a byte above 2.
+// Peeling, verifying and testing sets on document 01's cases and on bad input. A line has the case, what the call answers (of the bits
+// recovered and left, how many are sent bits and how many added), and after peeling the word, with ? for erased and x for a byte above 2.
 use parity::Refusal;
 use peel::Peeling;
 use word::Stopping;
@@ -44,18 +44,26 @@ fn show(word: &[u8]) {
     }
 }
 
+// A number of sent bits, and one of added bits.
+fn sent_and_added(head: &[u8], sent: u64, added: u64) {
+    io::write_all(1, head);
+    io::print_decimal(1, sent);
+    io::write_all(1, b" ");
+    io::print_decimal(1, added);
+}
+
 fn peel_line(head: &[u8], words: &[u64], n: usize, m: usize, k: usize, word: &mut [u8]) {
     io::write_all(1, head);
     let answer = peel::peel(words, n, m, k, word);
     match answer {
         Peeling::Made {
-            recovered: a,
-            left: b,
+            recovered_sent: a,
+            recovered_added: b,
+            left_sent: c,
+            left_added: d,
         } => {
-            io::write_all(1, b"recovered ");
-            io::print_decimal(1, a);
-            io::write_all(1, b" left ");
-            io::print_decimal(1, b);
+            sent_and_added(b"recovered ", a, b);
+            sent_and_added(b" left ", c, d);
         }
         Peeling::Refused(r) => refused(r),
     }
@@ -236,6 +244,36 @@ fn case_i() {
     peel_line(b"I, both erased: ", &words, 2, 2, 0, &mut j);
 }
 
+// Bits 1, 2 and 3 are bit 0, the added bit 9 is the sum of 1 and 2, and nothing determines 4 to 7: four different numbers.
+fn four_numbers() {
+    let mut words = [0u64; 4096];
+    words[0] = 0b11;
+    words[8] = 0b101;
+    words[16] = 0b1001;
+    words[24] = 0b1000000110;
+    words[32] = 0b10000110000;
+    words[40] = 0b100011000000;
+    let mut w = [1, 2, 2, 2, 2, 2, 2, 2, 0, 2, 2, 2];
+    peel_line(b"sent and added: ", &words, 9, 3, 3, &mut w);
+}
+
+// With n = 64 the first added bit is the first of the second word: {0,63,64}.
+fn word_edge() {
+    let mut words = [0u64; 4096];
+    words[0] = 0x8000000000000001;
+    words[1] = 1;
+    let mut sent = [0u8; 65];
+    sent[63] = 2;
+    peel_line(b"n = 64, bit 63: ", &words, 64, 0, 1, &mut sent);
+    let mut added = [0u8; 65];
+    added[64] = 2;
+    peel_line(b"n = 64, bit 64: ", &words, 64, 0, 1, &mut added);
+    let mut both = [0u8; 65];
+    both[63] = 2;
+    both[64] = 2;
+    peel_line(b"n = 64, both: ", &words, 64, 0, 1, &mut both);
+}
+
 // A codeword of L.
 const CODEWORD: [u8; 23] = [
     1,
@@ -284,8 +322,10 @@ fn comes_back(words: &[u64], a: usize, b: usize) -> bool
     let answer = peel::peel(words, 23, 23, 0, &mut w);
     match answer {
         Peeling::Made {
-            recovered: _,
-            left: l,
+            recovered_sent: _,
+            recovered_added: _,
+            left_sent: l,
+            left_added: _,
         } => l == 0 && check::same(&w, &CODEWORD),
         Peeling::Refused(_) => false,
     }
@@ -335,5 +375,7 @@ fn main() {
     case_e();
     case_f();
     case_i();
+    four_numbers();
+    word_edge();
     case_l();
 }

@@ -90,6 +90,14 @@ pub fn touches(words: &[u64], c: Check, set: &[u64]) -> bool
     rows::touches(words, c.0, set, 0, 8)
 }
 
+// How many of the bits below `bits` the set has.
+pub fn size_below(set: &[u64], bits: usize) -> u64
+    requires { ⌜ (length (now set) ≡ 8) × (bits < 512) ⌝ }
+    ensures { λ r. ⌜ r ≡ count bits (lent 8 (now (set .entry)) 0) ⌝ }
+{
+    rows::weight_below(set, 8, 0, bits) as u64
+}
+
 // How many bits the set has.
 pub fn size(set: &[u64]) -> u64
     requires { ⌜ length (now set) ≡ 8 ⌝ }

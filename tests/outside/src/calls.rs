@@ -691,8 +691,8 @@ struct Tally {
     refusals: [usize; 14],
     yes: usize,
     no: usize,
-    /// Peelings that recover some bits and leave others.
-    partly: usize,
+    /// Peelings that recover some sent bits and leave others, and those that do so in the added bits.
+    partly: [usize; 2],
 }
 
 /// The kinds named, or all; prints a line for each, and gives the number of comparisons.
@@ -717,7 +717,11 @@ pub fn run(named: &[Kind]) -> Result<usize, String> {
                     Some(1) => tally.yes += 1,
                     _ => {}
                 }
-                tally.partly += (kind == Kind::Peel && !reply.values.contains(&0)) as usize;
+                if kind == Kind::Peel {
+                    for added in 0..2 {
+                        tally.partly[added] += (reply.values[added] > 0 && reply.values[2 + added] > 0) as usize;
+                    }
+                }
             } else {
                 tally.refusals[reply.number as usize] += 1;
             }
@@ -752,7 +756,7 @@ pub fn run(named: &[Kind]) -> Result<usize, String> {
             || tally.answers < CALLS * 2 / 5
             || tally.answers > CALLS * 3 / 5
             || yes_no && (tally.yes < 1000 || tally.no < 1000)
-            || kind == Kind::Peel && tally.partly < 1000;
+            || kind == Kind::Peel && (tally.partly[0] < 1000 || tally.partly[1] < 500);
         if few {
             return Err(format!("the inputs of {} are too much alike: a fault of this program", kind.name()));
         }

@@ -95,7 +95,7 @@ fn bench(t: &mut Tally) -> Result<(), String> {
 
     let mut lent = lend(Kind::Peel, &c());
     lent.word = vec![2, 2, 2, 1, 1, 1, 1];
-    t.same("C, peel", call(&mut lent), reply(0, &[0, 3]))?;
+    t.same("C, peel", call(&mut lent), reply(0, &[0, 0, 3, 0]))?;
     t.same("C, word", lent.word.clone(), vec![2, 2, 2, 1, 1, 1, 1])?;
     t.same("C, count", c().cycles(), 2)?;
     lent.kind = Kind::Orthogonalise;
@@ -105,7 +105,7 @@ fn bench(t: &mut Tally) -> Result<(), String> {
     lent.kind = Kind::Peel;
     lent.k = 1;
     lent.word.push(2);
-    t.same("D, peel", call(&mut lent), reply(0, &[4, 0]))?;
+    t.same("D, peel", call(&mut lent), reply(0, &[3, 1, 0, 0]))?;
     t.same("D, word", lent.word, vec![0, 0, 1, 1, 1, 1, 1, 0])?;
 
     let mut lent = lend(Kind::Count, &e());
@@ -118,7 +118,7 @@ fn bench(t: &mut Tally) -> Result<(), String> {
 
     let mut lent = lend(Kind::Peel, &Matrix::zero(2, 0, 0));
     lent.word = vec![2, 2];
-    t.same("F", call(&mut lent), reply(0, &[0, 2]))?;
+    t.same("F", call(&mut lent), reply(0, &[0, 0, 2, 0]))?;
     t.same("F, word", lent.word, vec![2, 2])?;
 
     let mut lent = lend(Kind::Split, &c());

@@ -4,7 +4,7 @@ use crate::cases;
 use crate::compare::describe;
 use crate::elimination;
 use crate::generate;
-use crate::model::{erased, twos, Kind, Matrix};
+use crate::model::{losses, twos, Kind, Matrix};
 use crate::random::Random;
 use parity::{Peeled, Refusal};
 
@@ -133,13 +133,14 @@ fn fail<T>(code: &Code, matrix: &Matrix, word: &[u8], what: &str) -> Result<T, S
 }
 
 /// The number of comparisons, and how often peeling was refused, was answered though no codeword agrees, and recovered
-/// some bits and left others.
+/// some bits and left others, of the sent bits and of the added ones.
 #[derive(Default)]
 struct Tally {
     compared: usize,
     refused: usize,
     no_codeword: usize,
     partly: usize,
+    partly_added: usize,
 }
 
 /// Peels a received word: what is left is the residue, and every recovered bit is that of `due`, which is `None` if no
@@ -158,7 +159,7 @@ fn held(
     if defined {
         let reply = match matrix.peel(received) {
             None => (Err(Refusal::Contradiction), received.to_vec()),
-            Some(values) => (Ok(totals(received, &values)), values),
+            Some(values) => (Ok(peeling(matrix.n, received, &values)), values),
         };
         if (peeled, &word) != (reply.0, &reply.1) {
             return fail(code, matrix, received, &format!("peeled {peeled:?} {word:?}, defined {reply:?}"));
@@ -172,12 +173,13 @@ fn held(
         tally.refused += 1;
         return Ok(());
     };
-    if peeled != totals(received, &word) {
-        return fail(code, matrix, received, &format!("the totals are {peeled:?}"));
+    if peeled != peeling(matrix.n, received, &word) {
+        return fail(code, matrix, received, &format!("the four numbers are {peeled:?}"));
     }
     tally.compared += 1;
     tally.no_codeword += due.is_none() as usize;
-    tally.partly += (peeled.recovered > 0 && peeled.left > 0) as usize;
+    tally.partly += (peeled.recovered_sent > 0 && peeled.left_sent > 0) as usize;
+    tally.partly_added += (peeled.recovered_added > 0 && peeled.left_added > 0) as usize;
     let residue = matrix.residue(&twos(received));
     for b in 0..received.len() {
         if (word[b] == 2) != residue[b] {
@@ -194,10 +196,11 @@ fn held(
     Ok(())
 }
 
-/// How many bits were recovered and how many are left.
-fn totals(received: &[u8], word: &[u8]) -> Peeled {
-    let left = erased(word);
-    Peeled { recovered: erased(received) - left, left }
+/// The four numbers of a received word and the word after peeling.
+fn peeling(n: usize, received: &[u8], word: &[u8]) -> Peeled {
+    let [recovered_sent, recovered_added, left_sent, left_added] =
+        losses(n, received, word).map(|number| number as usize);
+    Peeled { recovered_sent, recovered_added, left_sent, left_added }
 }
 
 fn one_code(r: &mut Random, tally: &mut Tally, code: &Code, rounds: usize) -> Result<(), String> {
@@ -298,12 +301,13 @@ pub fn run() -> Result<(usize, String), String> {
     for code in random_codes(r) {
         one_code(r, &mut tally, &code, 100)?;
     }
-    let Tally { compared, refused, no_codeword, partly } = tally;
-    if refused < 100 || no_codeword < 100 || partly < 100 {
-        return Err(format!("the words are too much alike, {refused} {no_codeword} {partly}: a fault of this program"));
-    }
+    let Tally { compared, refused, no_codeword, partly, partly_added } = tally;
     let note = format!(
-        "{refused} words refused 12, {no_codeword} answered though no codeword agrees, {partly} recovered in part"
+        "{refused} words refused 12, {no_codeword} answered though no codeword agrees, {partly} recovered in part, \
+         {partly_added} in the added bits"
     );
+    if refused < 100 || no_codeword < 100 || partly < 100 || partly_added < 100 {
+        return Err(format!("the words are too much alike, {note}: a fault of this program"));
+    }
     Ok((compared, note))
 }

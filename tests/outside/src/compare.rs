@@ -37,9 +37,14 @@ fn keep(lent: &Lent) {
 
 /// Makes the call on both sides, with `values` of 0 to 5 words, and gives the model's reply and what is lent afterwards.
 pub fn compare(lent: &Lent, r: &mut Random) -> Result<(Reply, Lent), String> {
+    let before = (0..r.below(6)).map(|_| r.next()).collect();
+    compare_with(lent, before)
+}
+
+/// The same, with these `values`.
+pub fn compare_with(lent: &Lent, before: Vec<u64>) -> Result<(Reply, Lent), String> {
     let mut due = lent.clone();
     let reply = model::call(&mut due);
-    let before: Vec<u64> = (0..r.below(6)).map(|_| r.next()).collect();
     let mut values = before.clone();
     let mut found = lent.clone();
     keep(lent);

@@ -6,9 +6,9 @@ use crate::cases;
 use crate::compare::{compare, describe};
 use crate::elimination;
 use crate::generate;
-use crate::model::{twos, Kind, Matrix};
+use crate::model::{losses, twos, Kind, Matrix};
 use crate::random::Random;
-use parity::Refusal;
+use parity::{Peeled, Refusal};
 
 /// The given matrix, the extended one as it stands after the list, and what the list's calls carried.
 struct Run {
@@ -173,6 +173,14 @@ impl Run {
         Ok((0..30).map(|_| elimination::combine(&basis, n, || r.chance(500))).collect())
     }
 
+    /// The four numbers that a peeling answers are those of the word before and after.
+    fn numbers(&mut self, peeled: Peeled, before: &[u8], after: &[u8]) -> Result<(), String> {
+        let Peeled { recovered_sent, recovered_added, left_sent, left_added } = peeled;
+        let found = [recovered_sent, recovered_added, left_sent, left_added].map(|number| number as u64);
+        let due = losses(self.given.n, before, after);
+        self.fact(found == due, || format!("{before:?}, peeled {after:?}: the numbers {found:?}, due {due:?}"))
+    }
+
     /// Both peelings of a codeword with bytes made 2: what is left is the residue, what is recovered is as it was sent.
     fn peelings(&mut self, extended: &Matrix, code: &[u8], received: &[u8]) -> Result<(), String> {
         let (n, m, k) = (self.given.n, self.given.m, self.k);
@@ -180,11 +188,14 @@ impl Run {
         let mut long = received.to_vec();
         long.resize(n + k, 2);
         let residue = extended.residue(&twos(&long));
-        if let Err(refused) = parity::peel(&self.given_words, n, m, 0, &mut short) {
-            return self.fail(&format!("peeling {received:?} with the given matrix: {refused}"));
+        let longer = long.clone();
+        match parity::peel(&self.given_words, n, m, 0, &mut short) {
+            Ok(peeled) => self.numbers(peeled, received, &short)?,
+            Err(refused) => return self.fail(&format!("peeling {received:?} with the given matrix: {refused}")),
         }
-        if let Err(refused) = parity::peel(&self.words, n, m, k, &mut long) {
-            return self.fail(&format!("peeling {received:?} with the extended matrix: {refused}"));
+        match parity::peel(&self.words, n, m, k, &mut long) {
+            Ok(peeled) => self.numbers(peeled, &longer, &long)?,
+            Err(refused) => return self.fail(&format!("peeling {received:?} with the extended matrix: {refused}")),
         }
         let whole = self.extend(code)?;
         for b in 0..n + k {

@@ -1,6 +1,6 @@
 -- Laws of a matrix that is lent as W words for each check: single bits, counts by words, equal words. Assumes nothing.
 use mathlib.Core.Path.{_≡_, refl, sym, ap, _∙_, fun-ext}
-use mathlib.Core.Bool.{Bool, true, false, cond, not, _&&_, _||_, and-false}
+use mathlib.Core.Bool.{Bool, true, false, cond, not, _&&_, _||_, and-false, and-true}
 use mathlib.Core.List.{List}
 use Prim.Native.Nat.{ℕ, zero, suc, _+_, _*_, _-_, _/_, _%_, _^_, _≤_, _<_}
 use native.Mathlib.Nat.{add-suc, add-zero, zero-add, suc-mul, zero-mul, mul-le-mul-right, div-lt-iff-lt-mul}
@@ -8,17 +8,17 @@ use native.Mathlib.Numerals.{add-one}
 use native.Mathlib.Decide.{ℕ-discrete, decLt}
 use native.Mathlib.Omega.{arith}
 use lib.Arith.{digits-div, digits-mod, digits-lt, lt-one}
-use lib.Bits.{bitAnd, bitOr}
+use lib.Bits.{bitAnd, bitOr, and-le-r}
 use lib.Count.{ones as onesOf, ones-step}
 use lib.Dec.{eqb, lit<}
 use lib.ListN.{getD, length, set, replicate}
-use lib.Pow.{shr-lt}
+use lib.Pow.{shr-lt, pow-pos}
 use lib.Seq.{getD-set-same, getD-set-other}
 use borrow.Author.Tests.{eq-eqb, ne-eqb, lt-ltb, le-ltb}
 use Rattle.parity.specs.Finite.{one, sum, count}
 use Rattle.parity.specs.Matrix.{Matrix, bitOf, lent, put}
 use Rattle.parity.proofs.Finite.Sums.{count-cong, sum-cong}
-use Rattle.parity.proofs.Matrix.Digits.{bit-set, bit-clear, bit-zero, low-bit, higher}
+use Rattle.parity.proofs.Matrix.Digits.{bit-set, bit-clear, bit-zero, bit-and, bit-mask, low-bit, higher}
 
 -- a check before another has room for its words
 pub row-room : (W c e : ℕ) → c < e → c * W + W ≤ e * W
@@ -155,3 +155,19 @@ pub weight : (W : ℕ) (ws : List ℕ) → ((i : ℕ) → getD ws i 0 < 2 ^ 64) 
 weight W ws u c =
     count-blocks W 64 (lent W ws c)
     ∙ sum-cong W (λ i k. count-cong 64 (λ b l. lent-word W ws c i b k l) ∙ sym (ones-count 64 (getD ws (c * W + i) 0) (u (c * W + i))))
+
+-- the ones of a word's lower t bits, as the machine's w & ((1 << t) - 1) gives them
+low-ones : (t w : ℕ) → onesOf (bitAnd w (2 ^ t - 1)) ≡ count t (bitOf w)
+low-ones t w =
+    ones-count t (bitAnd w (2 ^ t - 1)) (omega (arith, and-le-r w (2 ^ t - 1), pow-pos t))
+    ∙ count-cong t (λ i l. bit-and w (2 ^ t - 1) i ∙ rw (bit-mask t i, lt-ltb i t l, and-true))
+
+-- how many of the bits below b a row has: those of the words before b's, and the lower ones of b's word
+pub weight-below : (W : ℕ) (ws : List ℕ) (c b : ℕ) → b < W * 64
+    → count b (lent W ws c) ≡ count (b / 64 * 64) (lent W ws c) + onesOf (bitAnd (getD ws (c * W + b / 64) 0) (2 ^ (b % 64) - 1))
+weight-below W ws c b l =
+    let e : b ≡ b / 64 * 64 + b % 64 = omega arith in
+    let s : b / 64 < W = div-lt-iff-lt-mul (lit< tt) .1 l in
+    let a = count-add (b / 64 * 64) (b % 64) (lent W ws c) in
+    let q = count-cong (b % 64) {p = λ i. lent W ws c (b / 64 * 64 + i)} {q = bitOf (getD ws (c * W + b / 64) 0)} (λ i k. lent-word W ws c (b / 64) i s (omega arith)) in
+    ap (λ (x : ℕ). count x (lent W ws c)) e ∙ omega (arith, low-ones (b % 64) (getD ws (c * W + b / 64) 0))

@@ -1,22 +1,22 @@
 -- What peeling promises of the lists that it is lent and leaves: what is left is the largest stopping set within the erased bits; a word got
 -- from a codeword by erasing is peeled, to the codeword's bits; peeling twice changes nothing more. Assumes nothing.
 use mathlib.Core.Path.{_≡_, refl, sym, ap, _∙_}
-use mathlib.Core.Bool.{Bool, true, false, not, _&&_}
+use mathlib.Core.Bool.{Bool, true, false, not, _&&_, and-not-self}
 use mathlib.Core.List.{List, [], _∷_}
 use mathlib.Core.Logic.{_⊎_, ⊎-elim}
 use Prim.Native.Nat.{ℕ, _+_, _%_, _≤_, _<_}
 use native.Mathlib.Nat.{zero-add}
 use native.Mathlib.Omega.{arith}
 use lib.Dec.{eqb}
-use lib.ListN.{length}
+use lib.ListN.{length, getD}
 use lib.Seq.{ext-getD}
 use borrow.Author.Tests.{eq-eqb, ne-eqb, eqb-true, eqb-false}
 use Rattle.parity.specs.Finite.{one, count, listFrom}
 use Rattle.parity.specs.Matrix.{Matrix, lent}
-use Rattle.parity.specs.Words.{erased, isOne, inside, residue, peels, peeled, recoveredBits, leftBits, agrees}
+use Rattle.parity.specs.Words.{erased, isOne, inside, residue, peels, peeled, recovered, losses, agrees}
 use Rattle.parity.specs.Causes.{Reply, answer, Outcome, refusal}
 use Rattle.parity.specs.Calls.{byteOf, verifyReply, isStoppingReply, peelReply, peelOutcome}
-use Rattle.parity.proofs.Finite.Sums.{is-true, is-false, is, one≤1, all-of, sum-zero, count-cong, byte-one, eqb-one}
+use Rattle.parity.proofs.Finite.Sums.{is-true, is-false, is, one≤1, all-of, sum-zero, count-cong, count-part, byte-one, eqb-one}
 use Rattle.parity.proofs.Matrix.Packing.{length-listFrom, at-listFrom, listFrom-cong}
 use Rattle.parity.proofs.Words.Extend.{inside-cong}
 use Rattle.parity.proofs.Words.Residue.{outside, anySet-at, residue-of, residue-within, residue-stops, Solves, solve}
@@ -27,6 +27,16 @@ use Rattle.parity.proofs.Causes.Admit.{accepted-number}
 use Rattle.parity.proofs.Words.Bytes.{Word, read-word, word-right, Codeword}
 use Rattle.parity.proofs.Words.Verifying.{verifies, list-stops, stops-list}
 
+-- the four numbers depend on the bytes of n + k bits alone
+pub losses-same : (n k : ℕ) (before after end : ℕ → ℕ) → ((b : ℕ) → b < n + k → after b ≡ end b) → losses n k before after ≡ losses n k before end
+unfolding losses recovered
+losses-same n k before after end f =
+    let a = count-cong n {p = λ b. erased before b && not (erased after b)} {q = λ b. erased before b && not (erased end b)} (λ b l. rw (f b (omega arith))) in
+    let b = count-cong k {p = λ j. erased before (n + j) && not (erased after (n + j))} {q = λ j. erased before (n + j) && not (erased end (n + j))} (λ j l. rw (f (n + j) (omega arith))) in
+    let c = count-cong n {p = erased after} {q = erased end} (λ b l. rw (f b (omega arith))) in
+    let d = count-cong k {p = λ j. erased after (n + j)} {q = λ j. erased end (n + j)} (λ j l. rw (f (n + j) (omega arith))) in
+    cc
+
 eqb-two : (a : Bool) → eqb (one a) 2 ≡ false
 eqb-two true = refl
 eqb-two false = refl
@@ -35,12 +45,12 @@ eqb-two false = refl
 module _ (ws : List ℕ) (n m k : ℕ) (A : Accepted ws n m k) (w : List ℕ) (W : Word (n + k) 2 w) (end : ℕ → ℕ)
     (E : Ended (lent 8 ws) (n + k) (m + k) (byteOf w) end) where
   pub peel-made : agrees (lent 8 ws) (n + k) (m + k) end ≡ true
-      → peelOutcome ws n m k w ≡ record { reply = answer (recoveredBits (lent 8 ws) (n + k) (m + k) (byteOf w) ∷ leftBits (lent 8 ws) (n + k) (m + k) (byteOf w) ∷ []); after = listFrom 0 (n + k) end }
+      → peelOutcome ws n m k w ≡ record { reply = answer (losses n k (byteOf w) end); after = listFrom 0 (n + k) end }
   unfolding peelOutcome peelReply
   peel-made e =
       let p : peels (lent 8 ws) (n + k) (m + k) (byteOf w) ≡ true = E .answers ∙ e in
       let t : listFrom 0 (n + k) (peeled (lent 8 ws) (n + k) (m + k) (byteOf w)) ≡ listFrom 0 (n + k) end = listFrom-cong 0 (n + k) (peeled (lent 8 ws) (n + k) (m + k) (byteOf w)) end (λ j l. E .word p (0 + j) (omega arith)) in
-      rw (passes ws n m k A, eq-eqb (length w) (n + k) (W .size), word-right (n + k) 2 w W, p, t)
+      rw (passes ws n m k A, eq-eqb (length w) (n + k) (W .size), word-right (n + k) 2 w W, p, t, losses-same n k (byteOf w) (peeled (lent 8 ws) (n + k) (m + k) (byteOf w)) end (E .word p))
 
   pub peel-refused : agrees (lent 8 ws) (n + k) (m + k) end ≡ false → peelOutcome ws n m k w ≡ record { reply = refusal 12 []; after = w }
   unfolding peelOutcome peelReply
@@ -52,7 +62,7 @@ pub record Answered (ws : List ℕ) (n m k : ℕ) (w : List ℕ) : Type 0 where
   pub word : Word (n + k) 2 w
   pub solvable : peels (lent 8 ws) (n + k) (m + k) (byteOf w) ≡ true
   pub outcome : peelOutcome ws n m k w ≡ record {
-    reply = answer (recoveredBits (lent 8 ws) (n + k) (m + k) (byteOf w) ∷ leftBits (lent 8 ws) (n + k) (m + k) (byteOf w) ∷ []);
+    reply = answer (losses n k (byteOf w) (peeled (lent 8 ws) (n + k) (m + k) (byteOf w)));
     after = listFrom 0 (n + k) (peeled (lent 8 ws) (n + k) (m + k) (byteOf w));
   }
 
@@ -70,7 +80,7 @@ module _ (ws : List ℕ) (n m k : ℕ) (w : List ℕ) where
   answers A W p = record { accepted = A; word = W; solvable = p; outcome = made }
     where
       made : peelOutcome ws n m k w ≡ record {
-        reply = answer (recoveredBits h N M (byteOf w) ∷ leftBits h N M (byteOf w) ∷ []);
+        reply = answer (losses n k (byteOf w) (peeled h N M (byteOf w)));
         after = listFrom 0 N (peeled h N M (byteOf w));
       }
       made = unfold peelOutcome peelReply in rw (passes ws n m k A _, eq-eqb (length w) N (W .size), word-right N 2 w W, p)
@@ -155,6 +165,31 @@ module _ (ws : List ℕ) (n m k : ℕ) (w : List ℕ) where
         eqb-true (byteOf left b) 2 (left-is b l ∙ residue-of h N M (erased (byteOf w)) (isOne (byteOf t)) S
         (λ a j p. eq-eqb (byteOf w a) 2 (f a j (eqb-true (byteOf t a) 1 p))) b l (eq-eqb (byteOf t b) 1 q))
 
+    -- The sent bits recovered and those left are the erased sent bits, and the added bits likewise; where k = 0 there is no added bit.
+    still : (b : ℕ) → b < N → erased (peeled h N M (byteOf w)) b ≡ true → erased (byteOf w) b ≡ true
+    still b l e = eq-eqb (byteOf w b) 2 (left-erased b l (after-at b l ∙ eqb-true (peeled h N M (byteOf w) b) 2 e))
+
+    abbrev carried : ℕ → ℕ
+    carried i = getD (peelOutcome ws n m k w .reply .values) i 0
+
+    carries : peelOutcome ws n m k w .reply .values ≡ losses n k (byteOf w) (peeled h N M (byteOf w))
+    carries = ap (λ (o : Outcome). o .reply .values) (A .outcome)
+
+    pub losses-sent : carried 0 + carried 2 ≡ count n (erased (byteOf w))
+    unfolding losses recovered
+    losses-sent = rw carries (count-part n (erased (byteOf w)) (erased (peeled h N M (byteOf w))) (λ b l. still b (omega arith)))
+
+    pub losses-added : carried 1 + carried 3 ≡ count k (λ j. erased (byteOf w) (n + j))
+    unfolding losses recovered
+    losses-added =
+        rw carries (count-part k (λ j. erased (byteOf w) (n + j)) (λ j. erased (peeled h N M (byteOf w)) (n + j)) (λ j l. still (n + j) (omega arith)))
+
+    pub losses-given : k ≡ 0 → (carried 1 ≡ 0) × (carried 3 ≡ 0)
+    losses-given e =
+        let s = losses-added in
+        let z : count k (λ j. erased (byteOf w) (n + j)) ≡ 0 = rw e (unfold count in refl) in
+        (omega arith, omega arith)
+
     -- a bit that was not erased is kept
     pub kept : (b : ℕ) → b < N → (byteOf w b ≡ 2 → ⊥) → byteOf left b ≡ byteOf w b
     kept b l d =
@@ -199,16 +234,18 @@ module _ (ws : List ℕ) (n m k : ℕ) (w : List ℕ) where
             ap (_% 2) same ∙ solution .1 .even c l z
 
     -- Peeling what was left recovers nothing more, and changes nothing.
-    pub peel-again : peelOutcome ws n m k left ≡ record { reply = answer (0 ∷ leftBits h N M (byteOf w) ∷ []); after = left }
+    pub peel-again : peelOutcome ws n m k left
+        ≡ record { reply = answer (0 ∷ 0 ∷ count n (erased (byteOf left)) ∷ count k (λ j. erased (byteOf left) (n + j)) ∷ []); after = left }
+    unfolding losses recovered
     peel-again =
         let e = peel-made ws n m k (A .accepted) left left-word (byteOf left) left-ended left-agrees in
-        let p : recoveredBits h N M (byteOf left) ≡ 0 = left-ended .recovered ∙ nothing (erased (byteOf left)) in
-        let q : leftBits h N M (byteOf left) ≡ leftBits h N M (byteOf w) = left-ended .left ∙ unfold leftBits in count-cong N left-is in
+        let p = nothing n (erased (byteOf left)) in
+        let q = nothing k (λ j. erased (byteOf left) (n + j)) in
         let t : listFrom 0 N (byteOf left) ≡ left = sym (listed left after-size) in
         e ∙ rw (p, q, t)
       where
-        nothing : (s : ℕ → Bool) → count N (λ b. s b && not (s b)) ≡ 0
-        nothing s = unfold count in sum-zero N (λ b l. elim (is (s b)) [ is-true q ↦ rw q | is-false q ↦ rw q ])
+        nothing : (i : ℕ) (s : ℕ → Bool) → count i (λ b. s b && not (s b)) ≡ 0
+        nothing i s = unfold count in sum-zero i (λ b l. rw (and-not-self (s b)))
 
         listed : (v : List ℕ) → length v ≡ N → v ≡ listFrom 0 N (byteOf v)
         listed v e =

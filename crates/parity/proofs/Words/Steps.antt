@@ -8,7 +8,7 @@ use lib.Dec.{eqb}
 use borrow.Author.Tests.{eq-eqb, ne-eqb, eqb-true, eqb-false, not-false}
 use Rattle.parity.specs.Finite.{one, count, any}
 use Rattle.parity.specs.Matrix.{Matrix}
-use Rattle.parity.specs.Words.{solved, loneCheck, loneBit, steps, agrees, inside, odd, residue, erased, isOne, peels, peeled, recoveredBits, leftBits}
+use Rattle.parity.specs.Words.{solved, loneCheck, loneBit, steps, agrees, inside, odd, residue, erased, isOne, peels, peeled}
 use Rattle.parity.proofs.Finite.Bools.{or-false-both, or-else, same-test}
 use Rattle.parity.proofs.Finite.Sums.{is-true, is-false, is, one≤1, byte-one, eqb-one, all-at, all-not, count-two, count-cong, count-le, count-bound, any-of, least-at, count-at, sum-point}
 use Rattle.parity.proofs.Splits.Split.{Stops}
@@ -158,18 +158,15 @@ lone-at h N M w e =
     let (r₁, r₂) = and-eq-true-iff (h (loneCheck h N M w) (loneBit h N (loneCheck h N M w) w)) (erased w (loneBit h N (loneCheck h N M w) w)) .0 r in
     (cm, a, bn, r₁, r₂)
 
--- What a word w is where steps from w₀ end: peeling is refused exactly if w disagrees with a check, the residue is what is still erased,
--- w is the peeled word, and its erased bits are the bits left.
+-- What a word w is where steps from w₀ end: peeling is refused exactly if w disagrees with a check, the residue is what is still erased, and
+-- w is the peeled word.
 pub record Ended (h : Matrix) (N M : ℕ) (w₀ w : ℕ → ℕ) : Type 0 where
   pub answers : peels h N M w₀ ≡ agrees h N M w
   pub still : (b : ℕ) → b < N → residue h N M (erased w₀) b ≡ erased w b
   pub word : peels h N M w₀ ≡ true → (b : ℕ) → b < N → peeled h N M w₀ b ≡ w b
-  pub recovered : recoveredBits h N M w₀ ≡ count N (λ b. erased w₀ b && not (erased w b))
-  pub left : leftBits h N M w₀ ≡ count N (erased w)
 
 -- a stage at which no check has exactly one erased bit is the end
 pub ended : (h : Matrix) (N M : ℕ) (w₀ w : ℕ → ℕ) → Stage h N M w₀ w → Stops h N M (erased w) → Ended h N M w₀ w
-unfolding recoveredBits leftBits
 ended h N M w₀ w S T =
     let e : (b : ℕ) → b < N → residue h N M (erased w₀) b ≡ erased w b = λ b k. sym (ends h N M w₀ w S T b k) in
     let p : (peels h N M w₀ ≡ agrees h N M w) × (peels h N M w₀ ≡ true → (b : ℕ) → b < N → peeled h N M w₀ b ≡ w b) = elim (is (agrees h N M w)) [
@@ -180,8 +177,6 @@ ended h N M w₀ w S T =
       answers = p .0;
       still = e;
       word = p .1;
-      recovered = count-cong N (λ b k. rw (e b k));
-      left = count-cong N e;
     }
 
 module _ (h : Matrix) (N M : ℕ) (w₀ : ℕ → ℕ) where

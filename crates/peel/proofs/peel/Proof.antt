@@ -27,7 +27,7 @@ add-peel-word c = let s = c .before .before .before .before .before .before in
 peel-word-requires : tie.Need-peel-word-requires
 peel-word-requires c κs = let s = c .before .before .before .before .before .before .before in
     let (A, W) = taken (s .args .words .now) (s .args .n) (s .args .m) (s .args .k) (s .args .word .now) 2 (ap admissionReply (sym (c .before .enum-told .given .1)) ∙ c .before .before .before .admit .ensures) in
-    (A .words, omega (arith, A .sound .m120, A .sound .k392), omega (arith, W .size, A .sound .n120, A .sound .k392), word-right _ 2 (s .args .word .now) W)
+    (A .words, omega (arith, A .sound .m120, A .sound .k392), W .size, omega (arith, A .sound .n120, A .sound .k392), omega (arith, A .sound .n120), word-right _ 2 (s .args .word .now) W)
 
 same-length : tie.Need-same-length
 same-length c = search needs

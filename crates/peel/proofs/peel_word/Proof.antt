@@ -1,9 +1,10 @@
 -- `peel_word` meets its contract. Assumes nothing.
 use mathlib.Core.Path.{sym, ap, _∙_}
+use native.Mathlib.Omega.{arith}
 use borrow.Author.Tests.{not-true, not-false}
 use Rattle.parity.specs.Matrix.{lent}
 use Rattle.parity.specs.Causes.{Outcome}
-use Rattle.peel.proofs.Ending.{word-refused, word-made, fewer-left}
+use Rattle.peel.proofs.Ending.{word-refused, word-fewer, word-made}
 use borrow.Author.Needs.{needs}
 use Rattle.peel.proofs.peel_word.Statement.{statement}
 use Rattle.peel.proofs.peel_word.Tie as tie
@@ -14,11 +15,11 @@ set-of-requires c κs = search needs
 set-of-requires-2 : tie.Need-set-of-requires-2
 set-of-requires-2 c κs = search needs
 
-slice-aggregate-size : tie.Need-slice-aggregate-size
-slice-aggregate-size c = search needs
+slice-aggregate-sizes-of : tie.Need-slice-aggregate-sizes-of
+slice-aggregate-sizes-of c = search needs
 
-size-requires : tie.Need-size-requires
-size-requires c κs = search needs
+sizes-of-requires : tie.Need-sizes-of-requires
+sizes-of-requires c κs = search needs
 
 slice-aggregate-settle : tie.Need-slice-aggregate-settle
 slice-aggregate-settle c = search needs
@@ -42,40 +43,41 @@ same-length : tie.Need-same-length
 same-length c = search needs
 
 returns : tie.Need-returns
-returns c = let g = c .before .before .before in
+returns c =
+    let g = c .before .before .before in
     let t = g .before .before .before .before .before .before in
     let z = t .before .before .before in
     let s = z .before .before .before .before .before .before .before .before in
     let f = not-true (g .finish .result) (c .if1 .taken) in
-    let r = word-refused 8 (lent 8 (s .args .words .now)) (s .args .checks) (s .args .word .now) _ _ (s .pre .2) (s .pre .3) (z .before .before .before .before .set-of .ensures) (z .before .before .set-of2 .ensures) _ _ (t .settle .ensures)
-    (sym (g .finish .ensures .told) ∙ f) in
+    let r = word-refused 8 (lent 8 (s .args .words .now)) (s .args .n) (s .args .k) (s .args .checks) (s .args .word .now) _ _ (s .pre .2) (omega (arith, s .pre .2, s .pre .3)) (s .pre .5) (z .before .before .before .before .set-of .ensures) (z .before .before .set-of2 .ensures) _ _ (t .settle .ensures) (sym (g .finish .ensures .told) ∙ f) in
     (sym (ap (λ (o : Outcome). o .reply) r), (rw f at (g .finish .ensures .word)) ∙ sym (ap (λ (o : Outcome). o .after) r))
 
-slice-aggregate-size-2 : tie.Need-slice-aggregate-size-2
-slice-aggregate-size-2 c = search needs
+slice-aggregate-sizes-of-2 : tie.Need-slice-aggregate-sizes-of-2
+slice-aggregate-sizes-of-2 c = search needs
 
-size-requires-2 : tie.Need-size-requires-2
-size-requires-2 c κs = search needs
+sizes-of-requires-2 : tie.Need-sizes-of-requires-2
+sizes-of-requires-2 c κs = search needs
 
-sub-t31 : tie.Need-sub-t31
-sub-t31 c = let g = c .before .before .before .before .before in
+made-requires : tie.Need-made-requires
+made-requires c κs =
+    let g = c .before .before .before .before .before in
     let t = g .before .before .before .before .before .before in
     let z = t .before .before .before in
     let s = z .before .before .before .before .before .before .before .before in
-    fewer-left 8 (lent 8 (s .args .words .now)) (s .args .checks) (s .args .word .now) _ _ (s .pre .2) (s .pre .3) (z .before .before .before .before .set-of .ensures) (z .before .before .set-of2 .ensures) _ _ (t .settle .ensures) _ _ (z .size .ensures) (c .size2 .ensures)
+    word-fewer 8 (lent 8 (s .args .words .now)) (s .args .n) (s .args .k) (s .args .checks) (s .args .word .now) _ _ (s .pre .2) (omega (arith, s .pre .2, s .pre .3)) (s .pre .5) (z .before .before .before .before .set-of .ensures) (z .before .before .set-of2 .ensures) _ _ (t .settle .ensures) _ _ _ _ (z .sizes-of .ensures) (c .sizes-of2 .ensures)
 
 same-length-2 : tie.Need-same-length-2
 same-length-2 c = search needs
 
 returns-2 : tie.Need-returns-2
-returns-2 c = let g = c .before .before .before .before .before in
+returns-2 c =
+    let g = c .before .before .before .before .before .before in
     let t = g .before .before .before .before .before .before in
     let z = t .before .before .before in
     let s = z .before .before .before .before .before .before .before .before in
-    let f = not-false (g .finish .result) (c .before .before .if1 .left) in
-    let r = word-made 8 (lent 8 (s .args .words .now)) (s .args .checks) (s .args .word .now) _ _ (s .pre .2) (s .pre .3) (z .before .before .before .before .set-of .ensures) (z .before .before .set-of2 .ensures) _ _ (t .settle .ensures)
-    _ _ (z .size .ensures) (c .size2 .ensures) (sym (g .finish .ensures .told) ∙ f) in
-    (sym (ap (λ (o : Outcome). o .reply) r), (rw f at (g .finish .ensures .word)) ∙ sym (ap (λ (o : Outcome). o .after) r))
+    let f = not-false (g .finish .result) (c .before .before .before .if1 .left) in
+    let r = word-made 8 (lent 8 (s .args .words .now)) (s .args .n) (s .args .k) (s .args .checks) (s .args .word .now) _ _ (s .pre .2) (omega (arith, s .pre .2, s .pre .3)) (s .pre .5) (z .before .before .before .before .set-of .ensures) (z .before .before .set-of2 .ensures) _ _ (t .settle .ensures) _ _ _ _ (z .sizes-of .ensures) (c .before .sizes-of2 .ensures) (sym (g .finish .ensures .told) ∙ f) in
+    (c .made .ensures ∙ sym (ap (λ (o : Outcome). o .reply) r), (rw f at (g .finish .ensures .word)) ∙ sym (ap (λ (o : Outcome). o .after) r))
 
 pub peel-word-spec : {M : Type 1} → statement M
 peel-word-spec =
@@ -83,8 +85,8 @@ peel-word-spec =
     (tie.spec
     set-of-requires
     set-of-requires-2
-    slice-aggregate-size
-    size-requires
+    slice-aggregate-sizes-of
+    sizes-of-requires
     slice-aggregate-settle
     slice-aggregate-settle-2
     settle-requires
@@ -93,8 +95,8 @@ peel-word-spec =
     finish-requires
     same-length
     returns
-    slice-aggregate-size-2
-    size-requires-2
-    sub-t31
+    slice-aggregate-sizes-of-2
+    sizes-of-requires-2
+    made-requires
     same-length-2
     returns-2)

@@ -36,6 +36,21 @@ put-requires-5 c κs = search needs
 put-requires-6 : tie.Need-put-requires-6
 put-requires-6 c κs = search needs
 
+enum-known-reply-5 : tie.Need-enum-known-reply-5
+enum-known-reply-5 c = search needs
+
+put-requires-7 : tie.Need-put-requires-7
+put-requires-7 c κs = search needs
+
+put-requires-8 : tie.Need-put-requires-8
+put-requires-8 c κs = search needs
+
+put-requires-9 : tie.Need-put-requires-9
+put-requires-9 c κs = search needs
+
+put-requires-10 : tie.Need-put-requires-10
+put-requires-10 c κs = search needs
+
 returns : tie.Need-returns
 returns c = bare _ (c .before .before .before .before .args .values .now) (sym (ap numberedReply (c .before .reply .given .1)))
 
@@ -57,6 +72,14 @@ same-length-3 c = search needs
 returns-4 : tie.Need-returns-4
 returns-4 c = same (sym (ap numberedReply (c .before .before .before .before .before .before .before .before .before .before .before .before .before .reply4 .given .1))) (next _ (next _ (next _ (bare _ (c .before .before .before .before .before .before .before .before .before .before .before .before .before .before .before .before .args .values .now) refl) (c .before .before .before .before .before .before .before .before .before .before .put4 .ensures)) (c .before .before .before .before .before .before .put5 .ensures)) (c .before .before .put6 .ensures))
 
+same-length-4 : tie.Need-same-length-4
+same-length-4 c = search needs
+
+returns-5 : tie.Need-returns-5
+returns-5 c =
+    same (sym (ap numberedReply (c .before .before .before .before .before .before .before .before .before .before .before .before .before .before .before .before .before .reply5 .given .1)))
+    (next _ (next _ (next _ (next _ (bare _ (c .before .before .before .before .before .before .before .before .before .before .before .before .before .before .before .before .before .before .before .before .args .values .now) refl) (c .before .before .before .before .before .before .before .before .before .before .before .before .before .before .put7 .ensures)) (c .before .before .before .before .before .before .before .before .before .before .put8 .ensures)) (c .before .before .before .before .before .before .put9 .ensures)) (c .before .before .put10 .ensures))
+
 pub pass-spec : {M : Type 1} → statement M
 pass-spec =
     tie.close
@@ -71,10 +94,17 @@ pass-spec =
     put-requires-4
     put-requires-5
     put-requires-6
+    enum-known-reply-5
+    put-requires-7
+    put-requires-8
+    put-requires-9
+    put-requires-10
     returns
     same-length
     returns-2
     same-length-2
     returns-3
     same-length-3
-    returns-4)
+    returns-4
+    same-length-4
+    returns-5)

@@ -1,4 +1,4 @@
--- `reply::peeled` meets its contract. Assumes nothing.
+-- `reply::peeling` meets its contract. Assumes nothing.
 use borrow.Author.Needs.{needs}
 use mathlib.Core.Path.{sym, ap}
 use Rattle.peel.specs.Answers.{peelingReply}

@@ -1,4 +1,4 @@
--- `reply::ranked` meets its contract. Assumes nothing.
+-- `reply::ranking` meets its contract. Assumes nothing.
 use borrow.Author.Needs.{needs}
 use mathlib.Core.Path.{sym, ap}
 use Rattle.encode.specs.Answers.{rankingReply}

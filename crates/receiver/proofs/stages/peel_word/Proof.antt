@@ -30,8 +30,8 @@ put-report-requires c κs =
     let p = c .before .before .before .before .before .before .peel in
     let g = c .before .before .enum-told .given in
     let e = sym (ap peelingReply (g .1)) ∙ p .ensures .0 in (
-      rw (p .ensures .1, peel-passes (a .words .now) (a .n) (a .m) (a .k) (a .splits) (a .sum) (a .word .now) (g .0 .0) (g .0 .1 .0) e) (c .before .before .before .before .before .before .before .before .before .before .before .pre .0),
-      (search needs, rw (p .ensures .1) (peel-bytes (a .words .now) (a .n) (a .m) (a .k) (a .splits) (a .sum) (a .word .now) (g .0 .0) (g .0 .1 .0) e)),
+      rw (p .ensures .1, peel-passes (a .words .now) (a .n) (a .m) (a .k) (a .splits) (a .sum) (a .word .now) _ e) (c .before .before .before .before .before .before .before .before .before .before .before .pre .0),
+      (search needs, rw (p .ensures .1) (peel-bytes (a .words .now) (a .n) (a .m) (a .k) (a .splits) (a .sum) (a .word .now) _ e)),
     )
 
 same-length : tie.Need-same-length
@@ -63,7 +63,7 @@ returns-2 c =
     let g = c .before .before .before .before .before .enum-told .given in
     let e = sym (ap peelingReply (g .1)) ∙ p .ensures .0 in
     same-text
-    (rw (p .ensures .1) (peel-passes (a .words .now) (a .n) (a .m) (a .k) (a .splits) (a .sum) (a .word .now) (g .0 .0) (g .0 .1 .0) e))
+    (rw (p .ensures .1) (peel-passes (a .words .now) (a .n) (a .m) (a .k) (a .splits) (a .sum) (a .word .now) _ e))
     (c .before .before .put-report .ensures)
 
 pub peel-word-spec : {M : Type 1} → statement M

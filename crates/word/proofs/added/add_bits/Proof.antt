@@ -1,4 +1,4 @@
--- `extending::add_bits` meets its contract. Assumes nothing.
+-- `added::add_bits` meets its contract. Assumes nothing.
 use mathlib.Core.Path.{_≡_}
 use Prim.Native.Nat.{_+_, _-_, _≤_}
 use native.Mathlib.Omega.{arith}

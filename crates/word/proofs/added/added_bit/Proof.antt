@@ -1,4 +1,4 @@
--- `extending::added_bit` meets its contract. Assumes nothing.
+-- `added::added_bit` meets its contract. Assumes nothing.
 use mathlib.Core.Path.{sym, ap, _∙_}
 use Prim.Native.Nat.{_+_, _≤_, _<_}
 use native.Mathlib.Omega.{arith}

@@ -1,4 +1,4 @@
--- `extending::copy_sent` meets its contract. Assumes nothing.
+-- `added::copy_sent` meets its contract. Assumes nothing.
 use mathlib.Core.Path.{_≡_, refl}
 use Prim.Native.Nat.{_-_, _≤_}
 use native.Mathlib.Omega.{arith}

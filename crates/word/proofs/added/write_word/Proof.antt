@@ -1,4 +1,4 @@
--- `extending::write_word` meets its contract. Assumes nothing.
+-- `added::write_word` meets its contract. Assumes nothing.
 use Rattle.parity.specs.Matrix.{lent}
 use Rattle.word.specs.Added.{Copied}
 use Rattle.word.proofs.Lower.{copied-bits, extended-all}

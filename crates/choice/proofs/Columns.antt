@@ -18,7 +18,7 @@ use Rattle.parity.specs.Cycles.{splitOf}
 use Rattle.parity.proofs.Finite.Sums.{sum-zero, count-cong, count-le, count-bound}
 use Rattle.parity.proofs.Matrix.Digits.{bit-and, bit-not}
 use Rattle.parity.proofs.Matrix.Lent.{row-room, lent-in, lent-out}
-use Rattle.matrix.specs.Rows.{Columns}
+use Rattle.rows.specs.Rows.{Columns}
 use Rattle.choice.specs.Given.{together, parted, PartedWord, PartedTo, Parted}
 
 -- two columns have places in common

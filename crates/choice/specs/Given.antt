@@ -6,7 +6,7 @@ use Prim.Native.Nat.{ℕ, _*_, _/_, _≤_}
 use lib.Dec.{eqb, ltb}
 use Rattle.parity.specs.Finite.{count}
 use Rattle.parity.specs.Matrix.{Matrix, lent}
-use Rattle.matrix.specs.Rows.{Columns}
+use Rattle.rows.specs.Rows.{Columns}
 
 -- how many places two columns of W words have in common
 unfoldable pub together : ℕ → Matrix → ℕ → ℕ → ℕ

@@ -1,12 +1,12 @@
 // The columns of the given checks: `width` words for a bit, whose bit `c` says whether check `c` contains it.
-use matrix::columns::fill;
-use matrix::rows::common;
 use parity::Bit;
+use rows::columns::fill;
+use rows::common;
 ghost use mathlib.Core.Path.{_≡_};
 ghost use Prim.Native.Nat.{_*_, _≤_, _<_};
 ghost use lib.ListN.{length, replicate};
 ghost use Rattle.parity.specs.Matrix.{lent};
-ghost use Rattle.matrix.specs.Rows.{Columns};
+ghost use Rattle.rows.specs.Rows.{Columns};
 ghost use Rattle.choice.specs.Given.{shares, PartedWord, Parted};
 
 // Empty columns.

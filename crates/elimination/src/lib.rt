@@ -1,10 +1,10 @@
 // Elimination modulo 2: a copy of the checks, in rows of `width` words, is reduced in the bits that a word leaves unknown.
-pub mod rows;
+pub mod checks;
 
-use crate::rows::add_check;
-use crate::rows::clear;
-use crate::rows::first_with;
-use crate::rows::row_of;
+use crate::checks::add_check;
+use crate::checks::clear;
+use crate::checks::first_with;
+use crate::checks::row_of;
 ghost use mathlib.Core.Path.{_≡_};
 ghost use Prim.Native.Nat.{_*_, _<_, _≤_};
 ghost use lib.ListN.{length};

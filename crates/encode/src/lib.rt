@@ -3,8 +3,8 @@ mod message;
 
 use crate::message::fill;
 use crate::message::place;
+use elimination::checks::copy;
 use elimination::reduce;
-use elimination::rows::copy;
 use matrix::Accepting;
 use parity::Refusal;
 use word::bytes::first_above;

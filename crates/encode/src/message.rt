@@ -1,5 +1,5 @@
 // A message is put at the bits that are no pivots, and the pivots are filled in.
-use matrix::rows::is_odd;
+use rows::is_odd;
 use word::sets::make_set;
 ghost use mathlib.Core.Path.{_≡_};
 ghost use mathlib.Core.Bool.{_&&_};

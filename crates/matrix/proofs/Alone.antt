@@ -13,9 +13,9 @@ use borrow.Author.Tests.{eq-eqb, ne-eqb, eqb-true, lt-ltb, le-ltb}
 use Rattle.parity.specs.Matrix.{Matrix, bitOf, lent}
 use Rattle.parity.proofs.Matrix.Digits.{bit-and, bit-or, bit-zero, bit-clear, same-bits}
 use Rattle.parity.proofs.Matrix.Lent.{lent-word}
-use Rattle.matrix.specs.Rows.{Columns}
+use Rattle.rows.specs.Rows.{Columns}
+use Rattle.rows.specs.Zeros.{Zeros}
 use Rattle.matrix.specs.Three.{inTwo, othersIn, two, OnlyIn, Alone}
-use Rattle.matrix.specs.Zeros.{Zeros}
 
 bit-in-two : (x y z i : ℕ) → bitOf (inTwo x y z) i ≡ ((bitOf x i && bitOf y i) || ((bitOf x i || bitOf y i) && bitOf z i))
 unfolding inTwo

@@ -1,6 +1,3 @@
-pub mod Next
-pub mod Fill
-pub mod Zeros
+pub mod Masks
 pub mod Three
 pub mod Alone
-pub mod Touch

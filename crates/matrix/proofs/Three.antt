@@ -10,7 +10,7 @@ use Rattle.parity.specs.Finite.{sum, count}
 use Rattle.parity.specs.Matrix.{Matrix, noOther, ruleAt}
 use Rattle.parity.proofs.Finite.Sums.{is-true, is-false, is, all-at, all-of, count-suc, count-mono, count-end}
 use Rattle.parity.proofs.Matrix.Rule.{rule, alone-share, share-alone, Place, first, second, new}
-use Rattle.matrix.specs.Rows.{NextOne}
+use Rattle.rows.specs.Rows.{NextOne}
 use Rattle.matrix.specs.Three.{two, OnlyIn}
 
 two-false : (x y w : Bool) → (x && y) || ((x || y) && w) ≡ false → (x && y ≡ false) × (x && w ≡ false) × (y && w ≡ false)

@@ -1,9 +1,5 @@
-// The lent matrix on its 4,096 words: single bits, the ones of a check, columns, and acceptance by causes 1 to 4.
-pub mod bits;
-pub mod columns;
-pub mod ones;
+// Acceptance of a lent matrix, by causes 1 to 4.
 mod outside;
-pub mod rows;
 mod rule;
 
 use crate::outside::is_clean;

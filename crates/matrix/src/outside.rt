@@ -1,10 +1,11 @@
 // Cause 3: a one at a bit or at a check that the code does not have.
-use crate::rows::meet;
+use rows::meet;
 ghost use mathlib.Core.Path.{_≡_};
 ghost use Prim.Native.Nat.{_-_, _*_, _^_, _≤_, min};
 ghost use lib.ListN.{length};
 ghost use Rattle.parity.specs.Matrix.{clean};
-ghost use Rattle.matrix.specs.Zeros.{Zeros, Masks, Under, word};
+ghost use Rattle.rows.specs.Zeros.{Zeros};
+ghost use Rattle.matrix.specs.Masks.{Masks, Under, word};
 
 // The or of the words from place `from` on.
 fn rest(words: &[u64], from: usize) -> u64

@@ -1,16 +1,16 @@
 // Rule A on the words and their columns.
-use crate::bits::has;
-use crate::columns::columns;
-use crate::ones::next_one;
-use crate::ones::weight;
 use parity::Bit;
 use parity::Check;
+use rows::bits::has;
+use rows::columns::columns;
+use rows::ones::next_one;
+use rows::ones::weight;
 ghost use mathlib.Core.Path.{_≡_};
 ghost use mathlib.Core.Bool.{true};
 ghost use Prim.Native.Nat.{_+_, _*_, _≤_, _<_};
 ghost use lib.ListN.{length};
 ghost use Rattle.parity.specs.Matrix.{lent, clean, ruleAt, ruleA};
-ghost use Rattle.matrix.specs.Rows.{Columns};
+ghost use Rattle.rows.specs.Rows.{Columns};
 ghost use Rattle.matrix.specs.Three.{inTwo, othersIn, Alone};
 
 // The bits that are ones of at least two of the three words.

@@ -1,7 +1,7 @@
 // The search for a check that peeling can solve.
-use matrix::ones::wide;
 use parity::Bit;
 use parity::Check;
+use rows::wide;
 ghost use mathlib.Core.Path.{_≡_};
 ghost use Prim.Native.Nat.{_*_, _≤_};
 ghost use lib.ListN.{length};

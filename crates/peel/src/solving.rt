@@ -1,10 +1,10 @@
 // Solving checks with exactly one erased bit, on the sets of the erased bits and of the ones.
 use crate::scan::Single;
 use crate::scan::next_single;
-use matrix::rows::lower;
-use matrix::rows::raise;
 use parity::Bit;
 use parity::Check;
+use rows::lower;
+use rows::raise;
 use word::sets::is_odd;
 ghost use mathlib.Core.Path.{_≡_};
 ghost use Prim.Native.Nat.{_<_, _≤_};

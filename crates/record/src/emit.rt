@@ -1,5 +1,5 @@
 // Writing the words of a record. No check has a one beyond its first `used` words.
-use matrix::rows::common;
+use rows::common;
 ghost use mathlib.Core.Path.{_≡_};
 ghost use Prim.Native.Nat.{_+_, _*_, _^_, _≤_, _<_};
 ghost use lib.ListN.{length};

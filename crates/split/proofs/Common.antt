@@ -15,7 +15,7 @@ use Rattle.parity.specs.Matrix.{Matrix, lent}
 use Rattle.parity.proofs.Matrix.Digits.{bit-and}
 use Rattle.parity.proofs.Matrix.Lent.{lent-in, lent-out}
 use Rattle.parity.proofs.Matrix.Clean.{Clean}
-use Rattle.matrix.specs.Rows.{Column, Columns}
+use Rattle.rows.specs.Rows.{Column, Columns}
 use Rattle.choice.specs.Given.{parted, Parted}
 use Rattle.split.specs.Merge.{Apart, Both, Kept}
 use Rattle.split.specs.Turns.{Meet}

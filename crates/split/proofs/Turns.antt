@@ -18,7 +18,7 @@ use Rattle.parity.proofs.Matrix.Sound.{Sound, split-sound}
 use Rattle.parity.proofs.Splits.Pick.{Chosen, picked, chosen-only}
 use Rattle.parity.proofs.Splits.Given.{apart, given, given-too}
 use Rattle.parity.proofs.Splits.Orthogonal.{finishes, stops-full, repeats}
-use Rattle.matrix.specs.Rows.{Columns}
+use Rattle.rows.specs.Rows.{Columns}
 use Rattle.choice.specs.Given.{together, Parted, Given}
 use Rattle.choice.specs.Bounds.{Bounded, Head, Picked, NoPair, Narrow, Raised, Weights}
 use Rattle.choice.proofs.Columns.{together-le, together-top, together-none, parted-columns}

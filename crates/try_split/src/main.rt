@@ -147,7 +147,7 @@ fn ones(words: &[u64], m: usize) -> u64
 {
     let mut n: u64 = 0;
     for c in 0..m {
-        n = n % 65536 + matrix::ones::weight(words, Check(c)) as u64 % 65536;
+        n = n % 65536 + rows::ones::weight(words, Check(c)) as u64 % 65536;
     }
     n
 }

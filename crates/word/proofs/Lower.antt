@@ -20,7 +20,7 @@ use Rattle.parity.proofs.Finite.Sums.{is-true, is-false, is, one≤1, count-at,
 use Rattle.parity.proofs.Matrix.Packing.{length-listFrom, at-listFrom}
 use Rattle.parity.proofs.Matrix.Rule.{Rule}
 use Rattle.parity.proofs.Words.Extend.{inside-cong}
-use Rattle.matrix.specs.Rows.{NextOne}
+use Rattle.rows.specs.Rows.{NextOne}
 use Rattle.word.specs.Added.{Copied, Bits, ExtendedTo, extendedBytes}
 
 module _ (h : Matrix) (n m k j : ℕ) (R : Rule h n m k j) (x y : ℕ) (A : NextOne 512 (h (m + j)) 0 x) (few : n + j ≤ 512) where

@@ -1,5 +1,4 @@
 // Sets of bits, as a row of words, and the bits of a check that are in one. The matrix has rows of eight words.
-use matrix::rows;
 use parity::Bit;
 use parity::Check;
 ghost use mathlib.Core.Path.{_≡_};

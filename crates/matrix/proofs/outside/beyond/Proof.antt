@@ -4,8 +4,8 @@ use Prim.Native.Nat.{_-_, _≤_}
 use native.Mathlib.Omega.{arith}
 use borrow.Author.Needs.{needs}
 use Rattle.parity.proofs.Matrix.Lent.{row-room}
-use Rattle.matrix.specs.Zeros.{Under}
-use Rattle.matrix.proofs.Zeros.{under-none, under-more}
+use Rattle.matrix.specs.Masks.{Under}
+use Rattle.matrix.proofs.Masks.{under-none, under-more}
 use Rattle.matrix.proofs.outside.beyond.Statement.{statement}
 use Rattle.matrix.proofs.outside.beyond.Tie as tie
 

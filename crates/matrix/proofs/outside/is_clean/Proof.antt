@@ -2,7 +2,7 @@
 use native.Mathlib.Omega.{arith}
 use lib.Dec.{lit<}
 use borrow.Author.Needs.{needs}
-use Rattle.matrix.proofs.Zeros.{decides}
+use Rattle.matrix.proofs.Masks.{decides}
 use Rattle.matrix.proofs.outside.is_clean.Statement.{statement}
 use Rattle.matrix.proofs.outside.is_clean.Tie as tie
 

@@ -3,7 +3,7 @@ use mathlib.Core.Path.{_≡_}
 use Prim.Native.Nat.{_-_, _*_, _%_, min}
 use native.Mathlib.Omega.{arith}
 use lib.Pow.{pow-pos}
-use Rattle.matrix.proofs.Zeros.{shift-one, mask-of}
+use Rattle.matrix.proofs.Masks.{shift-one, mask-of}
 use borrow.Author.Needs.{needs}
 use Rattle.matrix.proofs.outside.mask.Statement.{statement}
 use Rattle.matrix.proofs.outside.mask.Tie as tie

@@ -4,8 +4,8 @@ use Prim.Native.Nat.{_-_, _≤_}
 use native.Mathlib.Omega.{arith}
 use borrow.Author.Needs.{needs}
 use lib.ListN.{length, length-set}
-use Rattle.matrix.specs.Zeros.{Masks}
-use Rattle.matrix.proofs.Zeros.{masks-none, masks-more}
+use Rattle.matrix.specs.Masks.{Masks}
+use Rattle.matrix.proofs.Masks.{masks-none, masks-more}
 use Rattle.matrix.proofs.outside.masks.Statement.{statement}
 use Rattle.matrix.proofs.outside.masks.Tie as tie
 

@@ -4,8 +4,9 @@ use Prim.Native.Nat.{_-_, _≤_}
 use native.Mathlib.Omega.{arith}
 use borrow.Author.Needs.{needs}
 use lib.ListN.{length}
-use Rattle.matrix.specs.Zeros.{Zeros, word}
-use Rattle.matrix.proofs.Zeros.{zeros-none, zeros-more}
+use Rattle.rows.specs.Zeros.{Zeros}
+use Rattle.rows.proofs.Zeros.{zeros-none, zeros-more}
+use Rattle.matrix.specs.Masks.{word}
 use Rattle.matrix.proofs.outside.rest.Statement.{statement}
 use Rattle.matrix.proofs.outside.rest.Tie as tie
 

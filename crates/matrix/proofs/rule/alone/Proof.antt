@@ -3,9 +3,9 @@ use mathlib.Core.Path.{_≡_}
 use Prim.Native.Nat.{_-_, _≤_}
 use native.Mathlib.Omega.{arith}
 use borrow.Author.Needs.{needs}
+use Rattle.rows.specs.Zeros.{Zeros}
+use Rattle.rows.proofs.Zeros.{zeros-none, zeros-more}
 use Rattle.matrix.specs.Three.{othersIn}
-use Rattle.matrix.specs.Zeros.{Zeros}
-use Rattle.matrix.proofs.Zeros.{zeros-none, zeros-more}
 use Rattle.matrix.proofs.Alone.{alone-law}
 use Rattle.matrix.proofs.rule.alone.Statement.{statement}
 use Rattle.matrix.proofs.rule.alone.Tie as tie

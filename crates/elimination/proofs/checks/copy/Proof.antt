@@ -1,0 +1,61 @@
+-- `checks::copy` meets its contract. Assumes nothing.
+use Rattle.elimination.proofs.Copying.{rows-none, rows-more}
+use Rattle.parity.proofs.Matrix.Lent.{row-room}
+use Rattle.elimination.specs.Rows.{SameRows}
+use lib.ListN.{length}
+use borrow.Author.Needs.{needs}
+use native.Mathlib.Omega.{arith}
+use mathlib.Core.Path.{_≡_, refl, _∙_}
+use Prim.Native.Nat.{_≤_, _-_}
+use Rattle.elimination.proofs.checks.copy.Statement.{statement}
+use Rattle.elimination.proofs.checks.copy.Tie as tie
+
+abbrev Inv-loop : tie.InvT-loop
+Inv-loop words wide width checks rows₀ c₀ rows c = (c ≤ checks) × (length rows ≡ length rows₀) × SameRows wide width words rows₀ rows 0 c
+
+abbrev μ-loop : tie.MeasureT-loop
+μ-loop words wide width checks rows₀ c₀ rows c = checks - c
+
+loop-holds : tie.Need-loop-holds Inv-loop μ-loop
+loop-holds c = (omega arith, refl, rows-none _ _ _ _)
+
+copy-check-requires : tie.Need-copy-check-requires Inv-loop μ-loop
+copy-check-requires c κs =
+    let s = c .before .before .before .before .before in
+    let l = c .before .before .loop in
+    (omega (arith, row-room (s .args .wide) (l .c) (s .args .checks) (omega arith)), omega (arith, l .inv .1, row-room (s .args .width) (l .c) (s .args .checks) (omega arith)))
+
+add-c : tie.Need-add-c Inv-loop μ-loop
+add-c c = omega arith
+
+loop-less : tie.Need-loop-less Inv-loop μ-loop
+loop-less c = omega arith
+
+loop-again : tie.Need-loop-again Inv-loop μ-loop
+loop-again c =
+    let l = c .before .before .before .before .before .loop in
+    let E = c .before .before .copy-check in
+    (omega arith, E .kept .1 .1 .1 .1 .0 ∙ l .inv .1, rows-more _ _ _ _ _ _ _ (l .inv .2) (E .ensures))
+
+same-length : tie.Need-same-length Inv-loop μ-loop
+same-length c = search needs
+
+returns : tie.Need-returns Inv-loop μ-loop
+returns c =
+    let l = c .before .loop in
+    let e : l .c ≡ c .before .before .before .before .args .checks = omega arith in
+    rw e at (l .inv .2)
+
+pub copy-spec : {M : Type 1} → statement M
+copy-spec =
+    tie.close
+    (tie.spec
+    Inv-loop
+    μ-loop
+    loop-holds
+    copy-check-requires
+    add-c
+    loop-less
+    loop-again
+    same-length
+    returns)

@@ -1,0 +1,4 @@
+pub mod Next
+pub mod Fill
+pub mod Zeros
+pub mod Touch

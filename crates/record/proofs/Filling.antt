@@ -15,7 +15,7 @@ use Rattle.parity.specs.Record.{payload, openWord, loaded, loading}
 use Rattle.parity.proofs.Matrix.Digits.{bit-zero}
 use Rattle.parity.proofs.Matrix.Lent.{lent-in, lent-out, raised-put}
 use Rattle.parity.proofs.Record.Reading.{readingAt, bits, opens, read-open, read-bit, loads-more, loads-open, loads-bit, loads-end}
-use Rattle.record.specs.Read.{puts}
+use Rattle.reading.specs.Read.{puts}
 use Rattle.record.specs.Fill.{Zeroed, Payloads, Checks, Filled}
 
 abbrev none : Matrix

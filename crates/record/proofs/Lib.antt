@@ -1,5 +1,2 @@
-pub mod Other
-pub mod Read
-pub mod Judging
 pub mod Filling
 pub mod Emitting

@@ -5,7 +5,7 @@ use Prim.Native.Nat.{ℕ, _+_, _≤_, _<_}
 use lib.ListN.{getD, length}
 use Rattle.parity.specs.Matrix.{Matrix, lent}
 use Rattle.parity.specs.Record.{payload, loaded, loading}
-use Rattle.record.specs.Judge.{Loads}
+use Rattle.reading.specs.Judge.{Loads}
 
 -- the first i words are 0
 pub record Zeroed (words : List ℕ) (i : ℕ) : Type 0 where

@@ -1,10 +1,10 @@
 // Filling the matrix's words from a record that was judged right.
-use crate::words::payload;
+use reading::words::payload;
 ghost use mathlib.Core.Path.{_≡_};
 ghost use Prim.Native.Nat.{_+_, _*_, _≤_, _<_};
 ghost use lib.ListN.{length};
 ghost use Rattle.parity.specs.Matrix.{lent};
-ghost use Rattle.record.specs.Read.{puts};
+ghost use Rattle.reading.specs.Read.{puts};
 ghost use Rattle.record.specs.Fill.{Zeroed, Payloads, Checks, Filled};
 
 // No check contains a bit.

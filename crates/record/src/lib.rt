@@ -1,17 +1,15 @@
 // Records: a matrix is loaded from one, and written as one.
 mod emit;
 mod fill;
-mod judge;
-mod words;
 
 use crate::emit::needed;
 use crate::emit::put_record;
 use crate::fill::fill;
-use crate::judge::Judged;
-use crate::judge::judge;
 use matrix::Accepting;
 use matrix::accept;
 use parity::Refusal;
+use reading::judge::Judged;
+use reading::judge::judge;
 ghost use mathlib.Core.Path.{_≡_};
 ghost use Rattle.parity.specs.Calls.{loadOutcome, writeOutcome};
 ghost use Rattle.record.specs.Answers.{loadingReply, writingReply};

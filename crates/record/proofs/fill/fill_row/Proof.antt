@@ -12,7 +12,7 @@ use Rattle.record.proofs.fill.fill_row.Statement.{statement}
 use Rattle.record.proofs.fill.fill_row.Tie as tie
 use Rattle.record.proofs.fill.fill_row.Reads as reads
 use Rattle.record.proofs.fill.fill_row.Lts as lts
-use Rattle.record.proofs.words.payload.Reads as payload-reads
+use Rattle.reading.proofs.words.payload.Reads as payload-reads
 
 abbrev Inv-loop : tie.InvT-loop
 Inv-loop source from count rows₀ width c at₀ top₀ x₀ i₀ rows at top x i = (i ≤ count) × Held width source from count i c rows₀ rows at top x

@@ -4,9 +4,9 @@ use Prim.Native.Nat.{ℕ, _/_, _^_}
 use native.Mathlib.Omega.{arith}
 use borrow.Author.Needs.{needs}
 use Rattle.parity.specs.Record.{kindOf, payload}
-use Rattle.record.specs.Read.{Kind, Kindless}
-use Rattle.record.proofs.words.read.Statement.{statement}
-use Rattle.record.proofs.words.read.Tie as tie
+use Rattle.reading.specs.Read.{Kind, Kindless}
+use Rattle.reading.proofs.words.read.Statement.{statement}
+use Rattle.reading.proofs.words.read.Tie as tie
 
 of-kind : (k w x : ℕ) → w / 2 ^ 28 ≡ k → x ≡ payload w → Kind k w x
 unfolding kindOf

@@ -6,12 +6,12 @@ use Prim.Native.Nat.{ℕ, suc, _/_, _%_, _≤_, _<_}
 use lib.ListN.{length, drop}
 use Rattle.parity.specs.Matrix.{Matrix}
 use Rattle.parity.specs.Record.{payload, headWord, faulty, loaded, reading, loading}
-use Rattle.record.specs.declared.judge.First.{First}
-use Rattle.record.specs.declared.judge.First.the-variants.{Sizes, Faulty}
-use Rattle.record.specs.declared.judge.Step.{Step}
-use Rattle.record.specs.declared.judge.Step.the-variants.{Next, Stop}
-use Rattle.record.specs.declared.judge.Judged.{Judged}
-use Rattle.record.specs.declared.judge.Judged.the-variants.{Right, Stopped}
+use Rattle.reading.specs.declared.judge.First.{First}
+use Rattle.reading.specs.declared.judge.First.the-variants.{Sizes, Faulty}
+use Rattle.reading.specs.declared.judge.Step.{Step}
+use Rattle.reading.specs.declared.judge.Step.the-variants.{Next, Stop}
+use Rattle.reading.specs.declared.judge.Judged.{Judged}
+use Rattle.reading.specs.declared.judge.Judged.the-variants.{Right, Stopped}
 
 -- The first word gives n and m.
 pub record Gives (w n m : ℕ) : Type 0 where

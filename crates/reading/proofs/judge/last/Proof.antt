@@ -2,11 +2,11 @@
 use mathlib.Core.List.{[], _∷_}
 use native.Mathlib.Omega.{arith}
 use Rattle.parity.proofs.Record.Reading.{end-yes, end-kind, end-unnamed}
-use Rattle.record.proofs.Other.{other-kind}
-use Rattle.record.proofs.Judging.{last-missing, last-other, last-more, last-right}
+use Rattle.reading.proofs.Other.{other-kind}
+use Rattle.reading.proofs.Judging.{last-missing, last-other, last-more, last-right}
 use borrow.Author.Needs.{needs}
-use Rattle.record.proofs.judge.last.Statement.{statement}
-use Rattle.record.proofs.judge.last.Tie as tie
+use Rattle.reading.proofs.judge.last.Statement.{statement}
+use Rattle.reading.proofs.judge.last.Tie as tie
 
 returns : tie.Need-returns
 returns c = last-missing _ _ _ _ (c .before .before .pre) (omega arith)

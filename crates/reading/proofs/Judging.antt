@@ -14,8 +14,8 @@ use Rattle.parity.specs.Record.{kindOf, payload, headWord, openWord, endWord, f
 use Rattle.parity.proofs.Finite.Sums.{is-true, is-false, is}
 use Rattle.parity.proofs.Matrix.Accept.{ranges}
 use Rattle.parity.proofs.Record.Reading.{readingAt, read-missing, read-open, not-open, read-end, not-end, not-bit, end-last, end-more}
-use Rattle.record.specs.Read.{puts, BitsRead}
-use Rattle.record.specs.Judge.{Gives, Complete, Stops, Reached, Loads}
+use Rattle.reading.specs.Read.{puts, BitsRead}
+use Rattle.reading.specs.Judge.{Gives, Complete, Stops, Reached, Loads}
 
 -- the first word
 pub head-kind : (w : ℕ) → (kindOf w ≡ 1 → ⊥) → headWord w ≡ false

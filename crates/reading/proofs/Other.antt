@@ -9,10 +9,10 @@ use mir.Val.{hasKey}
 use denote.Enum.Declared.{tagOf}
 use borrow.Author.Tests.{ne-eqb}
 use Rattle.parity.specs.Record.{kindOf}
-use Rattle.record.specs.declared.words.Word.{Word}
-use Rattle.record.specs.declared.words.Word.the-variants.{Head, Open, Bit, End, Faulty}
-use Rattle.record.specs.Read.{Reads}
-use Rattle.record.proofs.words.Word.{the-type}
+use Rattle.reading.specs.declared.words.Word.{Word}
+use Rattle.reading.specs.declared.words.Word.the-variants.{Head, Open, Bit, End, Faulty}
+use Rattle.reading.specs.Read.{Reads}
+use Rattle.reading.proofs.words.Word.{the-type}
 
 -- the place of a kind's variant among those of `Word`
 abbrev pub variant : ℕ → ℕ

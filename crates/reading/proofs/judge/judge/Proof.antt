@@ -1,8 +1,8 @@
 -- `judge::judge` meets its contract. Assumes nothing.
-use Rattle.record.proofs.Judging.{load-empty, load-other, load-head}
+use Rattle.reading.proofs.Judging.{load-empty, load-other, load-head}
 use borrow.Author.Needs.{needs}
-use Rattle.record.proofs.judge.judge.Statement.{statement}
-use Rattle.record.proofs.judge.judge.Tie as tie
+use Rattle.reading.proofs.judge.judge.Statement.{statement}
+use Rattle.reading.proofs.judge.judge.Tie as tie
 
 returns : tie.Need-returns
 returns c = load-empty _ (c .if1 .taken)

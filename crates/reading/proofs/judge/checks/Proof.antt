@@ -3,10 +3,10 @@ use mathlib.Core.Path.{_≡_}
 use Prim.Native.Nat.{_-_, _≤_}
 use native.Mathlib.Omega.{arith}
 use borrow.Author.Needs.{needs}
-use Rattle.record.specs.Judge.{Reached}
-use Rattle.record.proofs.Judging.{reach-next, reach-stop}
-use Rattle.record.proofs.judge.checks.Statement.{statement}
-use Rattle.record.proofs.judge.checks.Tie as tie
+use Rattle.reading.specs.Judge.{Reached}
+use Rattle.reading.proofs.Judging.{reach-next, reach-stop}
+use Rattle.reading.proofs.judge.checks.Statement.{statement}
+use Rattle.reading.proofs.judge.checks.Tie as tie
 
 abbrev Inv-loop : tie.InvT-loop
 Inv-loop source n m p₀ c₀ p c = (c ≤ m) × Reached n m source p c

@@ -2,8 +2,8 @@
 use mathlib.Core.Path.{refl}
 use borrow.Author.Needs.{needs}
 use Rattle.parity.specs.Record.{payload}
-use Rattle.record.proofs.words.payload.Statement.{statement}
-use Rattle.record.proofs.words.payload.Tie as tie
+use Rattle.reading.proofs.words.payload.Statement.{statement}
+use Rattle.reading.proofs.words.payload.Tie as tie
 
 cast-result : tie.Need-cast-result
 cast-result c = search needs

@@ -3,11 +3,11 @@ use mathlib.Core.Path.{ap}
 use mathlib.Core.List.{[], _∷_}
 use Prim.Native.Nat.{ℕ, _/_, _%_}
 use native.Mathlib.Omega.{arith}
-use Rattle.record.proofs.Other.{other-kind}
-use Rattle.record.proofs.Judging.{head-kind, head-range, head-yes}
+use Rattle.reading.proofs.Other.{other-kind}
+use Rattle.reading.proofs.Judging.{head-kind, head-range, head-yes}
 use borrow.Author.Needs.{needs}
-use Rattle.record.proofs.judge.head.Statement.{statement}
-use Rattle.record.proofs.judge.head.Tie as tie
+use Rattle.reading.proofs.judge.head.Statement.{statement}
+use Rattle.reading.proofs.judge.head.Tie as tie
 
 read-requires : tie.Need-read-requires
 read-requires c κs = search needs

@@ -6,15 +6,15 @@ use Prim.Native.Nat.{_+_, _≤_, _<_}
 use native.Mathlib.Omega.{arith}
 use lib.ListN.{length}
 use Rattle.parity.proofs.Record.Reading.{open-yes, open-kind, open-large}
-use Rattle.record.proofs.Other.{other-kind}
-use Rattle.record.proofs.Judging.{stop-missing, stop-open, check-stops, check-complete}
+use Rattle.reading.proofs.Other.{other-kind}
+use Rattle.reading.proofs.Judging.{stop-missing, stop-open, check-stops, check-complete}
 use borrow.Author.Needs.{needs}
-use Rattle.record.proofs.judge.check.Statement.{statement}
-use Rattle.record.proofs.judge.check.Tie as tie
-use Rattle.record.proofs.judge.check.Reads as reads
-use Rattle.record.proofs.judge.check.Lts as lts
-use Rattle.record.proofs.judge.bits.Reads as bits-reads
-use Rattle.record.proofs.words.read.Reads as read-reads
+use Rattle.reading.proofs.judge.check.Statement.{statement}
+use Rattle.reading.proofs.judge.check.Tie as tie
+use Rattle.reading.proofs.judge.check.Reads as reads
+use Rattle.reading.proofs.judge.check.Lts as lts
+use Rattle.reading.proofs.judge.bits.Reads as bits-reads
+use Rattle.reading.proofs.words.read.Reads as read-reads
 
 returns : tie.Need-returns
 returns c = stop-missing _ _ _ (omega arith)

@@ -5,11 +5,11 @@ use Prim.Native.Nat.{_-_, _≤_}
 use native.Mathlib.Omega.{arith}
 use borrow.Author.Needs.{needs}
 use Rattle.parity.proofs.Record.Reading.{bit-yes, bit-kind, bit-low, bit-large}
-use Rattle.record.specs.Read.{Rising}
-use Rattle.record.proofs.Other.{other-kind}
-use Rattle.record.proofs.Read.{rising-none, rising-next}
-use Rattle.record.proofs.judge.bits.Statement.{statement}
-use Rattle.record.proofs.judge.bits.Tie as tie
+use Rattle.reading.specs.Read.{Rising}
+use Rattle.reading.proofs.Other.{other-kind}
+use Rattle.reading.proofs.Read.{rising-none, rising-next}
+use Rattle.reading.proofs.judge.bits.Statement.{statement}
+use Rattle.reading.proofs.judge.bits.Tie as tie
 
 abbrev Inv-loop : tie.InvT-loop
 Inv-loop source n from count low₀ i₀ low i = (i ≤ count) × Rising n source from i low

@@ -9,7 +9,7 @@ use native.Mathlib.Omega.{arith}
 use lib.ListN.{getD, length}
 use Rattle.parity.specs.Record.{payload, bitWord}
 use Rattle.parity.proofs.Record.Reading.{read-bit}
-use Rattle.record.specs.Read.{puts, Rising}
+use Rattle.reading.specs.Read.{puts, Rising}
 
 pub rising-none : (n : ℕ) (source : List ℕ) (from : ℕ) → Rising n source from 0 0
 unfolding puts

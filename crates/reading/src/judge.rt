@@ -3,8 +3,8 @@ use crate::words::Word;
 use crate::words::read;
 ghost use Prim.Native.Nat.{_+_, _≤_};
 ghost use lib.ListN.{length};
-ghost use Rattle.record.specs.Read.{BitsRead};
-ghost use Rattle.record.specs.Judge.{FirstRead, CheckRead, Reached, Judges};
+ghost use Rattle.reading.specs.Read.{BitsRead};
+ghost use Rattle.reading.specs.Judge.{FirstRead, CheckRead, Reached, Judges};
 
 // What comes of judging a record.
 pub enum Judged {

@@ -1,7 +1,7 @@
 // The words of a record.
 ghost use mathlib.Core.Path.{_≡_};
 ghost use Rattle.parity.specs.Record.{payload as payloadOf};
-ghost use Rattle.record.specs.Read.{Reads};
+ghost use Rattle.reading.specs.Read.{Reads};
 
 // A record word by its kind, with the bits below the kind.
 pub enum Word {

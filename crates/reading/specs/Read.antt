@@ -6,8 +6,8 @@ use Prim.Native.Nat.{ℕ, zero, suc, _+_, _-_, _≤_, _<_}
 use lib.ListN.{getD, drop}
 use Rattle.parity.specs.Matrix.{Matrix, put}
 use Rattle.parity.specs.Record.{kindOf, payload, bitWord, reading}
-use Rattle.record.specs.declared.words.Word.{Word}
-use Rattle.record.specs.declared.words.Word.the-variants.{Head, Open, Bit, End, Faulty}
+use Rattle.reading.specs.declared.words.Word.{Word}
+use Rattle.reading.specs.declared.words.Word.the-variants.{Head, Open, Bit, End, Faulty}
 
 -- a word of none of the four kinds
 pub record Kindless (w : ℕ) : Type 0 where

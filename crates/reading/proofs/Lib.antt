@@ -1,0 +1,3 @@
+pub mod Other
+pub mod Read
+pub mod Judging

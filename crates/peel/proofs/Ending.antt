@@ -3,12 +3,10 @@ use mathlib.Core.Path.{_≡_, refl, sym, ap, _∙_, fun-ext}
 use mathlib.Core.Bool.{Bool, true, false, not, cond, _&&_}
 use mathlib.Core.List.{List, [], _∷_}
 use Prim.Native.Nat.{ℕ, zero, suc, _+_, _*_, _-_, _≤_, _<_}
-use native.Mathlib.Nat.{zero-add}
 use native.Mathlib.Omega.{arith}
-use native.Mathlib.Decide.{decLt, ℕ-discrete}
+use native.Mathlib.Decide.{decLt}
 use lib.Dec.{eqb}
-use lib.ListN.{length, getD, set, length-set, List·getD-eq-default}
-use lib.Seq.{ext-getD, getD-set-same, getD-set-other}
+use lib.ListN.{length, List·getD-eq-default}
 use borrow.Author.Tests.{lt-ltb, le-ltb, eqb-true, ne-eqb}
 use Rattle.parity.specs.Finite.{one, count, listFrom}
 use Rattle.parity.specs.Matrix.{Matrix, lent}
@@ -17,7 +15,7 @@ use Rattle.parity.specs.Causes.{answer, refusal, refusalOf}
 use Rattle.parity.specs.Calls.{byteOf, wrongByte, peelReply, peelOutcome}
 use Rattle.parity.specs.declared.Refusal.{Refusal}
 use Rattle.parity.proofs.Finite.Sums.{count-cong, count-part}
-use Rattle.parity.proofs.Matrix.Packing.{length-listFrom, at-listFrom, listFrom-cong}
+use Rattle.parity.proofs.Matrix.Packing.{listFrom-cong}
 use Rattle.parity.proofs.Matrix.Lent.{count-add}
 use Rattle.parity.proofs.Words.Peeling.{losses-same}
 use Rattle.parity.proofs.Words.Steps.{stage-start, Ended}
@@ -26,10 +24,10 @@ use Rattle.parity.proofs.Causes.Refused.{refused-number}
 use Rattle.word.specs.Answers.{admitReply}
 use Rattle.word.proofs.Told.{behind, refused}
 use Rattle.word.specs.Sets.{SetOf}
-use Rattle.peel.specs.Steps.{held, Settled, agreeing}
+use Rattle.steps.specs.Steps.{held, Settled, agreeing}
 use Rattle.peel.specs.Answers.{wordReply, wordOutcome}
 use Rattle.peel.specs.Losses.{Counted}
-use Rattle.peel.proofs.Held.{erased-held, count-short, Held, held-reached, held-ended, held-agrees}
+use Rattle.steps.proofs.Held.{erased-held, count-short, Held, held-reached, held-ended, held-agrees}
 
 -- a byte from its two tests
 three : (a : ℕ) → a ≤ 2 → cond (eqb a 2) 2 (one (eqb a 1)) ≡ a
@@ -138,30 +136,6 @@ module _ (W : ℕ) (h : Matrix) (n k M : ℕ) (w es os : List ℕ) (size : lengt
           let t = losses-sizes (W * 64) n k (byteOf w) (held e o) (lent W es 0) e (omega arith) (λ b l. held-start .short-e b (omega arith)) (λ b l. H .short-e b (omega arith))
           is-erased held-at within bs ba ls la B L in
           rw (a, v ∙ t, u, size)
-
--- the word that is written, byte by byte
-pub record Written (f : ℕ → ℕ) (n b : ℕ) (w : List ℕ) : Type 0 where
-  pub size : length w ≡ n
-  pub byte : (j : ℕ) → j < b → getD w j 0 ≡ f j
-
-pub written-none : (f : ℕ → ℕ) (w : List ℕ) → Written f (length w) 0 w
-written-none f w = record { size = refl; byte = λ j k. absurd (omega arith) }
-
-module _ (f : ℕ → ℕ) (n b : ℕ) (w : List ℕ) (W : Written f n b w) where
-  pub written-more : (x : ℕ) → b < n → x ≡ f b → Written f n (b + 1) (set w b x)
-  written-more x k e = record {
-    size = length-set w b x ∙ W .size;
-    byte = λ j l. elim (ℕ-discrete j b) [
-      | yes q ↦ rw (q, getD-set-same w b x 0 (omega (arith, W .size))) e
-      | no d ↦ rw (getD-set-other w b j x 0 d) (W .byte j (omega arith))
-    ];
-  }
-
-  pub written-all : b ≡ n → w ≡ listFrom 0 n f
-  written-all e =
-      ext-getD 0 w (listFrom 0 n f) (W .size ∙ sym (length-listFrom 0 n f)) (λ j k.
-      let l : j < n = omega (arith, W .size) in
-      W .byte j (omega arith) ∙ ap f (sym (zero-add j)) ∙ sym (at-listFrom 0 n f j l))
 
 -- behind the causes before 12
 module _ (ws : List ℕ) (n m k : ℕ) (w : List ℕ) where

@@ -1,3 +1,1 @@
-pub mod Seen
-pub mod Held
 pub mod Ending

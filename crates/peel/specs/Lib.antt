@@ -1,4 +1,2 @@
 pub mod Answers
 pub mod Losses
-pub mod Next
-pub mod Steps

@@ -1,14 +1,11 @@
 // Peeling: what the checks with exactly one erased bit recover of a word.
 mod losses;
-mod result;
-mod scan;
-mod solving;
 
 use crate::losses::Sizes;
 use crate::losses::sizes_of;
-use crate::result::finish;
-use crate::solving::settle;
 use parity::Refusal;
+use steps::result::finish;
+use steps::solving::settle;
 use word::Admission;
 use word::admit;
 use word::sets::set_of;

@@ -10,7 +10,7 @@ ghost use mathlib.Core.Path.{_≡_};
 ghost use Prim.Native.Nat.{_<_, _≤_};
 ghost use lib.ListN.{length};
 ghost use Rattle.parity.specs.Matrix.{lent};
-ghost use Rattle.peel.specs.Steps.{Solved, Settled};
+ghost use Rattle.steps.specs.Steps.{Solved, Settled};
 
 // Bit `b`, the one erased bit of check `c`, becomes the sum modulo 2 of the check's ones.
 fn solve(words: &[u64], c: Check, b: Bit, erased: &mut [u64], ones: &mut [u64])

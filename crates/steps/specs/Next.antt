@@ -4,8 +4,8 @@ use mathlib.Core.Bool.{Bool, true}
 use Prim.Native.Nat.{ℕ, _≤_, _<_}
 use Rattle.parity.specs.Matrix.{Matrix}
 use Rattle.parity.specs.Words.{inside}
-use Rattle.peel.specs.declared.scan.Single.{Single}
-use Rattle.peel.specs.declared.scan.Single.the-variants.{Found, Nothing}
+use Rattle.steps.specs.declared.scan.Single.{Single}
+use Rattle.steps.specs.declared.scan.Single.the-variants.{Found, Nothing}
 
 -- Check c has exactly one of the erased bits e, namely b.
 pub record Lone (h : Matrix) (N M : ℕ) (e : ℕ → Bool) (c b : ℕ) : Type 0 where

@@ -11,9 +11,9 @@ use Rattle.parity.specs.Finite.{all}
 use Rattle.parity.specs.Matrix.{lent}
 use Rattle.parity.proofs.Finite.Sums.{all-more, all-false}
 use Rattle.parity.proofs.Words.Sets.{odd-even, not-odd-even}
-use Rattle.peel.specs.Steps.{agreeing}
-use Rattle.peel.proofs.result.agree.Statement.{statement}
-use Rattle.peel.proofs.result.agree.Tie as tie
+use Rattle.steps.specs.Steps.{agreeing}
+use Rattle.steps.proofs.result.agree.Statement.{statement}
+use Rattle.steps.proofs.result.agree.Tie as tie
 
 abbrev Inv-loop : tie.InvT-loop
 Inv-loop words checks erased ones c₀ c = (c ≤ checks) × (agreeing (lent 8 words) 512 c (lent 8 erased 0) (lent 8 ones 0) ≡ true)

@@ -9,7 +9,7 @@ ghost use Prim.Native.Nat.{_<_, _≤_};
 ghost use lib.ListN.{length};
 ghost use Rattle.parity.specs.Finite.{listFrom};
 ghost use Rattle.parity.specs.Matrix.{lent};
-ghost use Rattle.peel.specs.Steps.{held, agreeing, Finished};
+ghost use Rattle.steps.specs.Steps.{held, agreeing, Finished};
 
 // Whether each of the first `checks` checks without an erased bit is even.
 fn agree(words: &[u64], checks: usize, erased: &[u64], ones: &[u64]) -> bool

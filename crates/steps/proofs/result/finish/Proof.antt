@@ -2,8 +2,8 @@
 use mathlib.Core.Path.{_≡_}
 use mathlib.Core.Bool.{true, false}
 use borrow.Author.Needs.{needs}
-use Rattle.peel.proofs.result.finish.Statement.{statement}
-use Rattle.peel.proofs.result.finish.Tie as tie
+use Rattle.steps.proofs.result.finish.Statement.{statement}
+use Rattle.steps.proofs.result.finish.Tie as tie
 
 agree-requires : tie.Need-agree-requires
 agree-requires c κs = search needs

@@ -5,10 +5,10 @@ use native.Mathlib.Omega.{arith}
 use borrow.Author.Needs.{needs}
 use lib.ListN.{length}
 use Rattle.parity.specs.Matrix.{lent}
-use Rattle.peel.specs.Steps.{held}
-use Rattle.peel.proofs.Ending.{Written, written-none, written-more, written-all}
-use Rattle.peel.proofs.result.write.Statement.{statement}
-use Rattle.peel.proofs.result.write.Tie as tie
+use Rattle.steps.specs.Steps.{held}
+use Rattle.steps.proofs.Written.{Written, written-none, written-more, written-all}
+use Rattle.steps.proofs.result.write.Statement.{statement}
+use Rattle.steps.proofs.result.write.Tie as tie
 
 abbrev Inv-loop : tie.InvT-loop
 Inv-loop word₀ erased ones n b₀ word b = (n ≡ length word₀) × (b ≤ n) × Written (held (lent 8 erased 0) (lent 8 ones 0)) n b word

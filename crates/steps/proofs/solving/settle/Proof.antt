@@ -10,10 +10,10 @@ use lib.ListN.{length}
 use Rattle.parity.specs.Finite.{one, count}
 use Rattle.parity.specs.Matrix.{lent}
 use Rattle.parity.proofs.Finite.Sums.{one≤1}
-use Rattle.peel.specs.Steps.{Reached, start, next}
-use Rattle.peel.proofs.Held.{fewer}
-use Rattle.peel.proofs.solving.settle.Statement.{statement}
-use Rattle.peel.proofs.solving.settle.Tie as tie
+use Rattle.steps.specs.Steps.{Reached, start, next}
+use Rattle.steps.proofs.Held.{fewer}
+use Rattle.steps.proofs.solving.settle.Statement.{statement}
+use Rattle.steps.proofs.solving.settle.Tie as tie
 
 less-work : (a b : ℕ) (x y : Bool) → a ≡ suc b → 2 * b + one x < 2 * a + one y
 less-work a b x y e = omega (arith, one≤1 x)

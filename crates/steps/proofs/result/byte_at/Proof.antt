@@ -1,8 +1,8 @@
 -- `result::byte_at` meets its contract. Assumes nothing.
 use mathlib.Core.Path.{sym, _∙_}
 use borrow.Author.Needs.{needs}
-use Rattle.peel.proofs.result.byte_at.Statement.{statement}
-use Rattle.peel.proofs.result.byte_at.Tie as tie
+use Rattle.steps.proofs.result.byte_at.Statement.{statement}
+use Rattle.steps.proofs.result.byte_at.Tie as tie
 
 is-in-requires : tie.Need-is-in-requires
 is-in-requires c κs = search needs

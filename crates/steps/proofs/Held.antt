@@ -14,8 +14,8 @@ use Rattle.parity.proofs.Matrix.Lent.{put-here, put-place}
 use Rattle.parity.proofs.Words.Steps.{Stage, step, Ended, ended}
 use Rattle.parity.proofs.Finite.Firsts.{all-cong}
 use Rattle.parity.proofs.Words.Sets.{inside-below}
-use Rattle.peel.specs.Next.{Lone, NoSingle}
-use Rattle.peel.specs.Steps.{held, Solved, Reached, start, next, agreeing}
+use Rattle.steps.specs.Next.{Lone, NoSingle}
+use Rattle.steps.specs.Steps.{held, Solved, Reached, start, next, agreeing}
 
 -- the machine's two sets, after the bit leaves the one and, where the check's ones are odd, enters the other
 module _ (h : Matrix) (N c b : ℕ) (E O E' O' : Matrix) (p : E' ≡ put 0 b false E) where

@@ -6,7 +6,7 @@ ghost use mathlib.Core.Path.{_≡_};
 ghost use Prim.Native.Nat.{_*_, _≤_};
 ghost use lib.ListN.{length};
 ghost use Rattle.parity.specs.Matrix.{lent};
-ghost use Rattle.peel.specs.Next.{NextSingle};
+ghost use Rattle.steps.specs.Next.{NextSingle};
 
 // A check with exactly one erased bit, and that bit.
 pub enum Single {

@@ -8,7 +8,7 @@ use lib.ListN.{length}
 use Rattle.parity.specs.Finite.{one, all, listFrom}
 use Rattle.parity.specs.Matrix.{Matrix}
 use Rattle.parity.specs.Words.{inside, odd}
-use Rattle.peel.specs.Next.{Lone, NoSingle}
+use Rattle.steps.specs.Next.{Lone, NoSingle}
 
 -- the word whose erased bits are e, and whose ones are o
 abbrev pub held : (ℕ → Bool) → (ℕ → Bool) → ℕ → ℕ

@@ -8,10 +8,10 @@ use Rattle.parity.specs.Matrix.{lent}
 use Rattle.parity.proofs.Matrix.Lent.{row-room}
 use Rattle.parity.proofs.Matrix.Ones.{trailing-lowest}
 use Rattle.parity.proofs.Matrix.Rest.{rest-less}
-use Rattle.peel.specs.Next.{NoSingle}
-use Rattle.peel.proofs.Seen.{Row, Bits, row-start, bits-start, bits-end, bits-first, bits-second, row-one, row-none, none-more, none-all}
-use Rattle.peel.proofs.scan.next_single.Statement.{statement}
-use Rattle.peel.proofs.scan.next_single.Tie as tie
+use Rattle.steps.specs.Next.{NoSingle}
+use Rattle.steps.proofs.Seen.{Row, Bits, row-start, bits-start, bits-end, bits-first, bits-second, row-one, row-none, none-more, none-all}
+use Rattle.steps.proofs.scan.next_single.Statement.{statement}
+use Rattle.steps.proofs.scan.next_single.Tie as tie
 
 abbrev Inv-bits : tie.InvT-bits
 Inv-bits words width checks erased none c₀ at₀ i x₀ c at x = (c ≡ c₀) × (i < width) × Bits width words erased c at i x

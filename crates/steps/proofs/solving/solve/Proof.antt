@@ -1,10 +1,10 @@
 -- `solving::solve` meets its contract. Assumes nothing.
 use mathlib.Core.Path.{refl, sym, _∙_}
 use Rattle.parity.specs.Matrix.{lent}
-use Rattle.peel.proofs.Held.{solved-odd, solved-even}
+use Rattle.steps.proofs.Held.{solved-odd, solved-even}
 use borrow.Author.Needs.{needs}
-use Rattle.peel.proofs.solving.solve.Statement.{statement}
-use Rattle.peel.proofs.solving.solve.Tie as tie
+use Rattle.steps.proofs.solving.solve.Statement.{statement}
+use Rattle.steps.proofs.solving.solve.Tie as tie
 
 is-odd-requires : tie.Need-is-odd-requires
 is-odd-requires c κs = search needs

@@ -1,6 +1,6 @@
 -- The outcome of peeling, from the sets at which steps end. Assumes nothing.
 use mathlib.Core.Path.{_≡_, refl, sym, ap, _∙_, fun-ext}
-use mathlib.Core.Bool.{Bool, true, false, not, cond, _&&_}
+use mathlib.Core.Bool.{Bool, true, false, not, cond, _&&_, and-false}
 use mathlib.Core.List.{List, [], _∷_}
 use Prim.Native.Nat.{ℕ, zero, suc, _+_, _*_, _-_, _≤_, _<_}
 use native.Mathlib.Omega.{arith}
@@ -14,7 +14,7 @@ use Rattle.parity.specs.Words.{erased, peels, peeled, recovered, losses}
 use Rattle.parity.specs.Causes.{answer, refusal, refusalOf}
 use Rattle.parity.specs.Calls.{byteOf, wrongByte, peelReply, peelOutcome}
 use Rattle.parity.specs.declared.Refusal.{Refusal}
-use Rattle.parity.proofs.Finite.Sums.{count-cong, count-part}
+use Rattle.parity.proofs.Finite.Sums.{is-true, is-false, is, count-cong, count-part}
 use Rattle.parity.proofs.Matrix.Packing.{listFrom-cong}
 use Rattle.parity.proofs.Matrix.Lent.{count-add}
 use Rattle.parity.proofs.Words.Peeling.{losses-same}
@@ -24,7 +24,7 @@ use Rattle.parity.proofs.Causes.Refused.{refused-number}
 use Rattle.word.specs.Answers.{admitReply}
 use Rattle.word.proofs.Told.{behind, refused}
 use Rattle.word.specs.Sets.{SetOf}
-use Rattle.steps.specs.Steps.{held, Settled, agreeing}
+use Rattle.steps.specs.Steps.{held, Settled, agreeing, filled, Short}
 use Rattle.peel.specs.Answers.{wordReply, wordOutcome}
 use Rattle.peel.specs.Losses.{Counted}
 use Rattle.steps.proofs.Held.{erased-held, count-short, Held, held-reached, held-ended, held-agrees}
@@ -75,6 +75,10 @@ module _ (N n k : ℕ) (before after : ℕ → ℕ) (s t : ℕ → Bool) (few : 
       let e₄ : count k (λ j. erased after (n + j)) ≡ la = omega (arith, T .sent-is, T .all-are) in
       cc
 
+-- a set that bytes make has none of their number or above
+pub set-short : (W : ℕ) (w : List ℕ) (v : ℕ) (r : List ℕ) → SetOf W w v r → Short (length w) (lent W r 0)
+set-short W w v r S = record { none = λ b l. S .at b ∙ rw (le-ltb b (length w) l) }
+
 module _ (W : ℕ) (h : Matrix) (n k M : ℕ) (w es os : List ℕ) (size : length w ≡ n + k) (few : length w ≤ W * 64) (right : wrongByte 2 w ≡ false) (E : SetOf W w 2 es) (O : SetOf W w 1 os) where
   -- the sets that the bytes make hold the word
   bytes-held : held (lent W es 0) (lent W os 0) ≡ byteOf w
@@ -91,8 +95,8 @@ module _ (W : ℕ) (h : Matrix) (n k M : ℕ) (w es os : List ℕ) (size : lengt
           O .at a ∙ rw (lt-ltb a (length w) l, q)
       | no l ↦ O .at a ∙ rw (le-ltb a (length w) (omega arith))
     ];
-    short-e = λ a l. E .at a ∙ rw (le-ltb a (length w) l);
-    short-o = λ a l. O .at a ∙ rw (le-ltb a (length w) l);
+    short-e = set-short W w 2 es E .none;
+    short-o = set-short W w 1 os O .none;
     stage = rw bytes-held (stage-start h (length w) M (byteOf w) (right-bytes 2 w .0 right));
   }
 
@@ -126,12 +130,20 @@ module _ (W : ℕ) (h : Matrix) (n k M : ℕ) (w es os : List ℕ) (size : lengt
           fewer-left (W * 64) n k (byteOf w) (held e o) (lent W es 0) e (omega arith) (λ b l. held-start .short-e b (omega arith)) (λ b l. H .short-e b (omega arith))
           is-erased held-at within bs ba ls la B L
 
+      -- filling the lost bits makes the word that the sets hold
+      filled-held : (b : ℕ) → b < n + k → held e o b ≡ filled (lent W es 0) e o (byteOf w) b
+      filled-held b l =
+          elim (is (e b)) [
+            | is-true p ↦ rw (p, and-false) (sym (eqb-true (byteOf w b) 2 (is-erased b l ∙ within b l p)))
+            | is-false p ↦ elim (is (lent W es 0 b)) [ is-true q ↦ rw (p, q) | is-false q ↦ rw q (H .stage .known b (omega arith) (is-erased b l ∙ q)) ]
+          ]
+
       pub word-made : agreeing h (W * 64) M e o ≡ true
-          → wordOutcome h n k M w ≡ record { reply = answer ((bs - ls) ∷ (ba - la) ∷ ls ∷ la ∷ []); after = listFrom 0 (length w) (held e o) }
+          → wordOutcome h n k M w ≡ record { reply = answer ((bs - ls) ∷ (ba - la) ∷ ls ∷ la ∷ []); after = listFrom 0 (length w) (filled (lent W es 0) e o (byteOf w)) }
       unfolding wordOutcome wordReply
       word-made f =
           let a : peels h (n + k) M (byteOf w) ≡ true = decides ∙ f in
-          let u : listFrom 0 (n + k) (peeled h (n + k) M (byteOf w)) ≡ listFrom 0 (n + k) (held e o) = listFrom-cong 0 (n + k) (peeled h (n + k) M (byteOf w)) (held e o) (λ j l. D .word a (0 + j) (omega arith)) in
+          let u : listFrom 0 (n + k) (peeled h (n + k) M (byteOf w)) ≡ listFrom 0 (n + k) (filled (lent W es 0) e o (byteOf w)) = listFrom-cong 0 (n + k) (peeled h (n + k) M (byteOf w)) (filled (lent W es 0) e o (byteOf w)) (λ j l. D .word a (0 + j) (omega arith) ∙ filled-held (0 + j) (omega arith)) in
           let v = losses-same n k (byteOf w) (peeled h (n + k) M (byteOf w)) (held e o) (D .word a) in
           let t = losses-sizes (W * 64) n k (byteOf w) (held e o) (lent W es 0) e (omega arith) (λ b l. held-start .short-e b (omega arith)) (λ b l. H .short-e b (omega arith))
           is-erased held-at within bs ba ls la B L in

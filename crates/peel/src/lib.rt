@@ -49,11 +49,12 @@ fn peel_word(words: &[u64], n: usize, k: usize, checks: usize, word: &mut [u8]) 
     ensures { λ r. ⌜ peelingReply r ≡ wordOutcome (lent 8 (now (words .entry))) n k checks (now (word .entry)) .reply ⌝ }
     ensures { λ r. ⌜ now (word .exit) ≡ wordOutcome (lent 8 (now (words .entry))) n k checks (now (word .entry)) .after ⌝ }
 {
-    let mut erased = set_of(word, 2);
+    let lost = set_of(word, 2);
+    let mut erased = lost;
     let mut ones = set_of(word, 1);
-    let before = sizes_of(&erased, n);
+    let before = sizes_of(&lost, n);
     settle(words, checks, &mut erased, &mut ones);
-    if !finish(words, checks, word, &erased, &ones) {
+    if !finish(words, checks, word, &lost, &erased, &ones) {
         return Peeling::Refused(Refusal::Contradiction);
     }
     let left = sizes_of(&erased, n);

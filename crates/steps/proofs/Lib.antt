@@ -1,3 +1,3 @@
 pub mod Seen
 pub mod Held
-pub mod Written
+pub mod Writing

@@ -1,13 +1,14 @@
 -- Peeling on the sets of a word's erased bits and of its ones, with N bits and M checks. Assumes nothing.
 use mathlib.Core.Path.{_≡_}
-use mathlib.Core.Bool.{Bool, not, cond, _&&_, _||_}
+use mathlib.Core.Bool.{Bool, true, false, not, cond, _&&_, _||_}
 use mathlib.Core.List.{List}
-use Prim.Native.Nat.{ℕ, _%_}
+use Prim.Native.Nat.{ℕ, _+_, _*_, _/_, _%_, _≤_, _<_}
 use lib.Dec.{eqb}
 use lib.ListN.{length}
 use Rattle.parity.specs.Finite.{one, all, listFrom}
-use Rattle.parity.specs.Matrix.{Matrix}
+use Rattle.parity.specs.Matrix.{Matrix, bitOf}
 use Rattle.parity.specs.Words.{inside, odd}
+use Rattle.parity.specs.Calls.{byteOf}
 use Rattle.steps.specs.Next.{Lone, NoSingle}
 
 -- the word whose erased bits are e, and whose ones are o
@@ -33,7 +34,25 @@ pub record Settled (h : Matrix) (N M : ℕ) (e o e' o' : ℕ → Bool) : Type 0 
 unfoldable pub agreeing : Matrix → ℕ → ℕ → (ℕ → Bool) → (ℕ → Bool) → Bool
 agreeing h N M e o = all M (λ c. not (eqb (inside h N c e) 0) || eqb (inside h N c o % 2) 0)
 
--- r says whether they are, and the word w becomes the one that the sets hold, or stays
-pub record Finished (h : Matrix) (N M : ℕ) (e o : ℕ → Bool) (w : List ℕ) (r : Bool) (w' : List ℕ) : Type 0 where
+-- the word w, in which each bit that was lost, s, and is not erased, e, has its byte by the ones o
+abbrev pub filled : (ℕ → Bool) → (ℕ → Bool) → (ℕ → Bool) → (ℕ → ℕ) → ℕ → ℕ
+filled s e o w b = cond (s b && not (e b)) (one (o b)) (w b)
+
+-- a set that has no bit from N on
+pub record Short (N : ℕ) (s : ℕ → Bool) : Type 0 where
+  pub none : (b : ℕ) → N ≤ b → s b ≡ false
+
+-- x, word i of a set, has none either
+pub record Reaching (N i x : ℕ) : Type 0 where
+  pub below : (j : ℕ) → j < 64 → bitOf x j ≡ true → i * 64 + j < N
+
+-- of word w, the bits that x, word i of a set, has get their bytes by the ones o
+pub record WordWritten (i x : ℕ) (o : ℕ → Bool) (w w' : List ℕ) : Type 0 where
+  pub size : length w' ≡ length w
+  pub here : (j : ℕ) → j < 64 → byteOf w' (i * 64 + j) ≡ cond (bitOf x j) (one (o (i * 64 + j))) (byteOf w (i * 64 + j))
+  pub other : (b : ℕ) → (b / 64 ≡ i → ⊥) → byteOf w' b ≡ byteOf w b
+
+-- r says whether they are, and the word w is filled, or stays
+pub record Finished (h : Matrix) (N M : ℕ) (s e o : ℕ → Bool) (w : List ℕ) (r : Bool) (w' : List ℕ) : Type 0 where
   pub told : r ≡ agreeing h N M e o
-  pub word : w' ≡ cond r (listFrom 0 (length w) (held e o)) w
+  pub word : w' ≡ cond r (listFrom 0 (length w) (filled s e o (byteOf w))) w

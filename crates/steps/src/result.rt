@@ -1,15 +1,16 @@
 // What peeling comes to: whether the checks agree, and the word.
-use parity::Bit;
 use parity::Check;
-use word::sets::is_in;
+use rows::contains;
+use rows::wide;
 use word::sets::is_odd;
 use word::sets::touches;
 ghost use mathlib.Core.Path.{_≡_};
-ghost use Prim.Native.Nat.{_<_, _≤_};
+ghost use Prim.Native.Nat.{_*_, _<_, _≤_};
 ghost use lib.ListN.{length};
-ghost use Rattle.parity.specs.Finite.{listFrom};
+ghost use Rattle.parity.specs.Finite.{one, listFrom};
 ghost use Rattle.parity.specs.Matrix.{lent};
-ghost use Rattle.steps.specs.Steps.{held, agreeing, Finished};
+ghost use Rattle.parity.specs.Calls.{byteOf};
+ghost use Rattle.steps.specs.Steps.{agreeing, filled, Short, Reaching, WordWritten, Finished};
 
 // Whether each of the first `checks` checks without an erased bit is even.
 fn agree(words: &[u64], checks: usize, erased: &[u64], ones: &[u64]) -> bool
@@ -26,39 +27,56 @@ fn agree(words: &[u64], checks: usize, erased: &[u64], ones: &[u64]) -> bool
     true
 }
 
-// The byte of bit `b`.
-fn byte_at(erased: &[u64], ones: &[u64], b: Bit) -> u8
-    requires { ⌜ (length (now erased) ≡ 8) × (length (now ones) ≡ 8) × (b .0 < 512) ⌝ }
-    ensures { λ r. ⌜ r ≡ held (lent 8 (now (erased .entry)) 0) (lent 8 (now (ones .entry)) 0) (b .0) ⌝ }
+// The byte of bit `b`, which is not erased.
+fn byte_at(ones: &[u64], width: usize, b: usize) -> u8
+    requires { ⌜ (width ≤ length (now ones)) × (b < width * 64) ⌝ }
+    ensures { λ r. ⌜ r ≡ one (lent width (now (ones .entry)) 0 b) ⌝ }
 {
-    if is_in(erased, b) {
-        return 2;
-    }
-    if is_in(ones, b) {
+    if contains(ones, width, 0, b) {
         return 1;
     }
     0
 }
 
-// The word becomes the one that the sets hold.
-fn write(word: &mut [u8], erased: &[u64], ones: &[u64])
-    requires { ⌜ (length (now word) ≤ 512) × (length (now erased) ≡ 8) × (length (now ones) ≡ 8) ⌝ }
-    ensures { λ r. ⌜ now (word .exit) ≡ listFrom 0 (length (now (word .entry))) (held (lent 8 (now (erased .entry)) 0) (lent 8 (now (ones .entry)) 0)) ⌝ }
+// Each bit that is a one of `x`, word `i` of a set, gets its byte.
+fn write_ones(word: &mut [u8], i: usize, x: u64, ones: &[u64], width: usize)
+    requires { ⌜ (i < width) × (width ≤ 8) × (width ≤ length (now ones)) × Reaching (length (now word)) i x ⌝ }
+    ensures { λ r. ⌜ WordWritten i x (lent width (now (ones .entry)) 0) (now (word .entry)) (now (word .exit)) ⌝ }
 {
-    let n = word.len();
-    for b in 0..n {
-        word[b] = byte_at(erased, ones, Bit(b));
+    let mut rest = x;
+    while rest != 0 {
+        let b = i * 64 + wide(u64::trailing_zeros(rest));
+        word[b] = byte_at(ones, width, b);
+        rest = rest & (rest - 1);
     }
 }
 
-// The word becomes the one that the sets hold if each check without an erased bit is even, and else stays. Whether they are.
-pub fn finish(words: &[u64], checks: usize, word: &mut [u8], erased: &[u64], ones: &[u64]) -> bool
-    requires { ⌜ (length (now words) ≡ 4096) × (checks ≤ 512) × (length (now word) ≤ 512) × (length (now erased) ≡ 8) × (length (now ones) ≡ 8) ⌝ }
-    ensures { λ r. ⌜ Finished (lent 8 (now (words .entry))) 512 checks (lent 8 (now (erased .entry)) 0) (lent 8 (now (ones .entry)) 0) (now (word .entry)) r (now (word .exit)) ⌝ }
+// Each bit that was lost and is not erased gets its byte. The sets have `width` words.
+fn write(word: &mut [u8], lost: &[u64], erased: &[u64], ones: &[u64], width: usize)
+    requires { ⌜ (width ≤ 8) × (length (now lost) ≡ width) × (length (now erased) ≡ width) × (length (now ones) ≡ width) × Short (length (now word)) (lent width (now lost) 0) ⌝ }
+    ensures { λ r. ⌜ now (word .exit) ≡ listFrom 0 (length (now (word .entry))) (filled (lent width (now (lost .entry)) 0) (lent width (now (erased .entry)) 0) (lent width (now (ones .entry)) 0) (byteOf (now (word .entry)))) ⌝ }
+{
+    for i in 0..width {
+        write_ones(word, i, lost[i] & !erased[i], ones, width);
+    }
+}
+
+// Each bit that was lost and is not erased gets its byte if each check without an erased bit is even, and else the word stays. Whether they
+// are.
+pub fn finish(
+    words: &[u64],
+    checks: usize,
+    word: &mut [u8],
+    lost: &[u64],
+    erased: &[u64],
+    ones: &[u64],
+) -> bool
+    requires { ⌜ (length (now words) ≡ 4096) × (checks ≤ 512) × (length (now lost) ≡ 8) × (length (now erased) ≡ 8) × (length (now ones) ≡ 8) × Short (length (now word)) (lent 8 (now lost) 0) ⌝ }
+    ensures { λ r. ⌜ Finished (lent 8 (now (words .entry))) 512 checks (lent 8 (now (lost .entry)) 0) (lent 8 (now (erased .entry)) 0) (lent 8 (now (ones .entry)) 0) (now (word .entry)) r (now (word .exit)) ⌝ }
 {
     let agreed = agree(words, checks, erased, ones);
     if agreed {
-        write(word, erased, ones);
+        write(word, lost, erased, ones, 8);
     }
     agreed
 }

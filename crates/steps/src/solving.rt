@@ -25,8 +25,8 @@ fn solve(words: &[u64], c: Check, b: Bit, erased: &mut [u64], ones: &mut [u64])
     }
 }
 
-// Solves checks as long as one of the first `checks` has exactly one erased bit. The search resumes at the check found, and ends after a
-// whole pass that found none.
+// Solves checks as long as one of the first `checks` has exactly one erased bit. The search resumes behind the check found, and ends after
+// a whole pass that found none.
 pub fn settle(words: &[u64], checks: usize, erased: &mut [u64], ones: &mut [u64])
     requires { ⌜ (length (now words) ≡ 4096) × (checks ≤ 512) × (length (now erased) ≡ 8) × (length (now ones) ≡ 8) ⌝ }
     ensures { λ r. ⌜ Settled (lent 8 (now (words .entry))) 512 checks (lent 8 (now (erased .entry)) 0) (lent 8 (now (ones .entry)) 0) (lent 8 (now (erased .exit)) 0) (lent 8 (now (ones .exit)) 0) ⌝ }
@@ -37,7 +37,7 @@ pub fn settle(words: &[u64], checks: usize, erased: &mut [u64], ones: &mut [u64]
         match single {
             Single::Found(c, b) => {
                 solve(words, c, b, erased, ones);
-                from = c;
+                from = Check(c.0 + 1);
             }
             Single::Nothing => {
                 if from.0 == 0 {

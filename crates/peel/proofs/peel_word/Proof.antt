@@ -4,7 +4,7 @@ use native.Mathlib.Omega.{arith}
 use borrow.Author.Tests.{not-true, not-false}
 use Rattle.parity.specs.Matrix.{lent}
 use Rattle.parity.specs.Causes.{Outcome}
-use Rattle.peel.proofs.Ending.{word-refused, word-fewer, word-made}
+use Rattle.peel.proofs.Ending.{set-short, word-refused, word-fewer, word-made}
 use borrow.Author.Needs.{needs}
 use Rattle.peel.proofs.peel_word.Statement.{statement}
 use Rattle.peel.proofs.peel_word.Tie as tie
@@ -36,8 +36,14 @@ slice-aggregate-finish c = search needs
 slice-aggregate-finish-2 : tie.Need-slice-aggregate-finish-2
 slice-aggregate-finish-2 c = search needs
 
+slice-aggregate-finish-3 : tie.Need-slice-aggregate-finish-3
+slice-aggregate-finish-3 c = search needs
+
 finish-requires : tie.Need-finish-requires
-finish-requires c κs = search needs
+finish-requires c κs =
+    let z = c .before .before .before .before .before .before .before .before .before in
+    let s = z .before .before .before .before .before .before .before .before in
+    (s .pre .0, s .pre .1, search needs, search needs, search needs, set-short 8 (s .args .word .now) 2 _ (z .before .before .before .before .set-of .ensures))
 
 same-length : tie.Need-same-length
 same-length c = search needs
@@ -45,7 +51,7 @@ same-length c = search needs
 returns : tie.Need-returns
 returns c =
     let g = c .before .before .before in
-    let t = g .before .before .before .before .before .before in
+    let t = g .before .before .before .before .before .before .before in
     let z = t .before .before .before in
     let s = z .before .before .before .before .before .before .before .before in
     let f = not-true (g .finish .result) (c .if1 .taken) in
@@ -61,7 +67,7 @@ sizes-of-requires-2 c κs = search needs
 made-requires : tie.Need-made-requires
 made-requires c κs =
     let g = c .before .before .before .before .before in
-    let t = g .before .before .before .before .before .before in
+    let t = g .before .before .before .before .before .before .before in
     let z = t .before .before .before in
     let s = z .before .before .before .before .before .before .before .before in
     word-fewer 8 (lent 8 (s .args .words .now)) (s .args .n) (s .args .k) (s .args .checks) (s .args .word .now) _ _ (s .pre .2) (omega (arith, s .pre .2, s .pre .3)) (s .pre .5) (z .before .before .before .before .set-of .ensures) (z .before .before .set-of2 .ensures) _ _ (t .settle .ensures) _ _ _ _ (z .sizes-of .ensures) (c .sizes-of2 .ensures)
@@ -72,7 +78,7 @@ same-length-2 c = search needs
 returns-2 : tie.Need-returns-2
 returns-2 c =
     let g = c .before .before .before .before .before .before in
-    let t = g .before .before .before .before .before .before in
+    let t = g .before .before .before .before .before .before .before in
     let z = t .before .before .before in
     let s = z .before .before .before .before .before .before .before .before in
     let f = not-false (g .finish .result) (c .before .before .before .if1 .left) in
@@ -92,6 +98,7 @@ peel-word-spec =
     settle-requires
     slice-aggregate-finish
     slice-aggregate-finish-2
+    slice-aggregate-finish-3
     finish-requires
     same-length
     returns

@@ -1,46 +1,57 @@
 -- `result::write` meets its contract. Assumes nothing.
-use mathlib.Core.Path.{_≡_, refl}
 use Prim.Native.Nat.{_-_, _≤_}
 use native.Mathlib.Omega.{arith}
-use borrow.Author.Needs.{needs}
 use lib.ListN.{length}
 use Rattle.parity.specs.Matrix.{lent}
-use Rattle.steps.specs.Steps.{held}
-use Rattle.steps.proofs.Written.{Written, written-none, written-more, written-all}
+use Rattle.steps.proofs.Writing.{Filling, filling-none, masked-below, filling-next, filling-all}
 use Rattle.steps.proofs.result.write.Statement.{statement}
 use Rattle.steps.proofs.result.write.Tie as tie
 
 abbrev Inv-loop : tie.InvT-loop
-Inv-loop word₀ erased ones n b₀ word b = (n ≡ length word₀) × (b ≤ n) × Written (held (lent 8 erased 0) (lent 8 ones 0)) n b word
+Inv-loop word₀ lost erased ones width i₀ word i = (i ≤ width) × Filling (lent width lost 0) (lent width erased 0) (lent width ones 0) i word₀ word
 
 abbrev μ-loop : tie.MeasureT-loop
-μ-loop word₀ erased ones n b₀ word b = n - b
+μ-loop word₀ lost erased ones width i₀ word i = width - i
 
 loop-holds : tie.Need-loop-holds Inv-loop μ-loop
-loop-holds c = (refl, omega arith, written-none _ _)
+loop-holds c = (omega arith, filling-none _ _ _ _)
 
-byte-at-requires : tie.Need-byte-at-requires Inv-loop μ-loop
-byte-at-requires c κs = search needs
+mul-write-ones : tie.Need-mul-write-ones Inv-loop μ-loop
+mul-write-ones c = omega arith
 
-slice-write-word : tie.Need-slice-write-word Inv-loop μ-loop
-slice-write-word c = omega (arith, c .before .before .loop .inv .2 .size)
+shared-slice-read-write-ones : tie.Need-shared-slice-read-write-ones Inv-loop μ-loop
+shared-slice-read-write-ones c = omega arith
 
-add-b : tie.Need-add-b Inv-loop μ-loop
-add-b c = omega arith
+mul-write-ones-2 : tie.Need-mul-write-ones-2 Inv-loop μ-loop
+mul-write-ones-2 c = omega arith
+
+shared-slice-read-write-ones-2 : tie.Need-shared-slice-read-write-ones-2 Inv-loop μ-loop
+shared-slice-read-write-ones-2 c = omega arith
+
+write-ones-requires : tie.Need-write-ones-requires Inv-loop μ-loop
+write-ones-requires c κs =
+    let l = c .before .before .before .before in
+    let s = l .before .before .before .before .before in
+    (omega arith, s .pre .0, omega (arith, s .pre .3), rw (l .loop .inv .1 .size) (masked-below _ (s .args .lost .now) _ _ _ (omega arith) (s .pre .4)))
+
+add-i : tie.Need-add-i Inv-loop μ-loop
+add-i c = omega arith
 
 loop-less : tie.Need-loop-less Inv-loop μ-loop
 loop-less c = omega arith
 
 loop-again : tie.Need-loop-again Inv-loop μ-loop
-loop-again c = let l = c .before .before .loop in
-    (refl, omega arith, written-more _ _ _ _ (l .inv .2) _ (omega arith) (c .byte-at .ensures))
+loop-again c =
+    let v = c .before .before in
+    let g = v .before in
+    let l = g .before .before .before .before in
+    (omega arith, filling-next _ _ _ _ (omega arith) (g .shared-slice-known5 .given _ .fits) _ _ _ _ (l .loop .inv .1) (v .write-ones .ensures))
 
 same-length : tie.Need-same-length Inv-loop μ-loop
-same-length c = c .before .loop .inv .2 .size
+same-length c = c .before .loop .inv .1 .size
 
 returns : tie.Need-returns Inv-loop μ-loop
-returns c = let l = c .before .loop in
-    written-all _ _ _ _ (l .inv .2) (omega arith)
+returns c = filling-all _ _ _ _ _ _ _ (omega arith) (c .before .loop .inv .1)
 
 pub write-spec : {M : Type 1} → statement M
 write-spec =
@@ -49,9 +60,12 @@ write-spec =
     Inv-loop
     μ-loop
     loop-holds
-    byte-at-requires
-    slice-write-word
-    add-b
+    mul-write-ones
+    shared-slice-read-write-ones
+    mul-write-ones-2
+    shared-slice-read-write-ones-2
+    write-ones-requires
+    add-i
     loop-less
     loop-again
     same-length

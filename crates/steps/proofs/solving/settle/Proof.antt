@@ -42,16 +42,22 @@ solve-requires c κs = let s = c .before .before .before .before .before .before
     let L = rw (g .single .given .1) at (g .before .before .next-single .ensures) in
     (s .pre .0, omega (arith, L .check, s .pre .1), L .bit, l .inv .0, l .inv .1)
 
-loop-less : tie.Need-loop-less Inv-loop μ-loop
-loop-less c = let g = c .before .before .before .before .before .before .before .before in
+add-t16 : tie.Need-add-t16 Inv-loop μ-loop
+add-t16 c = let g = c .before .before .before .before .before .before .before .before .before in
+    let s = g .before .before .before .before .before .before .before .before in
     let L = rw (g .single .given .1) at (g .before .before .next-single .ensures) in
-    less-work _ _ (ltb 0 (g .single .given .0 .0 .0)) (ltb 0 (g .before .before .before .before .loop .from .0)) (fewer _ _ _ _ _ _ _ _ _ L (c .before .before .before .before .solve .ensures))
+    omega (arith, L .check, s .pre .1)
+
+loop-less : tie.Need-loop-less Inv-loop μ-loop
+loop-less c = let g = c .before .before .before .before .before .before .before .before .before in
+    let L = rw (g .single .given .1) at (g .before .before .next-single .ensures) in
+    less-work _ _ (ltb 0 (g .single .given .0 .0 .0 + 1)) (ltb 0 (g .before .before .before .before .loop .from .0)) (fewer _ _ _ _ _ _ _ _ _ L (c .before .before .before .before .before .solve .ensures))
 
 loop-again : tie.Need-loop-again Inv-loop μ-loop
-loop-again c = let g = c .before .before .before .before .before .before .before .before in
+loop-again c = let g = c .before .before .before .before .before .before .before .before .before in
     let l = g .before .before .before .before .loop in
     let L = rw (g .single .given .1) at (g .before .before .next-single .ensures) in
-    let v = c .before .before .before .before in
+    let v = c .before .before .before .before .before in
     (v .solve .kept .1 .1 .1 .0 ∙ l .inv .0, v .solve .kept .1 .1 .1 .1 .0 ∙ l .inv .1, next (l .inv .2) _ _ L (v .solve .ensures))
 
 enum-told : tie.Need-enum-told Inv-loop μ-loop
@@ -88,6 +94,7 @@ settle-spec =
     next-single-requires
     enum-known-single
     solve-requires
+    add-t16
     loop-less
     loop-again
     enum-told

@@ -4,6 +4,7 @@ mod losses;
 use crate::losses::Sizes;
 use crate::losses::sizes_of;
 use parity::Refusal;
+use rows::words_of;
 use steps::result::finish;
 use steps::solving::settle;
 use word::Admission;
@@ -53,7 +54,8 @@ fn peel_word(words: &[u64], n: usize, k: usize, checks: usize, word: &mut [u8]) 
     let mut erased = lost;
     let mut ones = set_of(word, 1);
     let before = sizes_of(&lost, n);
-    settle(words, checks, &mut erased, &mut ones);
+    let used = words_of(n + k);
+    settle(words, used, checks, &mut erased, &mut ones);
     if !finish(words, checks, word, &lost, &erased, &ones) {
         return Peeling::Refused(Refusal::Contradiction);
     }

@@ -22,6 +22,18 @@ pub fn wide(x: u32) -> usize
     x as usize
 }
 
+// How many words of a row the first `bits` bits take.
+pub fn words_of(bits: usize) -> usize
+    requires { ⌜ bits ≤ 512 ⌝ }
+    ensures { λ r. ⌜ (bits ≤ r * 64) × (r * 64 < bits + 64) ⌝ }
+{
+    let mut used: usize = 0;
+    while used * 64 < bits {
+        used += 1;
+    }
+    used
+}
+
 // How many ones a word has.
 fn ones_of(x: u64) -> usize
     ensures { λ r. ⌜ (r ≡ onesOf x) × (r ≤ 64) ⌝ }

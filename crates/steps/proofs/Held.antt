@@ -14,8 +14,10 @@ use Rattle.parity.proofs.Matrix.Lent.{put-here, put-place}
 use Rattle.parity.proofs.Words.Steps.{Stage, step, Ended, ended}
 use Rattle.parity.proofs.Finite.Firsts.{all-cong}
 use Rattle.parity.proofs.Words.Sets.{inside-below}
-use Rattle.steps.specs.Next.{Lone, NoSingle}
-use Rattle.steps.specs.Steps.{held, Solved, Reached, start, next, agreeing}
+use Rattle.steps.specs.declared.scan.Single.{Single}
+use Rattle.steps.specs.declared.scan.Single.the-variants.{Found, Nothing}
+use Rattle.steps.specs.Next.{Lone, NoSingle, NextSingle}
+use Rattle.steps.specs.Steps.{held, Solved, Reached, start, next, agreeing, Short}
 
 -- the machine's two sets, after the bit leaves the one and, where the check's ones are odd, enters the other
 module _ (h : Matrix) (N c b : ℕ) (E O E' O' : Matrix) (p : E' ≡ put 0 b false E) where
@@ -79,6 +81,16 @@ inside-short h B N c s l f = inside-below h B N c s s l (short-below N s f)
 
 pub count-short : (B N : ℕ) (s : ℕ → Bool) → N ≤ B → ((a : ℕ) → N ≤ a → s a ≡ false) → count B s ≡ count N s
 count-short B N s l f = count-end N B s l (λ b k m. f b k)
+
+-- a search among the first N bits, where no erased bit is at N or above
+pub next-wider : (h : Matrix) (N B M from : ℕ) (e : ℕ → Bool) (r : Single) → N ≤ B → Short N e → NextSingle h N M from e r → NextSingle h B M from e r
+next-wider h N B M from e (Found c b) l f L =
+    record { check = L .check; bit = omega (arith, L .bit); has = L .has; gone = L .gone; only = inside-short h B N (c .0) e l (f .none) ∙ L .only }
+next-wider h N B M from e Nothing l f S = record { none = λ c i k q. S .none c i k (sym (inside-short h B N c e l (f .none)) ∙ q) }
+
+-- a solving step leaves such a set short
+pub short-solved : (h : Matrix) (N B c b : ℕ) (e o e' o' : ℕ → Bool) → Short N e → Solved h B c b e o e' o' → Short N e'
+short-solved h N B c b e o e' o' f S = record { none = λ a k. S .gone a ∙ rw (f .none a k) }
 
 -- The sets hold a stage of peeling w₀: none of their bits is at N or above, and none is in both.
 pub record Held (h : Matrix) (N M : ℕ) (w₀ : ℕ → ℕ) (e o : ℕ → Bool) : Type 0 where

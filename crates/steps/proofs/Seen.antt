@@ -1,4 +1,4 @@
--- The erased bits that the scan of a check has seen, over the number W of words. Assumes nothing.
+-- The erased bits that the scan of a check has seen in its first U words, where a row has W. Assumes nothing.
 use mathlib.Core.Path.{_≡_, sym, _∙_}
 use mathlib.Core.Bool.{Bool, true, false, not, cond, _&&_, and-true, and-eq-true-iff, false≢true}
 use mathlib.Core.List.{List}
@@ -24,43 +24,43 @@ use Rattle.steps.specs.Next.{NoSingle}
 abbrev pub hole : ℕ → List ℕ → List ℕ → ℕ → ℕ → Bool
 hole W ws es c b = lent W ws c b && lent W es 0 b
 
--- Of the check's first i words at most one erased bit was seen: at, or none where at is W * 64.
-pub record Row (W : ℕ) (ws es : List ℕ) (c at i : ℕ) : Type 0 where
-  pub top : at ≤ W * 64
-  pub here : at < W * 64 → hole W ws es c at ≡ true
-  pub past : at < W * 64 → at < i * 64
+-- Of the check's first i words at most one erased bit was seen: at, or none where at is U * 64.
+pub record Row (W U : ℕ) (ws es : List ℕ) (c at i : ℕ) : Type 0 where
+  pub top : at ≤ U * 64
+  pub here : at < U * 64 → hole W ws es c at ≡ true
+  pub past : at < U * 64 → at < i * 64
   pub none : (b : ℕ) → b < i * 64 → (b ≡ at → ⊥) → hole W ws es c b ≡ false
 
 -- Of word i, those that are not in x were seen too.
-pub record Bits (W : ℕ) (ws es : List ℕ) (c at i x : ℕ) : Type 0 where
+pub record Bits (W U : ℕ) (ws es : List ℕ) (c at i x : ℕ) : Type 0 where
   pub fits : x < 2 ^ 64
-  pub top : at ≤ W * 64
-  pub here : at < W * 64 → hole W ws es c at ≡ true
-  pub past : at < W * 64 → at < (i + 1) * 64
+  pub top : at ≤ U * 64
+  pub here : at < U * 64 → hole W ws es c at ≡ true
+  pub past : at < U * 64 → at < (i + 1) * 64
   pub part : (j : ℕ) → j < 64 → bitOf x j ≡ true → hole W ws es c (i * 64 + j) ≡ true
-  pub fresh : at < W * 64 → (j : ℕ) → j < 64 → bitOf x j ≡ true → at ≡ i * 64 + j → ⊥
+  pub fresh : at < U * 64 → (j : ℕ) → j < 64 → bitOf x j ≡ true → at ≡ i * 64 + j → ⊥
   pub none : (b : ℕ) → b < i * 64 → (b ≡ at → ⊥) → hole W ws es c b ≡ false
   pub word : (j : ℕ) → j < 64 → (i * 64 + j ≡ at → ⊥) → bitOf x j ≡ false → hole W ws es c (i * 64 + j) ≡ false
 
-pub row-start : (W : ℕ) (ws es : List ℕ) (c : ℕ) → Row W ws es c (W * 64) 0
-row-start W ws es c = record { top = omega arith; here = λ k. absurd (omega arith); past = λ k. absurd (omega arith); none = λ b k d. absurd (omega arith) }
+pub row-start : (W U : ℕ) (ws es : List ℕ) (c : ℕ) → Row W U ws es c (U * 64) 0
+row-start W U ws es c = record { top = omega arith; here = λ k. absurd (omega arith); past = λ k. absurd (omega arith); none = λ b k d. absurd (omega arith) }
 
-module _ (W : ℕ) (ws es : List ℕ) (c at i : ℕ) (k : i < W) where
-  pub bits-start : Row W ws es c at i → getD ws (c * W + i) 0 < 2 ^ 64 → Bits W ws es c at i (common W ws es c i)
+module _ (W U : ℕ) (ws es : List ℕ) (c at i : ℕ) (k : i < U) (room : U ≤ W) where
+  pub bits-start : Row W U ws es c at i → getD ws (c * W + i) 0 < 2 ^ 64 → Bits W U ws es c at i (common W ws es c i)
   bits-start R l = record {
     fits = lt-of-le-of-lt (and-le-l (getD ws (c * W + i) 0) (getD es i 0)) l;
     top = R .top;
     here = R .here;
     past = λ m. omega (arith, R .past m);
-    part = λ j m e. sym (common-bit W ws es c i j k m) ∙ e;
+    part = λ j m e. sym (common-bit W ws es c i j (omega arith) m) ∙ e;
     fresh = λ m j n e q. omega (arith, R .past m);
     none = R .none;
-    word = λ j m d e. sym (common-bit W ws es c i j k m) ∙ e;
+    word = λ j m d e. sym (common-bit W ws es c i j (omega arith) m) ∙ e;
   }
 
-  module _ (x : ℕ) (B : Bits W ws es c at i x) where
+  module _ (x : ℕ) (B : Bits W U ws es c at i x) where
     -- nothing is left of the word
-    pub bits-end : x ≡ 0 → Row W ws es c at (i + 1)
+    pub bits-end : x ≡ 0 → Row W U ws es c at (i + 1)
     bits-end e = record {
       top = B .top;
       here = B .here;
@@ -75,7 +75,7 @@ module _ (W : ℕ) (ws es : List ℕ) (c at i : ℕ) (k : i < W) where
 
     module _ (t : ℕ) (L : Lowest 64 x t) where
       -- the first erased bit of the check
-      pub bits-first : (at < W * 64 → ⊥) → Bits W ws es c (i * 64 + t) i (bitAnd x (x - 1))
+      pub bits-first : (at < U * 64 → ⊥) → Bits W U ws es c (i * 64 + t) i (bitAnd x (x - 1))
       bits-first n =
           let s = L .short in
           record {
@@ -97,26 +97,26 @@ module _ (W : ℕ) (ws es : List ℕ) (c at i : ℕ) (k : i < W) where
               false≢true (rw (eq-eqb j t q) at r)
 
       -- a second one
-      pub bits-second : at < W * 64 → inside (lent W ws) (W * 64) c (lent W es 0) ≡ 1 → ⊥
+      pub bits-second : at < U * 64 → inside (lent W ws) (U * 64) c (lent W es 0) ≡ 1 → ⊥
       unfolding inside
       bits-second l e =
-          omega (arith, count-two (W * 64) (hole W ws es c) at (i * 64 + t) l (omega (arith, L .short)) (B .fresh l t (L .short) (L .here)) (B .here l) (B .part t (L .short) (L .here)))
+          omega (arith, count-two (U * 64) (hole W ws es c) at (i * 64 + t) l (omega (arith, L .short)) (B .fresh l t (L .short) (L .here)) (B .here l) (B .part t (L .short) (L .here)))
 
 -- the whole check
-module _ (W : ℕ) (ws es : List ℕ) (c at i : ℕ) (e : i ≡ W) (R : Row W ws es c at i) where
-  pub row-one : at < W * 64 → inside (lent W ws) (W * 64) c (lent W es 0) ≡ 1
+module _ (W U : ℕ) (ws es : List ℕ) (c at i : ℕ) (e : i ≡ U) (R : Row W U ws es c at i) where
+  pub row-one : at < U * 64 → inside (lent W ws) (U * 64) c (lent W es 0) ≡ 1
   unfolding inside count
   row-one l =
-      sum-cong (W * 64) {f = λ b. one (hole W ws es c b)} {g = λ b. cond (eqb b at) 1 0} (λ b k. elim (ℕ-discrete b at) [
+      sum-cong (U * 64) {f = λ b. one (hole W ws es c b)} {g = λ b. cond (eqb b at) 1 0} (λ b k. elim (ℕ-discrete b at) [
         | yes q ↦ rw (eq-eqb b at q, q, R .here l)
         | no d ↦ rw (ne-eqb b at d, R .none b (omega arith) d)
-      ]) ∙ sum-at (W * 64) at 1 l
+      ]) ∙ sum-at (U * 64) at 1 l
 
-  row-zero : (at < W * 64 → ⊥) → inside (lent W ws) (W * 64) c (lent W es 0) ≡ 0
+  row-zero : (at < U * 64 → ⊥) → inside (lent W ws) (U * 64) c (lent W es 0) ≡ 0
   unfolding inside count
-  row-zero n = sum-zero (W * 64) {f = λ b. one (hole W ws es c b)} (λ b k. rw (R .none b (omega arith) (λ r. n (omega arith))))
+  row-zero n = sum-zero (U * 64) {f = λ b. one (hole W ws es c b)} (λ b k. rw (R .none b (omega arith) (λ r. n (omega arith))))
 
-  pub row-none : (at < W * 64 → ⊥) → inside (lent W ws) (W * 64) c (lent W es 0) ≡ 1 → ⊥
+  pub row-none : (at < U * 64 → ⊥) → inside (lent W ws) (U * 64) c (lent W es 0) ≡ 1 → ⊥
   row-none n q = let z : _≡_ {A = ℕ} 0 1 = sym (row-zero n) ∙ q in omega arith
 
 -- one check more without exactly one erased bit

@@ -14,18 +14,19 @@ pub enum Single {
     Nothing,
 }
 
-// The first check from `from` on with exactly one erased bit. Each check has `width` words, and so has the set.
+// The first check from `from` on with exactly one erased bit in its first `used` words. Each check has `width` words, and so has the set.
 pub fn next_single(
     words: &[u64],
     width: usize,
+    used: usize,
     checks: usize,
     from: Check,
     erased: &[u64],
 ) -> Single
-    requires { ⌜ (checks * width ≤ length (now words)) × (checks ≤ 512) × (width ≤ length (now erased)) × (width ≤ 8) ⌝ }
-    ensures { λ r. ⌜ NextSingle (lent width (now (words .entry))) (width * 64) checks (from .0) (lent width (now (erased .entry)) 0) r ⌝ }
+    requires { ⌜ (checks * width ≤ length (now words)) × (checks ≤ 512) × (width ≤ length (now erased)) × (width ≤ 8) × (used ≤ width) ⌝ }
+    ensures { λ r. ⌜ NextSingle (lent width (now (words .entry))) (used * 64) checks (from .0) (lent width (now (erased .entry)) 0) r ⌝ }
 {
-    let none = width * 64;
+    let none = used * 64;
     let mut c = from.0;
     'scan: loop {
         if checks <= c {
@@ -33,7 +34,7 @@ pub fn next_single(
         }
         let mut at = none;
         let mut i: usize = 0;
-        'row: while i < width {
+        'row: while i < used {
             let mut x = words[c * width + i] & erased[i];
             'bits: while x != 0 {
                 if at < none {

@@ -7,10 +7,10 @@ use rows::lower;
 use rows::raise;
 use word::sets::is_odd;
 ghost use mathlib.Core.Path.{_≡_};
-ghost use Prim.Native.Nat.{_<_, _≤_};
+ghost use Prim.Native.Nat.{_*_, _<_, _≤_};
 ghost use lib.ListN.{length};
 ghost use Rattle.parity.specs.Matrix.{lent};
-ghost use Rattle.steps.specs.Steps.{Solved, Settled};
+ghost use Rattle.steps.specs.Steps.{Solved, Settled, Short};
 
 // Bit `b`, the one erased bit of check `c`, becomes the sum modulo 2 of the check's ones.
 fn solve(words: &[u64], c: Check, b: Bit, erased: &mut [u64], ones: &mut [u64])
@@ -25,15 +25,15 @@ fn solve(words: &[u64], c: Check, b: Bit, erased: &mut [u64], ones: &mut [u64])
     }
 }
 
-// Solves checks as long as one of the first `checks` has exactly one erased bit. The search resumes behind the check found, and ends after
+// Solves checks as long as one of the first `checks` has exactly one erased bit; these are in the first `used` words. The search resumes behind the check found, and ends after
 // a whole pass that found none.
-pub fn settle(words: &[u64], checks: usize, erased: &mut [u64], ones: &mut [u64])
-    requires { ⌜ (length (now words) ≡ 4096) × (checks ≤ 512) × (length (now erased) ≡ 8) × (length (now ones) ≡ 8) ⌝ }
+pub fn settle(words: &[u64], used: usize, checks: usize, erased: &mut [u64], ones: &mut [u64])
+    requires { ⌜ (length (now words) ≡ 4096) × (checks ≤ 512) × (length (now erased) ≡ 8) × (length (now ones) ≡ 8) × (used ≤ 8) × Short (used * 64) (lent 8 (now erased) 0) ⌝ }
     ensures { λ r. ⌜ Settled (lent 8 (now (words .entry))) 512 checks (lent 8 (now (erased .entry)) 0) (lent 8 (now (ones .entry)) 0) (lent 8 (now (erased .exit)) 0) (lent 8 (now (ones .exit)) 0) ⌝ }
 {
     let mut from = Check(0);
     loop {
-        let single = next_single(words, 8, checks, from, erased);
+        let single = next_single(words, 8, used, checks, from, erased);
         match single {
             Single::Found(c, b) => {
                 solve(words, c, b, erased, ones);

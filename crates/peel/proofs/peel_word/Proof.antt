@@ -21,6 +21,12 @@ slice-aggregate-sizes-of c = search needs
 sizes-of-requires : tie.Need-sizes-of-requires
 sizes-of-requires c κs = search needs
 
+add-words-of : tie.Need-add-words-of
+add-words-of c = search needs
+
+words-of-requires : tie.Need-words-of-requires
+words-of-requires c κs = search needs
+
 slice-aggregate-settle : tie.Need-slice-aggregate-settle
 slice-aggregate-settle c = search needs
 
@@ -28,7 +34,12 @@ slice-aggregate-settle-2 : tie.Need-slice-aggregate-settle-2
 slice-aggregate-settle-2 c = search needs
 
 settle-requires : tie.Need-settle-requires
-settle-requires c κs = search needs
+settle-requires c κs =
+    let u = c .before .before .words-of .ensures in
+    let z = c .before .before .before in
+    let s = z .before .before .before .before .before .before .before .before in
+    let S = set-short 8 (s .args .word .now) 2 _ (z .before .before .before .before .set-of .ensures) in
+    (s .pre .0, s .pre .1, search needs, search needs, omega (arith, u .1, s .pre .3), record { none = λ b l. S .none b (omega (arith, u .0, s .pre .2)) })
 
 slice-aggregate-finish : tie.Need-slice-aggregate-finish
 slice-aggregate-finish c = search needs
@@ -41,7 +52,7 @@ slice-aggregate-finish-3 c = search needs
 
 finish-requires : tie.Need-finish-requires
 finish-requires c κs =
-    let z = c .before .before .before .before .before .before .before .before .before in
+    let z = c .before .before .before .before .before .before .before .before .before .before in
     let s = z .before .before .before .before .before .before .before .before in
     (s .pre .0, s .pre .1, search needs, search needs, search needs, set-short 8 (s .args .word .now) 2 _ (z .before .before .before .before .set-of .ensures))
 
@@ -52,7 +63,7 @@ returns : tie.Need-returns
 returns c =
     let g = c .before .before .before in
     let t = g .before .before .before .before .before .before .before in
-    let z = t .before .before .before in
+    let z = t .before .before .before .before in
     let s = z .before .before .before .before .before .before .before .before in
     let f = not-true (g .finish .result) (c .if1 .taken) in
     let r = word-refused 8 (lent 8 (s .args .words .now)) (s .args .n) (s .args .k) (s .args .checks) (s .args .word .now) _ _ (s .pre .2) (omega (arith, s .pre .2, s .pre .3)) (s .pre .5) (z .before .before .before .before .set-of .ensures) (z .before .before .set-of2 .ensures) _ _ (t .settle .ensures) (sym (g .finish .ensures .told) ∙ f) in
@@ -68,7 +79,7 @@ made-requires : tie.Need-made-requires
 made-requires c κs =
     let g = c .before .before .before .before .before in
     let t = g .before .before .before .before .before .before .before in
-    let z = t .before .before .before in
+    let z = t .before .before .before .before in
     let s = z .before .before .before .before .before .before .before .before in
     word-fewer 8 (lent 8 (s .args .words .now)) (s .args .n) (s .args .k) (s .args .checks) (s .args .word .now) _ _ (s .pre .2) (omega (arith, s .pre .2, s .pre .3)) (s .pre .5) (z .before .before .before .before .set-of .ensures) (z .before .before .set-of2 .ensures) _ _ (t .settle .ensures) _ _ _ _ (z .sizes-of .ensures) (c .sizes-of2 .ensures)
 
@@ -79,7 +90,7 @@ returns-2 : tie.Need-returns-2
 returns-2 c =
     let g = c .before .before .before .before .before .before in
     let t = g .before .before .before .before .before .before .before in
-    let z = t .before .before .before in
+    let z = t .before .before .before .before in
     let s = z .before .before .before .before .before .before .before .before in
     let f = not-false (g .finish .result) (c .before .before .before .if1 .left) in
     let r = word-made 8 (lent 8 (s .args .words .now)) (s .args .n) (s .args .k) (s .args .checks) (s .args .word .now) _ _ (s .pre .2) (omega (arith, s .pre .2, s .pre .3)) (s .pre .5) (z .before .before .before .before .set-of .ensures) (z .before .before .set-of2 .ensures) _ _ (t .settle .ensures) _ _ _ _ (z .sizes-of .ensures) (c .before .sizes-of2 .ensures) (sym (g .finish .ensures .told) ∙ f) in
@@ -93,6 +104,8 @@ peel-word-spec =
     set-of-requires-2
     slice-aggregate-sizes-of
     sizes-of-requires
+    add-words-of
+    words-of-requires
     slice-aggregate-settle
     slice-aggregate-settle-2
     settle-requires

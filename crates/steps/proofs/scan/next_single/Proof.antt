@@ -14,22 +14,22 @@ use Rattle.steps.proofs.scan.next_single.Statement.{statement}
 use Rattle.steps.proofs.scan.next_single.Tie as tie
 
 abbrev Inv-bits : tie.InvT-bits
-Inv-bits words width checks erased none c₀ at₀ i x₀ c at x = (c ≡ c₀) × (i < width) × Bits width words erased c at i x
+Inv-bits words width used checks erased none c₀ at₀ i x₀ c at x = (c ≡ c₀) × (i < used) × Bits width used words erased c at i x
 
 abbrev μ-bits : tie.MeasureT-bits
-μ-bits words width checks erased none c₀ at₀ i x₀ c at x = x
+μ-bits words width used checks erased none c₀ at₀ i x₀ c at x = x
 
 abbrev Inv-row : tie.InvT-row
-Inv-row words width checks erased none c₀ at₀ i₀ c at i = (c ≡ c₀) × (i ≤ width) × Row width words erased c at i
+Inv-row words width used checks erased none c₀ at₀ i₀ c at i = (c ≡ c₀) × (i ≤ used) × Row width used words erased c at i
 
 abbrev μ-row : tie.MeasureT-row
-μ-row words width checks erased none c₀ at₀ i₀ c at i = width - i
+μ-row words width used checks erased none c₀ at₀ i₀ c at i = used - i
 
 abbrev Inv-scan : tie.InvT-scan
-Inv-scan words width checks erased none c₀ c = NoSingle (lent width words) (width * 64) c c₀ (lent width erased 0)
+Inv-scan words width used checks erased none c₀ c = NoSingle (lent width words) (used * 64) c c₀ (lent width erased 0)
 
 abbrev μ-scan : tie.MeasureT-scan
-μ-scan words width checks erased none c₀ c = checks - c
+μ-scan words width used checks erased none c₀ c = checks - c
 
 mul-none : tie.Need-mul-none Inv-bits μ-bits Inv-row μ-row Inv-scan μ-scan
 mul-none c = omega arith
@@ -38,7 +38,7 @@ scan-holds : tie.Need-scan-holds Inv-bits μ-bits Inv-row μ-row Inv-scan μ-sca
 scan-holds c = record { none = λ d k l e. absurd (omega arith) }
 
 row-holds : tie.Need-row-holds Inv-bits μ-bits Inv-row μ-row Inv-scan μ-scan
-row-holds c = (refl, omega arith, row-start _ _ _ _)
+row-holds c = (refl, omega arith, row-start _ _ _ _ _)
 
 mul-x : tie.Need-mul-x Inv-bits μ-bits Inv-row μ-row Inv-scan μ-scan
 mul-x c = let r = c .before in
@@ -68,7 +68,7 @@ shared-slice-read-x-2 c = omega arith
 
 bits-holds : tie.Need-bits-holds Inv-bits μ-bits Inv-row μ-row Inv-scan μ-scan
 bits-holds c = let l = c .before .before .before .row in
-    (refl, omega arith, bits-start _ _ _ _ _ _ (omega arith) (l .inv .2) (c .before .shared-slice-known3 .given _ .fits))
+    (refl, omega arith, bits-start _ _ _ _ _ _ _ (omega arith) (omega arith) (l .inv .2) (c .before .shared-slice-known3 .given _ .fits))
 
 add-c : tie.Need-add-c Inv-bits μ-bits Inv-row μ-row Inv-scan μ-scan
 add-c c = omega arith
@@ -82,7 +82,7 @@ scan-again c = let b = c .before .before in
     let a = r .before .before in
     let L = trailing-lowest 64 _ (b .bits .inv .2 .fits) (c .before .bits-test .taken) in
     let e : b .bits .c ≡ a .scan .c = b .bits .inv .0 ∙ r .row .inv .0 in
-    none-more _ _ _ _ _ (rw (← e) at (a .scan .inv)) (bits-second _ _ _ _ _ _ (b .bits .inv .1) _ (b .bits .inv .2) _ L (c .if2 .taken))
+    none-more _ _ _ _ _ (rw (← e) at (a .scan .inv)) (bits-second _ _ _ _ _ _ _ (b .bits .inv .1) (omega arith) _ (b .bits .inv .2) _ L (c .if2 .taken))
 
 wide-requires : tie.Need-wide-requires Inv-bits μ-bits Inv-row μ-row Inv-scan μ-scan
 wide-requires c κs = search needs
@@ -104,7 +104,7 @@ bits-less c = rest-less _ (c .before .before .bits-test .taken)
 bits-again : tie.Need-bits-again Inv-bits μ-bits Inv-row μ-row Inv-scan μ-scan
 bits-again c = let b = c .before .before .before in
     let L = trailing-lowest 64 _ (b .bits .inv .2 .fits) (c .before .before .bits-test .taken) in
-    (b .bits .inv .0, b .bits .inv .1, rw (c .wide .ensures) (bits-first _ _ _ _ _ _ (b .bits .inv .1) _ (b .bits .inv .2) _ L (λ k. omega (arith, c .before .if2 .left))))
+    (b .bits .inv .0, b .bits .inv .1, rw (c .wide .ensures) (bits-first _ _ _ _ _ _ _ (b .bits .inv .1) (omega arith) _ (b .bits .inv .2) _ L (λ k. omega (arith, c .before .if2 .left))))
 
 add-i : tie.Need-add-i Inv-bits μ-bits Inv-row μ-row Inv-scan μ-scan
 add-i c = omega arith
@@ -115,7 +115,7 @@ row-less c = omega arith
 row-again : tie.Need-row-again Inv-bits μ-bits Inv-row μ-row Inv-scan μ-scan
 row-again c = let b = c .before in
     let r = b .before .before .before .before in
-    (b .bits .inv .0 ∙ r .row .inv .0, omega arith, bits-end _ _ _ _ _ _ (b .bits .inv .1) _ (b .bits .inv .2) (c .bits-test .left))
+    (b .bits .inv .0 ∙ r .row .inv .0, omega arith, bits-end _ _ _ _ _ _ _ (b .bits .inv .1) (omega arith) _ (b .bits .inv .2) (c .bits-test .left))
 
 add-c-2 : tie.Need-add-c-2 Inv-bits μ-bits Inv-row μ-row Inv-scan μ-scan
 add-c-2 c = omega arith
@@ -127,8 +127,8 @@ scan-again-2 : tie.Need-scan-again-2 Inv-bits μ-bits Inv-row μ-row Inv-scan μ
 scan-again-2 c = let r = c .before .before in
     let a = r .before .before in
     let e = r .row .inv .0 in
-    let i : r .row .i ≡ a .before .before .before .args .width = omega arith in
-    none-more _ _ _ _ _ (rw (← e) at (a .scan .inv)) (row-none _ _ _ _ _ _ i (r .row .inv .2) (λ k. omega (arith, c .if3 .left)))
+    let i : r .row .i ≡ a .before .before .before .args .used = omega arith in
+    none-more _ _ _ _ _ (rw (← e) at (a .scan .inv)) (row-none _ _ _ _ _ _ _ i (r .row .inv .2) (λ k. omega (arith, c .if3 .left)))
 
 returns : tie.Need-returns Inv-bits μ-bits Inv-row μ-row Inv-scan μ-scan
 returns c = none-all _ _ _ _ _ _ (c .if1 .taken) (c .before .scan .inv)
@@ -137,9 +137,9 @@ returns-2 : tie.Need-returns-2 Inv-bits μ-bits Inv-row μ-row Inv-scan μ-scan
 returns-2 c = let r = c .before .before in
     let s = r .before .before .before .before .before in
     let W = s .args .width in
-    let i : r .row .i ≡ W = omega arith in
+    let i : r .row .i ≡ s .args .used = omega arith in
     let (p, q) = and-eq-true-iff (lent W (s .args .words .now) (r .row .c) (r .row .at)) (lent W (s .args .erased .now) 0 (r .row .at)) .0 (r .row .inv .2 .here (c .if3 .taken)) in
-    record { check = omega arith; bit = c .if3 .taken; has = p; gone = q; only = row-one _ _ _ _ _ _ i (r .row .inv .2) (c .if3 .taken) }
+    record { check = omega arith; bit = c .if3 .taken; has = p; gone = q; only = row-one _ _ _ _ _ _ _ i (r .row .inv .2) (c .if3 .taken) }
 
 pub next-single-spec : {M : Type 1} → statement M
 next-single-spec =

@@ -10,6 +10,7 @@ ghost use mathlib.Core.Path.{_≡_};
 ghost use Prim.Native.Nat.{_*_, _<_, _≤_};
 ghost use lib.ListN.{length};
 ghost use Rattle.parity.specs.Matrix.{lent};
+ghost use Rattle.steps.specs.Next.{NextSingle};
 ghost use Rattle.steps.specs.Steps.{Solved, Settled, Short};
 
 // Bit `b`, the one erased bit of check `c`, becomes the sum modulo 2 of the check's ones.
@@ -25,6 +26,17 @@ fn solve(words: &[u64], c: Check, b: Bit, erased: &mut [u64], ones: &mut [u64])
     }
 }
 
+// The next check to solve: where all words are in use, their number is known beforehand, and the search is quicker.
+fn next_in(words: &[u64], used: usize, checks: usize, from: Check, erased: &[u64]) -> Single
+    requires { ⌜ (length (now words) ≡ 4096) × (checks ≤ 512) × (length (now erased) ≡ 8) × (used ≤ 8) ⌝ }
+    ensures { λ r. ⌜ NextSingle (lent 8 (now (words .entry))) (used * 64) checks (from .0) (lent 8 (now (erased .entry)) 0) r ⌝ }
+{
+    if used == 8 {
+        return next_single(words, 8, 8, checks, from, erased);
+    }
+    next_single(words, 8, used, checks, from, erased)
+}
+
 // Solves checks as long as one of the first `checks` has exactly one erased bit; these are in the first `used` words. The search resumes behind the check found, and ends after
 // a whole pass that found none.
 pub fn settle(words: &[u64], used: usize, checks: usize, erased: &mut [u64], ones: &mut [u64])
@@ -33,7 +45,7 @@ pub fn settle(words: &[u64], used: usize, checks: usize, erased: &mut [u64], one
 {
     let mut from = Check(0);
     loop {
-        let single = next_single(words, 8, used, checks, from, erased);
+        let single = next_in(words, used, checks, from, erased);
         match single {
             Single::Found(c, b) => {
                 solve(words, c, b, erased, ones);

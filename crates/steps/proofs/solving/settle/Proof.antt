@@ -28,9 +28,9 @@ loop-holds : tie.Need-loop-holds Inv-loop μ-loop
 loop-holds c = let s = c .before .before .before in
     (s .pre .2, s .pre .3, start, s .pre .5)
 
-next-single-requires : tie.Need-next-single-requires Inv-loop μ-loop
-next-single-requires c κs = let s = c .before .before .before .before .before in
-    (omega arith, s .pre .1, omega (arith, c .before .loop .inv .0), omega arith, s .pre .4)
+next-in-requires : tie.Need-next-in-requires Inv-loop μ-loop
+next-in-requires c κs = let s = c .before .before .before .before .before in
+    (s .pre .0, s .pre .1, c .before .loop .inv .0, s .pre .4)
 
 enum-known-single : tie.Need-enum-known-single Inv-loop μ-loop
 enum-known-single c = search needs
@@ -39,28 +39,28 @@ solve-requires : tie.Need-solve-requires Inv-loop μ-loop
 solve-requires c κs = let s = c .before .before .before .before .before .before .before .before .before .before .before in
     let l = c .before .before .before .before .before .before .before .loop in
     let g = c .before .before .before in
-    let L = rw (g .single .given .1) at (next-wider (lent 8 (s .args .words .now)) (s .args .used * 64) 512 (s .args .checks) (l .from .0) (lent 8 (l .erased) 0) (g .before .before .next-single .result) (omega (arith, s .pre .4)) (l .inv .3) (g .before .before .next-single .ensures)) in
+    let L = rw (g .single .given .1) at (next-wider (lent 8 (s .args .words .now)) (s .args .used * 64) 512 (s .args .checks) (l .from .0) (lent 8 (l .erased) 0) (g .before .before .next-in .result) (omega (arith, s .pre .4)) (l .inv .3) (g .before .before .next-in .ensures)) in
     (s .pre .0, omega (arith, L .check, s .pre .1), L .bit, l .inv .0, l .inv .1)
 
 add-t17 : tie.Need-add-t17 Inv-loop μ-loop
 add-t17 c = let g = c .before .before .before .before .before .before .before .before .before in
     let s = g .before .before .before .before .before .before .before .before in
     let l = g .before .before .before .before .loop in
-    let L = rw (g .single .given .1) at (next-wider (lent 8 (s .args .words .now)) (s .args .used * 64) 512 (s .args .checks) (l .from .0) (lent 8 (l .erased) 0) (g .before .before .next-single .result) (omega (arith, s .pre .4)) (l .inv .3) (g .before .before .next-single .ensures)) in
+    let L = rw (g .single .given .1) at (next-wider (lent 8 (s .args .words .now)) (s .args .used * 64) 512 (s .args .checks) (l .from .0) (lent 8 (l .erased) 0) (g .before .before .next-in .result) (omega (arith, s .pre .4)) (l .inv .3) (g .before .before .next-in .ensures)) in
     omega (arith, L .check, s .pre .1)
 
 loop-less : tie.Need-loop-less Inv-loop μ-loop
 loop-less c = let g = c .before .before .before .before .before .before .before .before .before in
     let s = g .before .before .before .before .before .before .before .before in
     let l = g .before .before .before .before .loop in
-    let L = rw (g .single .given .1) at (next-wider (lent 8 (s .args .words .now)) (s .args .used * 64) 512 (s .args .checks) (l .from .0) (lent 8 (l .erased) 0) (g .before .before .next-single .result) (omega (arith, s .pre .4)) (l .inv .3) (g .before .before .next-single .ensures)) in
+    let L = rw (g .single .given .1) at (next-wider (lent 8 (s .args .words .now)) (s .args .used * 64) 512 (s .args .checks) (l .from .0) (lent 8 (l .erased) 0) (g .before .before .next-in .result) (omega (arith, s .pre .4)) (l .inv .3) (g .before .before .next-in .ensures)) in
     less-work _ _ (ltb 0 (g .single .given .0 .0 .0 + 1)) (ltb 0 (g .before .before .before .before .loop .from .0)) (fewer _ _ _ _ _ _ _ _ _ L (c .before .before .before .before .before .solve .ensures))
 
 loop-again : tie.Need-loop-again Inv-loop μ-loop
 loop-again c = let g = c .before .before .before .before .before .before .before .before .before in
     let s = g .before .before .before .before .before .before .before .before in
     let l = g .before .before .before .before .loop in
-    let L = rw (g .single .given .1) at (next-wider (lent 8 (s .args .words .now)) (s .args .used * 64) 512 (s .args .checks) (l .from .0) (lent 8 (l .erased) 0) (g .before .before .next-single .result) (omega (arith, s .pre .4)) (l .inv .3) (g .before .before .next-single .ensures)) in
+    let L = rw (g .single .given .1) at (next-wider (lent 8 (s .args .words .now)) (s .args .used * 64) 512 (s .args .checks) (l .from .0) (lent 8 (l .erased) 0) (g .before .before .next-in .result) (omega (arith, s .pre .4)) (l .inv .3) (g .before .before .next-in .ensures)) in
     let v = c .before .before .before .before .before in
     (v .solve .kept .1 .1 .1 .0 ∙ l .inv .0, v .solve .kept .1 .1 .1 .1 .0 ∙ l .inv .1, next (l .inv .2) _ _ L (v .solve .ensures), short-solved _ _ _ _ _ _ _ _ _ (l .inv .3) (v .solve .ensures))
 
@@ -86,7 +86,7 @@ same-length-2 c = let l = c .before .before .before .before .before .before in
 returns : tie.Need-returns Inv-loop μ-loop
 returns c = let l = c .before .before .before .before .before .before in
     let s = l .before .before .before .before in
-    let N = rw (c .before .before .enum-told .given .1) at (next-wider (lent 8 (s .args .words .now)) (s .args .used * 64) 512 (s .args .checks) (l .loop .from .0) (lent 8 (l .loop .erased) 0) (c .before .before .before .before .next-single .result) (omega (arith, s .pre .4)) (l .loop .inv .3) (c .before .before .before .before .next-single .ensures)) in
+    let N = rw (c .before .before .enum-told .given .1) at (next-wider (lent 8 (s .args .words .now)) (s .args .used * 64) 512 (s .args .checks) (l .loop .from .0) (lent 8 (l .loop .erased) 0) (c .before .before .before .before .next-in .result) (omega (arith, s .pre .4)) (l .loop .inv .3) (c .before .before .before .before .next-in .ensures)) in
     record { reached = l .loop .inv .2; over = rw (c .if1 .taken) at N }
 
 pub settle-spec : {M : Type 1} → statement M
@@ -96,7 +96,7 @@ settle-spec =
     Inv-loop
     μ-loop
     loop-holds
-    next-single-requires
+    next-in-requires
     enum-known-single
     solve-requires
     add-t17

@@ -39,7 +39,7 @@ settle-requires c κs =
     let z = c .before .before .before in
     let s = z .before .before .before .before .before .before .before .before in
     let S = set-short 8 (s .args .word .now) 2 _ (z .before .before .before .before .set-of .ensures) in
-    (s .pre .0, s .pre .1, search needs, search needs, omega (arith, u .1, s .pre .3), record { none = λ b l. S .none b (omega (arith, u .0, s .pre .2)) })
+    (s .pre .0, omega (arith, s .pre .1), search needs, search needs, omega (arith, u .1, s .pre .3), record { none = λ b l. S .none b (omega (arith, u .0, s .pre .2)) })
 
 slice-aggregate-finish : tie.Need-slice-aggregate-finish
 slice-aggregate-finish c = search needs

@@ -1,4 +1,5 @@
 -- Document 01, 'The words of demand 3': laws of lists of calls, and demand 3's proof. Assumes nothing.
+pub mod Built
 pub mod Chain
 pub mod Demand3
 pub mod Theorems

@@ -1,8 +1,10 @@
--- Document 01, 'Cycles and splits': laws of shares, the cycle count, splitting, the choice of the pair and orthogonalising. Assumes nothing.
+-- Document 01, 'Cycles and splits': laws of shares, the cycle count, splitting, taking back, the choice of the pair and orthogonalising. Assumes nothing.
 pub mod Pairs
 pub mod Common
 pub mod Split
 pub mod Cycles
+pub mod Back
+pub mod Undo
 pub mod Given
 pub mod Pick
 pub mod Orthogonal

@@ -6,8 +6,8 @@ use mathlib.Core.List.{List, [], _∷_, _++_}
 use lib.Dec.{eqb, ltb}
 use lib.ListN.{getD, length, drop}
 use Rattle.parity.specs.Finite.{one, any, least, listFrom}
-use Rattle.parity.specs.Matrix.{lent, pack, cause}
-use Rattle.parity.specs.Cycles.{share, cycles, splitOf, Orthogonalised, orthogonal}
+use Rattle.parity.specs.Matrix.{lent, pack, ruleA, cause}
+use Rattle.parity.specs.Cycles.{share, cycles, splitOf, takenBack, others, Orthogonalised, orthogonal}
 use Rattle.parity.specs.Words.{isOne, codeword, extended, stopping, peels, peeled, losses}
 use Rattle.parity.specs.Record.{Loaded, faulty, loaded, loading, written}
 use Rattle.parity.specs.Encoding.{rankOf, encoded}
@@ -85,6 +85,18 @@ splitReply ws n m k u v =
 
 unfoldable pub splitOutcome : List ℕ → ℕ → ℕ → ℕ → ℕ → ℕ → Outcome
 splitOutcome ws n m k u v = leaving ws (splitReply ws n m k u v) (pack 8 (splitOf (lent 8 ws) (n + k) (m + k) u v))
+
+-- take_back: takes back the newest added bit, n + k - 1, whose check is m + k - 1; answers the number s of other checks that contained it, and
+-- the new k
+unfoldable pub takeBackReply : List ℕ → ℕ → ℕ → ℕ → Reply
+takeBackReply ws n m k =
+    accepting ws n m k
+    (refuse (eqb k 0) (refusal 15 [])
+    (refuse (not (ruleA (takenBack (lent 8 ws) (n + (k - 1)) (m + (k - 1))) n m (k - 1))) (refusal 16 [])
+    (answer (others (lent 8 ws) (n + (k - 1)) (m + (k - 1)) ∷ (k - 1) ∷ []))))
+
+unfoldable pub takeBackOutcome : List ℕ → ℕ → ℕ → ℕ → Outcome
+takeBackOutcome ws n m k = leaving ws (takeBackReply ws n m k) (pack 8 (takenBack (lent 8 ws) (n + (k - 1)) (m + (k - 1))))
 
 -- orthogonalise: answers the number of splits, their sum and k, or is refused 9 with them; either way the matrix stands after the splits made
 abbrev pub orthogonalising : List ℕ → ℕ → ℕ → ℕ → Orthogonalised

@@ -1,11 +1,11 @@
--- Document 01, 'Causes and numbers': replies, and the number and values of each refusal. Assumes nothing.
+-- Document 01, 'Causes and numbers': replies, and the number and values of each refusal, those that document 02 adds among them. Assumes nothing.
 use Prim.Native.Nat.{ℕ}
 use mathlib.Core.Bool.{Bool, cond}
 use mathlib.Core.List.{List, [], _∷_}
 use lib.Dec.{eqb}
 use Rattle.parity.specs.Matrix.{cause}
 use Rattle.parity.specs.declared.Refusal.{Refusal}
-use Rattle.parity.specs.declared.Refusal.the-variants.{MatrixLength, OutOfRange, OneOutside, RuleABroken, FaultyWord, RecordTooShort, NotAPair, ShareBelowTwo, NoRoomToSplit, NoRoomLeft, WrongLength, WrongByte, Contradiction, AddedBits, ProgramInput}
+use Rattle.parity.specs.declared.Refusal.the-variants.{MatrixLength, OutOfRange, OneOutside, RuleABroken, FaultyWord, RecordTooShort, NotAPair, ShareBelowTwo, NoRoomToSplit, NoRoomLeft, WrongLength, WrongByte, Contradiction, AddedBits, ProgramInput, NothingToTakeBack, CannotTakeBack}
 
 -- What a call returns: 0 for an answer, or the cause's number; and the values that it carries, in document 01's order. Yes is 1, no is 0.
 pub record Reply : Type 0 where
@@ -35,6 +35,8 @@ refusalOf (WrongByte place) = refusal 11 (place ∷ [])
 refusalOf Contradiction = refusal 12 []
 refusalOf AddedBits = refusal 13 []
 refusalOf ProgramInput = refusal 14 []
+refusalOf NothingToTakeBack = refusal 15 []
+refusalOf CannotTakeBack = refusal 16 []
 
 -- The refusal where its cause holds, and else what comes after it in the order of the checks.
 abbrev pub refuse : Bool → Reply → Reply → Reply

@@ -1,6 +1,6 @@
--- Document 01, 'The words of demand 3': lists of calls, and demand 3 as one statement over what the calls answer and leave. Read Causes
--- (replies and outcomes) and Calls (what each call comes to) first. Assumes nothing.
-use Prim.Native.Nat.{ℕ, _+_, _≤_, _<_}
+-- Document 01, 'The words of demand 3', with document 02's taking back (M-101): lists of calls, and demand 3 as one statement over what the calls
+-- answer and leave. Read Causes (replies and outcomes) and Calls (what each call comes to) first. Assumes nothing.
+use Prim.Native.Nat.{ℕ, _+_, _-_, _≤_, _<_}
 use mathlib.Core.Path.{_≡_}
 use mathlib.Core.Logic.{_↔_}
 use mathlib.Core.Bool.{Bool, cond, _||_}
@@ -11,18 +11,20 @@ use Rattle.parity.specs.Finite.{listFrom}
 use Rattle.parity.specs.Matrix.{cause}
 use Rattle.parity.specs.Cycles.{pairs}
 use Rattle.parity.specs.Causes.{Reply, answer, Outcome}
-use Rattle.parity.specs.Calls.{byteOf, countReply, splitOutcome, orthogonaliseOutcome, verifyReply, extendOutcome, peelOutcome}
+use Rattle.parity.specs.Calls.{byteOf, countReply, splitOutcome, takeBackOutcome, orthogonaliseOutcome, verifyReply, extendOutcome, peelOutcome}
 
--- The list's calls are splits, of any two numbers, and orthogonalisings.
+-- The list's calls are splits, of any two numbers, orthogonalisings and takings back.
 pub data Call : Type 0 where
   splits : ℕ → ℕ → Call
   orthogonalises : Call
+  takes-back : Call
 
 -- the last call of a list, with its reply
 pub data Last : Type 0 where
   none : Last
   split-said : Reply → Last
   orthogonalise-said : Reply → Last
+  take-back-said : Reply → Last
 
 -- What stands after a list: the words as the last call left them, the k last answered, the carried sum, and the last call.
 pub record Stand : Type 0 where
@@ -31,12 +33,12 @@ pub record Stand : Type 0 where
   pub carried : ℕ
   pub last : Last
 
--- A split that is made adds s (s - 1) / 2 for the s in its answer, and answers k.
-unfoldable pub splitAdds : Reply → ℕ
-splitAdds r = cond (eqb (r .number) 0) (pairs (getD (r .values) 0 0)) 0
+-- A split and a taking back that are made answer s and k: the one adds s (s - 1) / 2 for its s, the other takes it off.
+unfoldable pub madeSum : Reply → ℕ
+madeSum r = cond (eqb (r .number) 0) (pairs (getD (r .values) 0 0)) 0
 
-unfoldable pub splitK : ℕ → Reply → ℕ
-splitK k r = cond (eqb (r .number) 0) (getD (r .values) 1 0) k
+unfoldable pub madeK : ℕ → Reply → ℕ
+madeK k r = cond (eqb (r .number) 0) (getD (r .values) 1 0) k
 
 -- An orthogonalise adds the sum in its answer, also when refused 9, and answers k in both. Every other refusal adds nothing.
 unfoldable pub orthogonaliseAdds : Reply → ℕ
@@ -49,10 +51,13 @@ orthogonaliseK k r = cond (eqb (r .number) 0 || eqb (r .number) 9) (getD (r .val
 unfoldable pub next : ℕ → ℕ → Stand → Call → Stand
 next n m s (splits u v) =
     let o = splitOutcome (s .words) n m (s .k) u v in
-    record { words = o .after; k = splitK (s .k) (o .reply); carried = s .carried + splitAdds (o .reply); last = split-said (o .reply) }
+    record { words = o .after; k = madeK (s .k) (o .reply); carried = s .carried + madeSum (o .reply); last = split-said (o .reply) }
 next n m s orthogonalises =
     let o = orthogonaliseOutcome (s .words) n m (s .k) in
     record { words = o .after; k = orthogonaliseK (s .k) (o .reply); carried = s .carried + orthogonaliseAdds (o .reply); last = orthogonalise-said (o .reply) }
+next n m s takes-back =
+    let o = takeBackOutcome (s .words) n m (s .k) in
+    record { words = o .after; k = madeK (s .k) (o .reply); carried = s .carried - madeSum (o .reply); last = take-back-said (o .reply) }
 
 -- the calls of a list, one after the other
 unfoldable pub runs : ℕ → ℕ → Stand → List Call → Stand
@@ -113,6 +118,8 @@ pub record Keeps (given : List ℕ) (n m : ℕ) (s : Stand) : Type 0 where
   pub counts-start : countReply given n m 0 ≡ answer (cycles-start ∷ [])
   pub counts-left : countReply (s .words) n m (s .k) ≡ answer (cycles-left ∷ [])
   pub falls : s .carried + cycles-left ≤ cycles-start
+  -- what a taking back takes off next is at most the carried sum, so that the difference of natural numbers in `next` is the true one
+  pub enough : madeSum (takeBackOutcome (s .words) n m (s .k) .reply) ≤ s .carried
   -- it keeps the code: each codeword begins exactly one extended codeword, which extending writes whatever its output held before,
   pub each-codeword : (x held : List ℕ) → Verifies given n m 0 x → length held ≡ n + s .k
       → BeginsOne given n m (s .words) (s .k) x (extendOutcome (s .words) n m (s .k) x held)

@@ -7,4 +7,5 @@ pub mod Record
 pub mod Encoding
 pub mod Causes
 pub mod Calls
+pub mod Promises
 pub mod Mend

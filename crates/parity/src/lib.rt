@@ -8,7 +8,7 @@ pub struct Bit(pub usize);
 // A check's number: given checks first, then added ones.
 pub struct Check(pub usize);
 
-// Why a call is refused: document 01's causes, in its order, each with the values that it returns.
+// Why a call is refused: document 01's causes, in its order, and those that document 02 adds, each with the values that it returns.
 pub enum Refusal {
     // 1: the matrix slice is not 4,096 words.
     MatrixLength,
@@ -40,9 +40,13 @@ pub enum Refusal {
     AddedBits,
     // 14: program input.
     ProgramInput,
+    // 15: k = 0, and a split was to be taken back.
+    NothingToTakeBack,
+    // 16: with the newest split taken back rule A would be broken.
+    CannotTakeBack,
 }
 
-// Document 01's number of a refusal.
+// The number of a refusal in the papers' table.
 pub fn number(r: Refusal) -> u64
     ensures { λ c. ⌜ c ≡ refusalOf r .number ⌝ }
 {
@@ -66,5 +70,7 @@ pub fn number(r: Refusal) -> u64
         Refusal::Contradiction => 12,
         Refusal::AddedBits => 13,
         Refusal::ProgramInput => 14,
+        Refusal::NothingToTakeBack => 15,
+        Refusal::CannotTakeBack => 16,
     }
 }

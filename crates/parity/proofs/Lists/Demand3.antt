@@ -27,7 +27,8 @@ use Rattle.parity.proofs.Words.Bytes.{Word, Codeword, take-word, take-e
 use Rattle.parity.proofs.Splits.Splitting.{counts}
 use Rattle.parity.proofs.Words.Verifying.{verified, verifies, extends, completes}
 use Rattle.parity.proofs.Words.Peeling.{Answered, left-is, erased-answered, recovers}
-use Rattle.parity.proofs.Lists.Chain.{Good, Stands, stands-start, stands-runs}
+use Rattle.parity.proofs.Lists.Built.{Good, good}
+use Rattle.parity.proofs.Lists.Chain.{Stands, stands-start, back-enough, stands-runs}
 
 -- a byte that is made 2 or left
 made-or-left : (e : Bool) (a : ℕ) → (cond e 2 a ≡ 2) ⊎ (cond e 2 a ≡ a)
@@ -81,7 +82,7 @@ module _ (given : List ℕ) (n m : ℕ) (A₀ : Accepted given n m 0) (s : Stand
   A = S .accepted
 
   G : Good g n m h k (s .carried)
-  G = S .good
+  G = good g n m (A₀ .sound) (S .built)
 
   given-codeword : (x : List ℕ) → Verifies given n m 0 x → Codeword g n m x
   given-codeword x v = rw (add-zero n, add-zero m) at (verifies given n m 0 A₀ x v)
@@ -188,6 +189,7 @@ module _ (given : List ℕ) (n m : ℕ) (A₀ : Accepted given n m 0) (s : Stand
     counts-start = rw (add-zero n, add-zero m) at (counts given n m 0 A₀);
     counts-left = counts (s .words) n m k A;
     falls = G .falls;
+    enough = back-enough given n m A₀ s S;
     each-codeword = λ x held v l. begin x (given-codeword x v) v held l;
     each-extended = λ z v.
         let D = verifies (s .words) n m k A z v in
@@ -201,7 +203,7 @@ module _ (given : List ℕ) (n m : ℕ) (A₀ : Accepted given n m 0) (s : Stand
 pub demand3 : Demand3
 demand3 given n m e cs =
     let A = accepts given n m 0 .0 e in
-    keeps given n m A (runs n m (start given) cs) (stands-runs given n m cs (start given) (stands-start given n m A))
+    keeps given n m A (runs n m (start given) cs) (stands-runs given n m A cs (start given) (stands-start given n m A))
 
 -- For users: orthogonalising a given matrix and then peeling with it recovers at least what peeling with the given matrix recovers.
 pub orthogonalise-then-peel : (given : List ℕ) (n m : ℕ) → cause given n m 0 ≡ 0 → (x : List ℕ) → Verifies given n m 0 x → (e : ℕ → Bool)

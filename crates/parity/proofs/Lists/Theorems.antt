@@ -27,6 +27,7 @@ use Rattle.parity.proofs.Encoding.Dependent.{inside-zero}
 use Rattle.parity.proofs.Words.Bytes.{take-word, take-stops}
 use Rattle.parity.proofs.Splits.Splitting.{orthogonalises, orthogonal-ends}
 use Rattle.parity.proofs.Words.Verifying.{list-stops, stops-list}
+use Rattle.parity.proofs.Lists.Built.{good}
 use Rattle.parity.proofs.Lists.Chain.{stands-start, stands-runs}
 
 -- Theorem 5: of the sets of added bits only the empty one is a stopping set.
@@ -64,11 +65,11 @@ pub theorem-6 : (given : List ℕ) (n m : ℕ) → cause given n m 0 ≡ 0 → (
 theorem-6 given n m a cs t e =
     let s = runs n m (start given) cs in
     let A = accepts given n m 0 .0 a in
-    let S = stands-runs given n m cs (start given) (stands-start given n m A) in
+    let S = stands-runs given n m A cs (start given) (stands-start given n m A) in
     let (W, T) = stops-list (s .words) n m (s .k) (S .accepted) t e in
     list-stops given n m 0 A (take n t)
     (rw (add-zero n) (take-word n (n + s .k) 1 t W (omega arith)))
-    (rw (add-zero n, add-zero m) (take-stops n (n + s .k) 1 t W (omega arith) (lent 8 given) m (S .good .stops (isOne (byteOf t)) T)))
+    (rw (add-zero n, add-zero m) (take-stops n (n + s .k) 1 t W (omega arith) (lent 8 given) m (good (lent 8 given) n m (A .sound) (S .built) .stops (isOne (byteOf t)) T)))
 
 -- After some splits with some sum: each took a four-cycle at least, and what is left was there.
 pub record Counted (n m k₀ total₀ : ℕ) (h : Matrix) (k splits total : ℕ) : Type 0 where

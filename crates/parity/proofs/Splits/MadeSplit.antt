@@ -1,8 +1,8 @@
--- What a made split does to counting, verifying and testing sets, as these calls answer. Assumes nothing.
+-- What a made split does to counting, taking back, verifying and testing sets, as these calls answer. Assumes nothing.
 use mathlib.Core.Path.{_≡_, _∙_}
 use mathlib.Core.Bool.{false, xor}
 use mathlib.Core.List.{List, [], _∷_, _++_}
-use Prim.Native.Nat.{ℕ, suc, _+_, _≤_, _<_}
+use Prim.Native.Nat.{ℕ, suc, _+_, _-_, _≤_, _<_}
 use native.Mathlib.Nat.{add-suc}
 use native.Mathlib.Omega.{arith}
 use native.Mathlib.Decide.{ℕ-discrete}
@@ -10,17 +10,18 @@ use lib.ListN.{take, length-append, List·getD-append}
 use lib.Seq.{getD-at}
 use Rattle.parity.specs.Finite.{one}
 use Rattle.parity.specs.Matrix.{Matrix, lent, pack}
-use Rattle.parity.specs.Cycles.{share, pairs, cycles, splitOf}
+use Rattle.parity.specs.Cycles.{share, pairs, cycles, splitOf, takenBack}
 use Rattle.parity.specs.Words.{isOne}
 use Rattle.parity.specs.Causes.{answer}
-use Rattle.parity.specs.Calls.{byteOf, notPair, countReply, verifyReply, isStoppingReply}
+use Rattle.parity.specs.Calls.{byteOf, notPair, countReply, takeBackOutcome, verifyReply, isStoppingReply}
 use Rattle.parity.proofs.Finite.Sums.{one≤1, eqb-one}
 use Rattle.parity.proofs.Splits.Split.{Stops, split-even, split-stops}
 use Rattle.parity.proofs.Splits.Cycles.{split-cycles}
-use Rattle.parity.proofs.Matrix.Accept.{Accepted}
+use Rattle.parity.proofs.Splits.Back.{split-back, split-others}
+use Rattle.parity.proofs.Matrix.Accept.{Accepted, pack-words}
 use Rattle.parity.proofs.Words.Extend.{inside-cong}
 use Rattle.parity.proofs.Words.Bytes.{Word, Codeword, take-word, take-even, take-stops}
-use Rattle.parity.proofs.Splits.Splitting.{is-pair, counts, split-accepted, split-lent}
+use Rattle.parity.proofs.Splits.Splitting.{is-pair, counts, split-accepted, split-lent, back-made}
 use Rattle.parity.proofs.Words.Verifying.{verified, verifies, list-stops, stops-list}
 
 module _ (ws : List ℕ) (n m k : ℕ) (A : Accepted ws n m k) (u v : ℕ) (p : notPair (n + k) u v ≡ false) (s : 2 ≤ share (lent 8 ws) (m + k) u v) (l : k ≡ 392 → ⊥) where
@@ -32,6 +33,16 @@ module _ (ws : List ℕ) (n m k : ℕ) (A : Accepted ws n m k) (u v : ℕ) (p : 
 
   g-lent : lent 8 (pack 8 g) ≡ g
   g-lent = split-lent ws n m k A u v p s l
+
+  -- taking back gives the same words and k, and the same s
+  pub made-taken-back : takeBackOutcome (pack 8 g) n m (suc k) ≡ record { reply = answer (share (lent 8 ws) (m + k) u v ∷ k ∷ []); after = ws }
+  made-taken-back =
+      let (un, vn, uv) = is-pair (n + k) u v p in
+      let e : suc k - 1 ≡ k = omega arith in
+      let b : takenBack (lent 8 (pack 8 g)) (n + (suc k - 1)) (m + (suc k - 1)) ≡ lent 8 ws =
+      rw (e, g-lent) (split-back (lent 8 ws) (n + k) (m + k) u v un vn (A .sound .clean)) in
+      back-made (pack 8 g) n m (suc k) B (λ q. omega arith) (rw (b, e) (A .sound .rule))
+      ∙ rw (b, e, g-lent, split-others (lent 8 ws) (n + k) (m + k) u v un vn, pack-words ws n m k A)
 
   -- the cycle count after it plus s (s - 1) / 2 is at most that before
   pub split-counts : countReply (pack 8 g) n m (suc k) ≡ answer (cycles g (suc (n + k)) (suc (m + k)) ∷ [])

@@ -1,16 +1,16 @@
--- What counting and the calls that split answer and leave: the splits made, and the causes that refuse. Assumes nothing.
+-- What counting and the calls that split or take back answer and leave: the splits made and taken back, and the causes that refuse. Assumes nothing.
 use mathlib.Core.Path.{_≡_, sym, ap, _∙_}
 use mathlib.Core.Bool.{true, false, not, _&&_, and-eq-true-iff}
 use mathlib.Core.List.{List, [], _∷_}
-use Prim.Native.Nat.{ℕ, suc, _+_, _≤_, _<_, _^_}
+use Prim.Native.Nat.{ℕ, suc, _+_, _-_, _≤_, _<_, _^_}
 use native.Mathlib.Omega.{arith}
 use lib.Dec.{eqb, ltb, lit<}
 use lib.ListN.{getD, length}
 use borrow.Author.Tests.{eq-eqb, ne-eqb, eqb-false, le-ltb, ltb-true, not-false, lt-ltb}
-use Rattle.parity.specs.Matrix.{Matrix, lent, pack, cause}
-use Rattle.parity.specs.Cycles.{share, cycles, splitOf, Orthogonalised}
+use Rattle.parity.specs.Matrix.{Matrix, lent, pack, ruleA, cause}
+use Rattle.parity.specs.Cycles.{share, cycles, splitOf, takenBack, others, Orthogonalised}
 use Rattle.parity.specs.Causes.{Reply, answer, refusal, refusalOf}
-use Rattle.parity.specs.Calls.{notPair, countReply, splitReply, splitOutcome, orthogonalisedReply, orthogonaliseOutcome, acceptReply, orthogonalising}
+use Rattle.parity.specs.Calls.{notPair, countReply, splitReply, splitOutcome, takeBackReply, takeBackOutcome, orthogonalisedReply, orthogonaliseOutcome, acceptReply, orthogonalising}
 use Rattle.parity.proofs.Finite.Bools.{or-false-both}
 use Rattle.parity.proofs.Matrix.Packing.{pack-lent}
 use Rattle.parity.proofs.Matrix.Sound.{Sound, split-sound}
@@ -62,6 +62,24 @@ module _ (ws : List ℕ) (n m k : ℕ) (A : Accepted ws n m k) where
     pub split-lent : lent 8 (pack 8 (splitOf h N M u v)) ≡ splitOf h N M u v
     split-lent = pack-same (splitOf h N M u v) n m (suc k) split-keeps
 
+  -- A taking back that is made: its answer, and its words.
+  abbrev t : Matrix
+  t = takenBack h (n + (k - 1)) (m + (k - 1))
+
+  pub back-made : (k ≡ 0 → ⊥) → ruleA t n m (k - 1) ≡ true
+      → takeBackOutcome ws n m k ≡ record { reply = answer (others h (n + (k - 1)) (m + (k - 1)) ∷ (k - 1) ∷ []); after = pack 8 t }
+  unfolding takeBackOutcome takeBackReply
+  back-made d r = rw (passes ws n m k A, ne-eqb k 0 d, r)
+
+  -- Causes 15 and 16 leave the words.
+  pub back-none : k ≡ 0 → takeBackOutcome ws n m k ≡ record { reply = refusal 15 []; after = ws }
+  unfolding takeBackOutcome takeBackReply
+  back-none e = rw (passes ws n m k A, eq-eqb k 0 e)
+
+  pub back-broken : (k ≡ 0 → ⊥) → ruleA t n m (k - 1) ≡ false → takeBackOutcome ws n m k ≡ record { reply = refusal 16 []; after = ws }
+  unfolding takeBackOutcome takeBackReply
+  back-broken d e = rw (passes ws n m k A, ne-eqb k 0 d, e)
+
   -- Orthogonalising: its reply, and its words, which are accepted and hold the matrix that it came to.
   abbrev o : Orthogonalised
   o = orthogonalising ws n m k
@@ -98,6 +116,10 @@ module _ (ws : List ℕ) (n m k : ℕ) where
     pub split-refused : (u v : ℕ) → splitOutcome ws n m k u v ≡ record { reply = refusalOf r; after = ws }
     unfolding splitOutcome splitReply
     split-refused u v = rw (accepting-refuses ws n m k _ refused-cause, ne-eqb (cause ws n m k) 0 refused-cause, ← refused-reply)
+
+    pub back-refused : takeBackOutcome ws n m k ≡ record { reply = refusalOf r; after = ws }
+    unfolding takeBackOutcome takeBackReply
+    back-refused = rw (accepting-refuses ws n m k _ refused-cause, ne-eqb (cause ws n m k) 0 refused-cause, ← refused-reply)
 
     pub orthogonalise-refused : orthogonaliseOutcome ws n m k ≡ record { reply = refusalOf r; after = ws }
     unfolding orthogonaliseOutcome

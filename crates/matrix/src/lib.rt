@@ -1,6 +1,6 @@
 // Acceptance of a lent matrix, by causes 1 to 4.
 mod outside;
-mod rule;
+pub mod rule;
 
 use crate::outside::is_clean;
 use crate::rule::rule_a;

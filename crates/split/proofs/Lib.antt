@@ -1,3 +1,2 @@
-pub mod Common
-pub mod Exchange
 pub mod Turns
+pub mod ReadBack

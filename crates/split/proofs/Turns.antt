@@ -6,27 +6,37 @@ use Prim.Native.Nat.{ℕ, zero, suc, _+_, _*_, _-_, _/_, _≤_, _<_}
 use native.Mathlib.Numerals.{add-one}
 use native.Mathlib.Omega.{arith}
 use native.Mathlib.Decide.{decLe, decLt}
-use borrow.Author.Tests.{lt-ltb, le-ltb}
+use borrow.Author.Tests.{lt-ltb, le-ltb, eq-eqb}
 use Rattle.parity.specs.Matrix.{Matrix}
 use Rattle.parity.specs.Cycles.{share, pairs, splitOf, largestShare, lowerBit, higherBit, orthogonal}
 use Rattle.parity.specs.Calls.{orthogonalisedReply}
 use Rattle.parity.proofs.Finite.Sums.{count-cong, count-end}
 use Rattle.parity.proofs.Splits.Pairs.{pairs-suc}
 use Rattle.parity.proofs.Splits.Split.{at-new-bit}
+use Rattle.parity.proofs.Matrix.Clean.{Clean}
 use Rattle.parity.proofs.Matrix.Rule.{at-le}
 use Rattle.parity.proofs.Matrix.Sound.{Sound, split-sound}
 use Rattle.parity.proofs.Splits.Pick.{Chosen, picked, chosen-only}
 use Rattle.parity.proofs.Splits.Given.{apart, given, given-too}
 use Rattle.parity.proofs.Splits.Orthogonal.{finishes, stops-full, repeats}
 use Rattle.rows.specs.Rows.{Columns}
-use Rattle.choice.specs.Given.{together, Parted, Given}
+use Rattle.choice.specs.Given.{together, parted, Parted, Given}
 use Rattle.choice.specs.Bounds.{Bounded, Head, Picked, NoPair, Narrow, Raised, Weights}
 use Rattle.choice.proofs.Columns.{together-le, together-top, together-none, parted-columns}
 use Rattle.choice.proofs.RowBounds.{bounded-split, raised-head, weights-bound, weights-head}
 use Rattle.split.specs.Answers.{courseReply}
-use Rattle.split.specs.Merge.{Apart}
+use Rattle.exchange.specs.Merge.{Apart, Both}
 use Rattle.split.specs.Turns.{Meet, Ended}
-use Rattle.split.proofs.Common.{columns-meet}
+use Rattle.exchange.proofs.Common.{twice}
+
+-- the columns of the given checks meet in the checks that contain both bits
+columns-meet : (h : Matrix) (m M z u v : ℕ) → Clean h z M → Apart h m M u v → (g : Matrix) → Columns m h g → Meet h g u v
+columns-meet h m M z u v K A g C = record { at = λ c. rw (C .at u c, C .at v c) (twice h m M z u v K A c) }
+
+-- the column of the new bit
+pub both-parted : (h g g' : Matrix) (u v z : ℕ) → Meet h g u v → Parted g g' u v z → Both h u v (g' z)
+unfolding parted
+both-parted h g g' u v z T P = record { at = λ c. P .at z c ∙ rw (eq-eqb z z refl) (T .at c) }
 
 -- the columns of two words count the shares over the given checks
 pub together-share : (m : ℕ) (h g : Matrix) → Columns m h g → m ≤ 128 → (x y : ℕ) → together 2 g x y ≡ share h m x y

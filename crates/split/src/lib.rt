@@ -1,24 +1,32 @@
-// A split of two bits, and orthogonalising.
-mod merge;
+// A split of two bits, taking it back, and orthogonalising.
 mod orthogonal;
 
-use crate::merge::split_pair;
 use crate::orthogonal::Course;
 use crate::orthogonal::repeat;
 use cycles::pairs::is_pair;
 use cycles::pairs::share_of;
+use exchange::back::back_pair;
+use exchange::merge::split_pair;
 use matrix::Accepting;
 use matrix::accept;
+use matrix::rule::rule_a;
 use parity::Bit;
 use parity::Check;
 use parity::Refusal;
+use rows::ones::next_one;
 ghost use mathlib.Core.Path.{_≡_};
 ghost use Rattle.parity.specs.Matrix.{cause};
-ghost use Rattle.parity.specs.Calls.{splitOutcome, orthogonaliseOutcome};
-ghost use Rattle.split.specs.Answers.{splittingReply, orthogonalisingReply, courseReply};
+ghost use Rattle.parity.specs.Calls.{splitOutcome, takeBackOutcome, orthogonaliseOutcome};
+ghost use Rattle.split.specs.Answers.{splittingReply, takingBackReply, orthogonalisingReply, courseReply};
 
 // What a split answers: the share of the two bits and the new k.
 pub enum Splitting {
+    Made { share: u64, k: usize },
+    Refused(Refusal),
+}
+
+// What taking back answers: the number s of other checks that contained the newest added bit, and the new k.
+pub enum TakingBack {
     Made { share: u64, k: usize },
     Refused(Refusal),
 }
@@ -61,6 +69,40 @@ pub fn split(words: &mut [u64], n: usize, m: usize, k: usize, u: Bit, v: Bit) ->
     match accept(words, n, m, k) {
         Accepting::Refused(r) => Splitting::Refused(r),
         Accepting::Accepted => split_accepted(words, n, m, k, u, v),
+    }
+}
+
+// Taking back on an accepted matrix, behind causes 15 and 16. Where rule A would break, the split is made again: that gives the words as they were.
+fn back_accepted(words: &mut [u64], n: usize, m: usize, k: usize) -> TakingBack
+    requires { ⌜ cause (now words) n m k ≡ 0 ⌝ }
+    ensures { λ r. ⌜ takingBackReply r ≡ takeBackOutcome (now (words .entry)) n m k .reply ⌝ }
+    ensures { λ r. ⌜ now (words .exit) ≡ takeBackOutcome (now (words .entry)) n m k .after ⌝ }
+{
+    if k == 0 {
+        return TakingBack::Refused(Refusal::NothingToTakeBack);
+    }
+    let next = k - 1;
+    let z = n + next;
+    let c = m + next;
+    let u = next_one(words, Check(c), 0);
+    let v = next_one(words, Check(c), u + 1);
+    let share = back_pair(words, m, Check(c), Bit(u), Bit(v), Bit(z));
+    if rule_a(words, n, m, next) {
+        return TakingBack::Made { share, k: next };
+    }
+    split_pair(words, m, Check(c), Bit(u), Bit(v), Bit(z));
+    TakingBack::Refused(Refusal::CannotTakeBack)
+}
+
+// Takes back the newest added bit n + k - 1: it and its check are removed, and in every other check that contains it the two lower bits of
+// its own check are put in its place. Refused by causes 1 to 4, 15 and 16.
+pub fn take_back(words: &mut [u64], n: usize, m: usize, k: usize) -> TakingBack
+    ensures { λ r. ⌜ takingBackReply r ≡ takeBackOutcome (now (words .entry)) n m k .reply ⌝ }
+    ensures { λ r. ⌜ now (words .exit) ≡ takeBackOutcome (now (words .entry)) n m k .after ⌝ }
+{
+    match accept(words, n, m, k) {
+        Accepting::Refused(r) => TakingBack::Refused(r),
+        Accepting::Accepted => back_accepted(words, n, m, k),
     }
 }
 

@@ -1,15 +1,15 @@
 // Orthogonalising an accepted matrix.
-use crate::merge::merge;
 use choice::bounds::Choice;
 use choice::bounds::pick;
 use choice::bounds::weights;
 use choice::bounds::widen;
 use choice::given::columns;
 use choice::given::part;
+use exchange::merge::merge;
 use parity::Bit;
 use parity::Check;
 ghost use mathlib.Core.Path.{_≡_};
-ghost use Prim.Native.Nat.{_≤_, _<_};
+ghost use Prim.Native.Nat.{_<_};
 ghost use lib.ListN.{length};
 ghost use Rattle.parity.specs.Matrix.{lent};
 ghost use Rattle.parity.proofs.Matrix.Clean.{Clean};

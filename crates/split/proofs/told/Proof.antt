@@ -1,5 +1,4 @@
 -- `told` meets its contract. Assumes nothing.
-use mathlib.Core.Path.{refl}
 use Rattle.split.proofs.told.Statement.{statement}
 use Rattle.split.proofs.told.Tie as tie
 

@@ -10,15 +10,13 @@ use lib.Bits.{bitAnd}
 use lib.Dec.{ltb, lit<}
 use lib.ListN.{getD, length, set, length-set}
 use lib.Seq.{getD-set-same, getD-set-other}
-use borrow.Author.Tests.{lt-ltb, le-ltb, eq-eqb}
+use borrow.Author.Tests.{lt-ltb, le-ltb}
 use Rattle.parity.specs.Matrix.{Matrix, lent}
 use Rattle.parity.proofs.Matrix.Digits.{bit-and}
 use Rattle.parity.proofs.Matrix.Lent.{lent-in, lent-out}
 use Rattle.parity.proofs.Matrix.Clean.{Clean}
-use Rattle.rows.specs.Rows.{Column, Columns}
-use Rattle.choice.specs.Given.{parted, Parted}
-use Rattle.split.specs.Merge.{Apart, Both, Kept}
-use Rattle.split.specs.Turns.{Meet}
+use Rattle.rows.specs.Rows.{Column}
+use Rattle.exchange.specs.Merge.{Apart, Both, Kept}
 
 -- the words below i are the and of both, and the others are left
 pub record Keeping (col other now : List ℕ) (i : ℕ) : Type 0 where
@@ -59,7 +57,7 @@ module _ (h : Matrix) (m M z u v : ℕ) (K : Clean h z M) (A : Apart h m M u v) 
         | no l ↦ rw (le-ltb c m (omega arith)) (elim (decLt c M) [ yes k ↦ sym (A .never c (omega arith) k) | no k ↦ rw (K .checks c u (omega arith)) ])
       ]
 
-  twice : (c : ℕ) → ((ltb c m && h c u) && (ltb c m && h c v)) ≡ (h c u && h c v)
+  pub twice : (c : ℕ) → ((ltb c m && h c u) && (ltb c m && h c v)) ≡ (h c u && h c v)
   twice c = go (ltb c m) (h c u) (h c v) ∙ given-both c
     where
       go : (p a b : Bool) → ((p && a) && (p && b)) ≡ (p && (a && b))
@@ -73,11 +71,3 @@ module _ (h : Matrix) (m M z u v : ℕ) (K : Clean h z M) (A : Apart h m M u v) 
       | no l ↦ rw (lent-out 8 a 0 c (omega arith), K .checks c u (omega arith))
     ];
   }
-
-  pub columns-meet : (g : Matrix) → Columns m h g → Meet h g u v
-  columns-meet g C = record { at = λ c. rw (C .at u c, C .at v c) (twice c) }
-
--- the column of the new bit
-pub both-parted : (h g g' : Matrix) (u v z : ℕ) → Meet h g u v → Parted g g' u v z → Both h u v (g' z)
-unfolding parted
-both-parted h g g' u v z T P = record { at = λ c. P .at z c ∙ rw (eq-eqb z z refl) (T .at c) }

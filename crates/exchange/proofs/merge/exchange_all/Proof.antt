@@ -1,13 +1,13 @@
 -- `exchange_all` meets its contract. Assumes nothing.
 use mathlib.Core.Path.{_≡_, sym, _∙_}
-use Prim.Native.Nat.{_+_, _*_, _-_, _≤_}
+use Prim.Native.Nat.{_-_, _≤_}
 use native.Mathlib.Omega.{arith}
 use lib.ListN.{length}
 use Rattle.parity.specs.Matrix.{lent}
-use Rattle.split.specs.Merge.{ExchangedTo}
-use Rattle.split.proofs.Exchange.{exchanged-none, exchanged-next, exchanged-all}
-use Rattle.split.proofs.merge.exchange_all.Statement.{statement}
-use Rattle.split.proofs.merge.exchange_all.Tie as tie
+use Rattle.exchange.specs.Merge.{ExchangedTo}
+use Rattle.exchange.proofs.Exchange.{exchanged-none, exchanged-next, exchanged-all}
+use Rattle.exchange.proofs.merge.exchange_all.Statement.{statement}
+use Rattle.exchange.proofs.merge.exchange_all.Tie as tie
 
 abbrev Inv-loop : tie.InvT-loop
 Inv-loop words₀ u v z cols width row i₀ words i =

@@ -3,9 +3,9 @@ use Prim.Native.Nat.{_-_, _≤_}
 use mathlib.Core.Path.{_≡_}
 use native.Mathlib.Omega.{arith}
 use lib.ListN.{length}
-use Rattle.split.proofs.Common.{Keeping, keeping-none, keeping-next, keeping-all}
-use Rattle.split.proofs.merge.keep.Statement.{statement}
-use Rattle.split.proofs.merge.keep.Tie as tie
+use Rattle.exchange.proofs.Common.{Keeping, keeping-none, keeping-next, keeping-all}
+use Rattle.exchange.proofs.merge.keep.Statement.{statement}
+use Rattle.exchange.proofs.merge.keep.Tie as tie
 
 abbrev Inv-loop : tie.InvT-loop
 Inv-loop col₀ other width i₀ col i = (i ≤ width) × Keeping col₀ other col i

@@ -1,0 +1,3 @@
+pub mod Common
+pub mod Exchange
+pub mod Restoring

@@ -2,7 +2,7 @@
 // that it carries at the front of `values`, as far as it reaches.
 use parity::Bit;
 ghost use mathlib.Core.Path.{_≡_};
-ghost use Rattle.parity.specs.Calls.{loadOutcome, writeOutcome, shareReply, countReply, splitOutcome, orthogonaliseOutcome, verifyReply, extendOutcome, isStoppingReply, peelOutcome, rankReply, encodeOutcome};
+ghost use Rattle.parity.specs.Calls.{loadOutcome, writeOutcome, shareReply, countReply, splitOutcome, takeBackOutcome, orthogonaliseOutcome, verifyReply, extendOutcome, isStoppingReply, peelOutcome, rankReply, encodeOutcome};
 ghost use Rattle.reply.specs.Passed.{Passed};
 
 // Carries n and m.
@@ -84,6 +84,23 @@ pub extern "C" fn parity_split(
 {
     let splitting = split::split(words, n, m, k, Bit(u), Bit(v));
     let numbered = reply::splitting(splitting);
+    reply::pass(numbered, values)
+}
+
+// Carries the number of other checks that contained the newest added bit, and the new k.
+#[no_mangle]
+pub extern "C" fn parity_take_back(
+    words: &mut [u64],
+    n: usize,
+    m: usize,
+    k: usize,
+    values: &mut [u64],
+) -> u32
+    ensures { λ r. ⌜ Passed (takeBackOutcome (now (words .entry)) n m k .reply) (now (values .entry)) (now (values .exit)) r ⌝ }
+    ensures { λ r. ⌜ now (words .exit) ≡ takeBackOutcome (now (words .entry)) n m k .after ⌝ }
+{
+    let taking = split::take_back(words, n, m, k);
+    let numbered = reply::taking_back(taking);
     reply::pass(numbered, values)
 }
 

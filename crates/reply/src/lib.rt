@@ -9,6 +9,7 @@ use record::Loading;
 use record::Writing;
 use split::Orthogonalising;
 use split::Splitting;
+use split::TakingBack;
 use word::Extending;
 use word::Stopping;
 use word::Verifying;
@@ -17,7 +18,7 @@ ghost use lib.ListN.{set};
 ghost use Rattle.parity.specs.Causes.{refusalOf};
 ghost use Rattle.record.specs.Answers.{loadingReply, writingReply};
 ghost use Rattle.cycles.specs.Answers.{sharingReply, countingReply};
-ghost use Rattle.split.specs.Answers.{splittingReply, orthogonalisingReply};
+ghost use Rattle.split.specs.Answers.{splittingReply, takingBackReply, orthogonalisingReply};
 ghost use Rattle.word.specs.Answers.{verifyingReply, stoppingReply};
 ghost use Rattle.word.specs.Answers.{extendingReply};
 ghost use Rattle.peel.specs.Answers.{peelingReply};
@@ -53,6 +54,8 @@ fn refused(why: Refusal) -> Numbered
         Refusal::Contradiction => Numbered::Alone(12),
         Refusal::AddedBits => Numbered::Alone(13),
         Refusal::ProgramInput => Numbered::Alone(14),
+        Refusal::NothingToTakeBack => Numbered::Alone(15),
+        Refusal::CannotTakeBack => Numbered::Alone(16),
     }
 }
 
@@ -103,6 +106,16 @@ pub fn splitting(answer: Splitting) -> Numbered
     match answer {
         Splitting::Made { share, k } => Numbered::Two(0, share, k as u64),
         Splitting::Refused(why) => refused(why),
+    }
+}
+
+// What taking back answers.
+pub fn taking_back(answer: TakingBack) -> Numbered
+    ensures { λ r. ⌜ numberedReply r ≡ takingBackReply answer ⌝ }
+{
+    match answer {
+        TakingBack::Made { share, k } => Numbered::Two(0, share, k as u64),
+        TakingBack::Refused(why) => refused(why),
     }
 }
 

@@ -1,11 +1,12 @@
-// Sharing, counting, splitting and orthogonalising on the bench's matrices A, C, E and L, and on a dense matrix that is refused 9; splits
-// at k = 391 and 392.
+// Sharing, counting, splitting, taking back and orthogonalising on the bench's matrices A, C, E and L, and on a dense matrix that is refused 9;
+// splits at k = 391 and 392; matrices that no splits made, taken back.
 use cycles::Counting;
 use cycles::Sharing;
 use parity::Bit;
 use parity::Check;
 use split::Orthogonalising;
 use split::Splitting;
+use split::TakingBack;
 ghost use mathlib.Core.Path.{_≡_};
 ghost use Prim.Native.Nat.{_≤_};
 ghost use lib.ListN.{length};
@@ -44,6 +45,23 @@ fn show_split(words: &mut [u64], n: usize, m: usize, k: usize, u: usize, v: usiz
         Splitting::Refused(r) => field(b"refused ", parity::number(r)),
     }
     end();
+}
+
+// Takes back, and answers whether that was made.
+fn show_take_back(words: &mut [u64], n: usize, m: usize, k: usize) -> bool {
+    match split::take_back(words, n, m, k) {
+        TakingBack::Made { share, k } => {
+            field(b"taken back, s ", share);
+            field(b", k ", k as u64);
+            end();
+            true
+        }
+        TakingBack::Refused(r) => {
+            field(b"refused ", parity::number(r));
+            end();
+            false
+        }
+    }
 }
 
 fn show_result(splits: u64, sum: u64, k: usize) {
@@ -129,6 +147,38 @@ fn case_e() {
     show_count(&words, 3, 2, k);
 }
 
+// E split by hand, 0 with 1 and then 2 with the new bit, looked at, and taken back to E.
+fn case_e_by_hand() {
+    io::write_all(1, b"E by hand\n");
+    let mut words = [0u64; 4096];
+    words[0] = 0b111;
+    words[8] = 0b111;
+    show_split(&mut words, 3, 2, 0, 0, 1);
+    show_split(&mut words, 3, 2, 1, 3, 2);
+    show_checks(&words);
+    show_count(&words, 3, 2, 2);
+    show_take_back(&mut words, 3, 2, 2);
+    show_checks(&words);
+    show_take_back(&mut words, 3, 2, 1);
+    show_checks(&words);
+    show_take_back(&mut words, 3, 2, 0);
+}
+
+// Accepted matrices that no splits made: {1,4} {0,1,3} {0,2,4} with m = 1 would break rule A; {0,1,2} with m = 0 would not.
+fn case_not_split() {
+    io::write_all(1, b"not split\n");
+    let mut words = [0u64; 4096];
+    words[0] = 0b10010;
+    words[8] = 0b1011;
+    words[16] = 0b10101;
+    show_take_back(&mut words, 3, 1, 2);
+    show_checks(&words);
+    let mut words = [0u64; 4096];
+    words[0] = 0b111;
+    show_take_back(&mut words, 2, 0, 1);
+    show_checks(&words);
+}
+
 // Check c of L contains (c + e) mod 23 for the eight e: the first, turned by c places.
 fn circulant(words: &mut [u64])
     requires { ⌜ length (now words) ≡ 4096 ⌝ }
@@ -159,8 +209,15 @@ fn case_l() {
     field(b"ones ", ones(&words, 23));
     end();
     show_count(&words, 23, 23, 0);
+    let before = words;
     let k = show_orthogonalise(&mut words, 23, 23);
     show_count(&words, 23, 23, k);
+    for i in 0..k {
+        if !show_take_back(&mut words, 23, 23, k - i) {
+            return;
+        }
+    }
+    show_whether_same(&words, &before);
 }
 
 // The next of a run of pseudo-random words.
@@ -218,16 +275,20 @@ fn is_same(a: &[u64], b: &[u64]) -> bool
     true
 }
 
+fn show_whether_same(words: &[u64; 4096], before: &[u64; 4096]) {
+    if is_same(words, before) {
+        io::write_all(1, b"words as they were\n");
+    } else {
+        io::write_all(1, b"words changed\n");
+    }
+}
+
 // The share, the split, and whether the words are afterwards as they were.
 fn show_split_and_words(words: &mut [u64; 4096], k: usize, u: usize, v: usize) {
     let before = *words;
     show_share(words, 120, 120, k, u, v);
     show_split(words, 120, 120, k, u, v);
-    if is_same(words, &before) {
-        io::write_all(1, b"words as they were\n");
-    } else {
-        io::write_all(1, b"words changed\n");
-    }
+    show_whether_same(words, &before);
 }
 
 // At k = 391 a split is made; at 392 it is refused.
@@ -244,6 +305,8 @@ fn main() {
     case_a();
     case_c();
     case_e();
+    case_e_by_hand();
+    case_not_split();
     case_l();
     case_dense();
     case_most();

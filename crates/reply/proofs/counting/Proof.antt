@@ -1,6 +1,6 @@
 -- `reply::counting` meets its contract. Assumes nothing.
 use borrow.Author.Needs.{needs}
-use mathlib.Core.Path.{sym, ap}
+use mathlib.Core.Path.{sym, ap, _∙_}
 use Rattle.cycles.specs.Answers.{countingReply}
 use Rattle.reply.proofs.counting.Statement.{statement}
 use Rattle.reply.proofs.counting.Tie as tie
@@ -18,7 +18,7 @@ returns : tie.Need-returns
 returns c = sym (ap countingReply (c .before .answer .given .1))
 
 returns-2 : tie.Need-returns-2
-returns-2 c = search needs
+returns-2 c = c .refused .ensures ∙ sym (ap countingReply (c .before .before .answer2 .given .1))
 
 pub counting-spec : {M : Type 1} → statement M
 counting-spec =

@@ -1,6 +1,6 @@
 -- `reply::loading` meets its contract. Assumes nothing.
 use borrow.Author.Needs.{needs}
-use mathlib.Core.Path.{sym, ap}
+use mathlib.Core.Path.{sym, ap, _∙_}
 use Rattle.record.specs.Answers.{loadingReply}
 use Rattle.reply.proofs.loading.Statement.{statement}
 use Rattle.reply.proofs.loading.Tie as tie
@@ -18,7 +18,7 @@ returns : tie.Need-returns
 returns c = sym (ap loadingReply (c .before .answer .given .1))
 
 returns-2 : tie.Need-returns-2
-returns-2 c = search needs
+returns-2 c = c .refused .ensures ∙ sym (ap loadingReply (c .before .before .answer2 .given .1))
 
 pub loading-spec : {M : Type 1} → statement M
 loading-spec =

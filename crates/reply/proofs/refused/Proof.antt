@@ -50,17 +50,23 @@ enum-told-9 c = search needs
 enum-told-10 : tie.Need-enum-told-10
 enum-told-10 c = search needs
 
+enum-told-11 : tie.Need-enum-told-11
+enum-told-11 c = search needs
+
+enum-told-12 : tie.Need-enum-told-12
+enum-told-12 c = search needs
+
 returns : tie.Need-returns
-returns c = search needs
+returns c = sym (ap refusalOf (c .enum-told .given .1))
 
 returns-2 : tie.Need-returns-2
-returns-2 c = search needs
+returns-2 c = sym (ap refusalOf (c .enum-told2 .given .1))
 
 returns-3 : tie.Need-returns-3
-returns-3 c = search needs
+returns-3 c = sym (ap refusalOf (c .enum-told3 .given .1))
 
 returns-4 : tie.Need-returns-4
-returns-4 c = search needs
+returns-4 c = sym (ap refusalOf (c .enum-told4 .given .1))
 
 returns-5 : tie.Need-returns-5
 returns-5 c = sym (ap refusalOf (c .before .why .given .1))
@@ -69,31 +75,37 @@ returns-6 : tie.Need-returns-6
 returns-6 c = sym (ap refusalOf (c .before .why2 .given .1))
 
 returns-7 : tie.Need-returns-7
-returns-7 c = search needs
+returns-7 c = sym (ap refusalOf (c .enum-told5 .given .1))
 
 returns-8 : tie.Need-returns-8
 returns-8 c = sym (ap refusalOf (c .before .why3 .given .1))
 
 returns-9 : tie.Need-returns-9
-returns-9 c = search needs
+returns-9 c = sym (ap refusalOf (c .enum-told6 .given .1))
 
 returns-10 : tie.Need-returns-10
 returns-10 c = sym (ap refusalOf (c .before .why4 .given .1))
 
 returns-11 : tie.Need-returns-11
-returns-11 c = search needs
+returns-11 c = sym (ap refusalOf (c .enum-told7 .given .1))
 
 returns-12 : tie.Need-returns-12
 returns-12 c = sym (ap refusalOf (c .before .why5 .given .1))
 
 returns-13 : tie.Need-returns-13
-returns-13 c = search needs
+returns-13 c = sym (ap refusalOf (c .enum-told8 .given .1))
 
 returns-14 : tie.Need-returns-14
-returns-14 c = search needs
+returns-14 c = sym (ap refusalOf (c .enum-told9 .given .1))
 
 returns-15 : tie.Need-returns-15
-returns-15 c = search needs
+returns-15 c = sym (ap refusalOf (c .enum-told10 .given .1))
+
+returns-16 : tie.Need-returns-16
+returns-16 c = sym (ap refusalOf (c .enum-told11 .given .1))
+
+returns-17 : tie.Need-returns-17
+returns-17 c = sym (ap refusalOf (c .enum-told12 .given .1))
 
 pub refused-spec : {M : Type 1} → statement M
 refused-spec =
@@ -114,6 +126,8 @@ refused-spec =
     enum-told-8
     enum-told-9
     enum-told-10
+    enum-told-11
+    enum-told-12
     returns
     returns-2
     returns-3
@@ -128,4 +142,6 @@ refused-spec =
     returns-12
     returns-13
     returns-14
-    returns-15)
+    returns-15
+    returns-16
+    returns-17)

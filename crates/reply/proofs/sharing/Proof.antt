@@ -1,6 +1,6 @@
 -- `reply::sharing` meets its contract. Assumes nothing.
 use borrow.Author.Needs.{needs}
-use mathlib.Core.Path.{sym, ap}
+use mathlib.Core.Path.{sym, ap, _∙_}
 use Rattle.cycles.specs.Answers.{sharingReply}
 use Rattle.reply.proofs.sharing.Statement.{statement}
 use Rattle.reply.proofs.sharing.Tie as tie
@@ -18,7 +18,7 @@ returns : tie.Need-returns
 returns c = sym (ap sharingReply (c .before .answer .given .1))
 
 returns-2 : tie.Need-returns-2
-returns-2 c = search needs
+returns-2 c = c .refused .ensures ∙ sym (ap sharingReply (c .before .before .answer2 .given .1))
 
 pub sharing-spec : {M : Type 1} → statement M
 sharing-spec =

@@ -1,6 +1,6 @@
 -- `reply::splitting` meets its contract. Assumes nothing.
 use borrow.Author.Needs.{needs}
-use mathlib.Core.Path.{sym, ap}
+use mathlib.Core.Path.{sym, ap, _∙_}
 use Rattle.split.specs.Answers.{splittingReply}
 use Rattle.reply.proofs.splitting.Statement.{statement}
 use Rattle.reply.proofs.splitting.Tie as tie
@@ -18,7 +18,7 @@ returns : tie.Need-returns
 returns c = sym (ap splittingReply (c .before .answer .given .1))
 
 returns-2 : tie.Need-returns-2
-returns-2 c = search needs
+returns-2 c = c .refused .ensures ∙ sym (ap splittingReply (c .before .before .answer2 .given .1))
 
 pub splitting-spec : {M : Type 1} → statement M
 splitting-spec =

@@ -1,6 +1,6 @@
 -- `reply::writing` meets its contract. Assumes nothing.
 use borrow.Author.Needs.{needs}
-use mathlib.Core.Path.{sym, ap}
+use mathlib.Core.Path.{sym, ap, _∙_}
 use Rattle.record.specs.Answers.{writingReply}
 use Rattle.reply.proofs.writing.Statement.{statement}
 use Rattle.reply.proofs.writing.Tie as tie
@@ -18,7 +18,7 @@ returns : tie.Need-returns
 returns c = sym (ap writingReply (c .before .answer .given .1))
 
 returns-2 : tie.Need-returns-2
-returns-2 c = search needs
+returns-2 c = c .refused .ensures ∙ sym (ap writingReply (c .before .before .answer2 .given .1))
 
 pub writing-spec : {M : Type 1} → statement M
 writing-spec =

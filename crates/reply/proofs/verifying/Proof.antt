@@ -1,0 +1,32 @@
+-- `reply::verifying` meets its contract. Assumes nothing.
+use borrow.Author.Needs.{needs}
+use mathlib.Core.Path.{sym, ap, _∙_}
+use Rattle.word.specs.Answers.{verifyingReply}
+use Rattle.reply.proofs.verifying.Statement.{statement}
+use Rattle.reply.proofs.verifying.Tie as tie
+
+enum-told : tie.Need-enum-told
+enum-told c = search needs
+
+enum-told-2 : tie.Need-enum-told-2
+enum-told-2 c = search needs
+
+enum-known-answer : tie.Need-enum-known-answer
+enum-known-answer c = search needs
+
+refused-requires : tie.Need-refused-requires
+refused-requires c κs = search needs
+
+returns : tie.Need-returns
+returns c = search needs
+
+returns-2 : tie.Need-returns-2
+returns-2 c = search needs
+
+returns-3 : tie.Need-returns-3
+returns-3 c = c .refused .ensures ∙ sym (ap verifyingReply (c .before .before .answer .given .1))
+
+pub verifying-spec : {M : Type 1} → statement M
+verifying-spec =
+    tie.close
+    (tie.spec enum-told enum-told-2 enum-known-answer refused-requires returns returns-2 returns-3)

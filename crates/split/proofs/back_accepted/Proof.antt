@@ -113,7 +113,7 @@ split-pair-requires c κs =
     let R = read-back (lent 8 (s .words .now)) (s .n) (s .m) (s .k - 1) (sound-back (s .words .now) (s .n) (s .m) (s .k) a d) _ _ (c .before .before .before .before .before .before .before .before .before .before .next-one .ensures) (c .before .before .before .before .before .before .before .before .next-one2 .ensures) in
     let E = c .before .before .before .before .before .before .back-pair in
     let N = R .newer in (
-      (E .kept .0 ∙ A .words, S .m120, omega arith, omega (arith, S .m120, S .k392), N .below .0, N .below .1, omega (arith, S .n120, S .k392)),
+      (E .kept .0 ∙ A .words, omega (arith, S .m120), omega arith, omega (arith, S .m120, S .k392), N .below .0, N .below .1, omega (arith, S .n120, S .k392)),
       (rw (E .ensures .0) (R .clean), rw (E .ensures .0) (R .apart)),
     )
 

@@ -11,21 +11,21 @@ use Rattle.exchange.proofs.back.restore.Statement.{statement}
 use Rattle.exchange.proofs.back.restore.Tie as tie
 
 abbrev Inv-loop : tie.InvT-loop
-Inv-loop words₀ m u v z s₀ d₀ words s d = (length words ≡ 4096) × (d ≤ m) × Restored (lent 8 words₀) (lent 8 words) d (u .0) (v .0) (z .0) s
+Inv-loop words₀ m u v z s₀ d₀ words s d = Restored (lent 8 words₀) (lent 8 words) d (u .0) (v .0) (z .0) s × (length words ≡ 4096) × (d ≤ m)
 
 abbrev μ-loop : tie.MeasureT-loop
 μ-loop words₀ m u v z s₀ d₀ words s d = m - d
 
 loop-holds : tie.Need-loop-holds Inv-loop μ-loop
-loop-holds c = (c .before .pre .0, omega arith, restored-none _ _ _ _)
+loop-holds c = (restored-none _ _ _ _, c .before .pre .0, omega arith)
 
 restore-at-requires : tie.Need-restore-at-requires Inv-loop μ-loop
-restore-at-requires c κs = (c .before .before .loop .inv .0, omega arith, omega arith, omega arith, omega arith)
+restore-at-requires c κs = (c .before .before .loop .inv .1, omega arith, omega arith, omega arith, omega arith)
 
 add-s : tie.Need-add-s Inv-loop μ-loop
 add-s c =
     let l = c .before .before .before .before .before .loop in
-    omega (arith, restored-few _ _ _ _ _ _ _ (l .inv .2), restored-one _ _ _ _ _ _ _ (c .before .before .restore-at .ensures))
+    omega (arith, restored-few _ _ _ _ _ _ _ (l .inv .0), restored-one _ _ _ _ _ _ _ (c .before .before .restore-at .ensures))
 
 add-d : tie.Need-add-d Inv-loop μ-loop
 add-d c = omega arith
@@ -37,7 +37,7 @@ loop-again : tie.Need-loop-again Inv-loop μ-loop
 loop-again c =
     let l = c .before .before .before .before .before .loop in
     let E = c .before .before .restore-at in
-    (E .kept .0 ∙ l .inv .0, omega arith, restored-step _ _ _ _ _ _ _ _ _ (l .inv .2) (E .ensures))
+    (restored-step _ _ _ _ _ _ _ _ _ (l .inv .0) (E .ensures), E .kept .0 ∙ l .inv .1, omega arith)
 
 same-length : tie.Need-same-length Inv-loop μ-loop
 same-length c = search needs
@@ -45,7 +45,7 @@ same-length c = search needs
 returns : tie.Need-returns Inv-loop μ-loop
 returns c =
     let e : c .before .loop .d ≡ c .before .before .before .args .m = omega arith in
-    rw e at (c .before .loop .inv .2)
+    rw e at (c .before .loop .inv .0)
 
 pub restore-spec : {M : Type 1} → statement M
 restore-spec =

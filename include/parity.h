@@ -90,6 +90,10 @@ extern "C" {
 #define PARITY_CONTRADICTION 12
 /* k is above 0 in writing, rank or encoding. */
 #define PARITY_EXTENDED 13
+/* k = 0: there is nothing to take back. */
+#define PARITY_NOTHING_TO_TAKE_BACK 15
+/* The matrix with the newest added bit taken back would break rule A. */
+#define PARITY_CANNOT_TAKE_BACK 16
 
 /* Loads a record into a matrix with k = 0.
  *
@@ -157,6 +161,21 @@ uint32_t parity_split(uint64_t *words, size_t words_len,
                       size_t n, size_t m, size_t k,
                       size_t u, size_t v,
                       uint64_t *values, size_t values_len);
+
+/* Takes back the newest split: the newest added bit n+k-1 and its check m+k-1
+ * are removed, and in every other check that contains this bit the two lower
+ * bits of its own check are put in its place; k falls by one. After a split that
+ * was made this gives the same words and k as before it, and carries its share.
+ *
+ * words: read, and written by an answer; refusal 16 writes them too, and leaves
+ *   them as they were.
+ * Values of the answer, 2: the number of those other checks, the new k.
+ * Refusals: 1, 2, 3, 4; 15 if k = 0; 16, never for a matrix that splits have made
+ *   from one with k = 0.
+ */
+uint32_t parity_take_back(uint64_t *words, size_t words_len,
+                          size_t n, size_t m, size_t k,
+                          uint64_t *values, size_t values_len);
 
 /* Splits until no pair has share two or more, taking each time the largest
  * share, then the smallest lower bit, then the smallest higher bit.

@@ -20,6 +20,7 @@ enum Call {
     Share,
     Count,
     Split,
+    TakeBack,
     Orthogonalise,
     Verify,
     Extend,
@@ -53,6 +54,7 @@ fn in_plain(job: &mut Job) -> u32 {
         Call::Share => plain::share(&job.words, n, m, k, job.u, job.v, values),
         Call::Count => plain::count(&job.words, n, m, k, values),
         Call::Split => plain::split(&mut job.words, n, m, k, job.u, job.v, values),
+        Call::TakeBack => plain::take_back(&mut job.words, n, m, k, values),
         Call::Orthogonalise => plain::orthogonalise(&mut job.words, n, m, k, values),
         Call::Verify => plain::verify(&job.words, n, m, k, &job.input, values),
         Call::Extend => plain::extend(&job.words, n, m, k, &job.input, &mut job.word, values),
@@ -78,6 +80,7 @@ fn in_library(job: &mut Job) -> u32 {
             Call::Share => ffi::parity_share(words, words_len, n, m, k, u, v, values, values_len),
             Call::Count => ffi::parity_count(words, words_len, n, m, k, values, values_len),
             Call::Split => ffi::parity_split(words, words_len, n, m, k, u, v, values, values_len),
+            Call::TakeBack => ffi::parity_take_back(words, words_len, n, m, k, values, values_len),
             Call::Orthogonalise => ffi::parity_orthogonalise(words, words_len, n, m, k, values, values_len),
             Call::Verify => ffi::parity_verify(words, words_len, n, m, k, input, input_len, values, values_len),
             Call::Extend => {
@@ -95,18 +98,23 @@ fn in_library(job: &mut Job) -> u32 {
     }
 }
 
+/// The nanoseconds of `times` calls, each on words that were just copied, outside the time.
+fn timed_on_copies(run: fn(&mut Job) -> u32, job: &Job, scratch: &mut Job, times: u64, clock: u64) -> u64 {
+    let mut sum = 0;
+    for _ in 0..times {
+        scratch.words.copy_from_slice(&job.words);
+        let start = Instant::now();
+        black_box(run(black_box(scratch)));
+        sum += (start.elapsed().as_nanos() as u64).saturating_sub(clock);
+    }
+    sum
+}
+
 /// The nanoseconds of `times` calls. What a call writes is put back before the next one: a matrix outside the time,
 /// a word of at most 512 bytes inside it.
 fn timed(run: fn(&mut Job) -> u32, job: &Job, scratch: &mut Job, times: u64, clock: u64) -> u64 {
-    if matches!(job.call, Call::Split | Call::Orthogonalise) {
-        let mut sum = 0;
-        for _ in 0..times {
-            scratch.words.copy_from_slice(&job.words);
-            let start = Instant::now();
-            black_box(run(black_box(scratch)));
-            sum += (start.elapsed().as_nanos() as u64).saturating_sub(clock);
-        }
-        return sum;
+    if matches!(job.call, Call::Split | Call::TakeBack | Call::Orthogonalise) {
+        return timed_on_copies(run, job, scratch, times, clock);
     }
     let start = Instant::now();
     for _ in 0..times {
@@ -145,6 +153,20 @@ fn measure(job: &Job) -> Result<(u64, u64), String> {
         best_library = best_library.min(timed(in_library, job, &mut scratch, times, clock));
     }
     Ok((best_library / times, best_plain / times))
+}
+
+/// The best nanoseconds of one call of the library for each of two jobs, which are timed in turn and on copied words.
+fn in_turn(one: &Job, other: &Job) -> (u64, u64) {
+    let clock = clock();
+    let (mut scratch_one, mut scratch_other) = (one.clone(), other.clone());
+    let once = timed_on_copies(in_library, other, &mut scratch_other, 3, clock) / 3;
+    let times = (RUN_LENGTH / once.max(1)).clamp(3, 10_000);
+    let (mut best_one, mut best_other) = (u64::MAX, u64::MAX);
+    for _ in 0..RUNS {
+        best_one = best_one.min(timed_on_copies(in_library, one, &mut scratch_one, times, clock));
+        best_other = best_other.min(timed_on_copies(in_library, other, &mut scratch_other, times, clock));
+    }
+    (best_one / times, best_other / times)
 }
 
 struct Random(u64);
@@ -273,6 +295,9 @@ fn jobs(r: &mut Random, given: &Case, case: &Case) -> Vec<(String, Job)> {
     row("count", case.job(Call::Count));
     job.call = Call::Split;
     row("split", job);
+    if case.k > 0 {
+        row("take_back", case.job(Call::TakeBack));
+    }
     row("orthogonalise", case.job(Call::Orthogonalise));
     let mut job = case.job(Call::Verify);
     job.input = word.clone();
@@ -328,6 +353,10 @@ fn thousands(x: u64) -> String {
     text
 }
 
+fn cell(one: u64, other: u64, digits: usize) -> String {
+    format!(" {} / {} = {:.digits$} |", thousands(one), thousands(other), one as f64 / other.max(1) as f64)
+}
+
 fn table(r: &mut Random, given: &[Case], cases: &[Case]) -> Result<(), String> {
     let heads: Vec<String> = cases.iter().map(|case| format!("{}, k={}", case.name, case.k)).collect();
     println!("| call | {} |", heads.join(" | "));
@@ -337,8 +366,16 @@ fn table(r: &mut Random, given: &[Case], cases: &[Case]) -> Result<(), String> {
         let mut line = format!("| {} |", columns[0][row].0);
         for column in &columns {
             let (library, plain) = measure(&column[row].1)?;
-            let ratio = library as f64 / plain.max(1) as f64;
-            line += &format!(" {} / {} = {ratio:.1} |", thousands(library), thousands(plain));
+            line += &cell(library, plain, 1);
+        }
+        println!("{line}");
+    }
+    let row = |name: &str| columns[0].iter().position(|row| row.0 == name);
+    if let (Some(back), Some(accept)) = (row("take_back"), row("accept")) {
+        let mut line = "| take_back / accept, both of the library, in turn, on copied words |".to_string();
+        for column in &columns {
+            let (back, accept) = in_turn(&column[back].1, &column[accept].1);
+            line += &cell(back, accept, 2);
         }
         println!("{line}");
     }

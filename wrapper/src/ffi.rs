@@ -37,6 +37,12 @@ extern "C" {
         values: *mut u64, values_len: usize,
     ) -> u32;
 
+    pub fn parity_take_back(
+        words: *mut u64, words_len: usize,
+        n: usize, m: usize, k: usize,
+        values: *mut u64, values_len: usize,
+    ) -> u32;
+
     pub fn parity_orthogonalise(
         words: *mut u64, words_len: usize,
         n: usize, m: usize, k: usize,

@@ -51,6 +51,10 @@ pub enum Refusal {
     Contradiction,
     /// 13: k is above 0.
     Extended,
+    /// 15: k is 0, so there is nothing to take back.
+    NothingToTakeBack,
+    /// 16: the matrix with the newest added bit taken back would break rule A.
+    CannotTakeBack,
 }
 
 impl Refusal {
@@ -70,6 +74,8 @@ impl Refusal {
             Refusal::Byte { .. } => 11,
             Refusal::Contradiction => 12,
             Refusal::Extended => 13,
+            Refusal::NothingToTakeBack => 15,
+            Refusal::CannotTakeBack => 16,
         }
     }
 }
@@ -94,6 +100,8 @@ impl std::fmt::Display for Refusal {
             Refusal::Byte { place } => write!(f, "a byte outside the values named at place {place}"),
             Refusal::Contradiction => write!(f, "contradiction in peeling"),
             Refusal::Extended => write!(f, "k is above 0"),
+            Refusal::NothingToTakeBack => write!(f, "k is 0, there is nothing to take back"),
+            Refusal::CannotTakeBack => write!(f, "with the newest added bit taken back rule A would be broken"),
         }
     }
 }
@@ -110,6 +118,13 @@ pub struct Loaded {
 /// The answer of [`split`]: the share that the pair had, and the new k.
 #[derive(Clone, Copy, PartialEq, Eq, Debug)]
 pub struct Split {
+    pub share: u64,
+    pub k: usize,
+}
+
+/// The answer of [`take_back`]: the number of other checks that contained the newest added bit, and the new k.
+#[derive(Clone, Copy, PartialEq, Eq, Debug)]
+pub struct TakenBack {
     pub share: u64,
     pub k: usize,
 }
@@ -152,6 +167,8 @@ fn reply(number: u32, values: Values) -> Result<Values, Refusal> {
         11 => Refusal::Byte { place: values[0] as usize },
         12 => Refusal::Contradiction,
         13 => Refusal::Extended,
+        15 => Refusal::NothingToTakeBack,
+        16 => Refusal::CannotTakeBack,
         other => panic!("the library returned {other}, which is no refusal"),
     })
 }
@@ -213,6 +230,15 @@ pub fn split(words: &mut [u64], n: usize, m: usize, k: usize, u: usize, v: usize
     let number =
         unsafe { ffi::parity_split(words.as_mut_ptr(), words.len(), n, m, k, u, v, values.as_mut_ptr(), values.len()) };
     reply(number, values).map(|v| Split { share: v[0], k: v[1] as usize })
+}
+
+/// Takes back the newest split: removes the newest added bit and its check, and in every other check that contains the bit
+/// puts the two lower bits of its own check in its place. After a split that was made, words and k are as before it.
+pub fn take_back(words: &mut [u64], n: usize, m: usize, k: usize) -> Result<TakenBack, Refusal> {
+    let mut values: Values = [0; VALUES_MOST];
+    let number =
+        unsafe { ffi::parity_take_back(words.as_mut_ptr(), words.len(), n, m, k, values.as_mut_ptr(), values.len()) };
+    reply(number, values).map(|v| TakenBack { share: v[0], k: v[1] as usize })
 }
 
 /// Splits until no pair has share two or more, or is refused with [`Refusal::FullAfter`].

@@ -1,6 +1,6 @@
-//! Cases A to K of document 01, through the wrapper.
+//! Cases A to K of document 01 and cases of taking back (document 02), through the wrapper.
 
-use parity::{Loaded, Orthogonalised, Peeled, Refusal, Split, WORDS};
+use parity::{Loaded, Orthogonalised, Peeled, Refusal, Split, TakenBack, WORDS};
 
 fn matrix(checks: &[&[usize]]) -> Vec<u64> {
     let mut words = vec![0; WORDS];
@@ -84,6 +84,40 @@ fn e() {
     assert_eq!(parity::count(&words, 3, 2, 2), Ok(0));
 }
 
+/// E's two splits by hand, taken back to E.
+#[test]
+fn e_taken_back() {
+    let e = matrix(&[&[0, 1, 2], &[0, 1, 2]]);
+    let mut words = e.clone();
+    assert_eq!(parity::take_back(&mut words, 3, 2, 0), Err(Refusal::NothingToTakeBack));
+    assert_eq!(parity::split(&mut words, 3, 2, 0, 0, 1), Ok(Split { share: 2, k: 1 }));
+    let once = words.clone();
+    assert_eq!(once, matrix(&[&[2, 3], &[2, 3], &[0, 1, 3]]));
+    assert_eq!(parity::split(&mut words, 3, 2, 1, 2, 3), Ok(Split { share: 2, k: 2 }));
+    assert_eq!(words, matrix(&[&[4], &[4], &[0, 1, 3], &[2, 3, 4]]));
+    assert_eq!(parity::take_back(&mut words, 3, 2, 2), Ok(TakenBack { share: 2, k: 1 }));
+    assert_eq!(words, once);
+    assert_eq!(parity::take_back(&mut words, 3, 2, 1), Ok(TakenBack { share: 2, k: 0 }));
+    assert_eq!(words, e);
+    assert_eq!(parity::take_back(&mut words, 3, 2, 0), Err(Refusal::NothingToTakeBack));
+    assert_eq!(words, e);
+}
+
+/// Matrices that no splits made.
+#[test]
+fn taken_back_without_splits() {
+    let checks: [&[usize]; 3] = [&[1, 4], &[0, 1, 3], &[0, 2, 4]];
+    let mut words = matrix(&checks);
+    assert_eq!(parity::take_back(&mut words, 3, 1, 2), Err(Refusal::CannotTakeBack));
+    assert_eq!(words, matrix(&checks));
+    let mut words = matrix(&[&[0, 1, 2]]);
+    assert_eq!(parity::take_back(&mut words, 2, 0, 1), Ok(TakenBack { share: 0, k: 0 }));
+    assert_eq!(words, matrix(&[]));
+    let mut words = matrix(&[&[0, 3], &[1, 2, 3]]);
+    assert_eq!(parity::take_back(&mut words, 3, 1, 1), Ok(TakenBack { share: 1, k: 0 }));
+    assert_eq!(words, matrix(&[&[0, 1, 2]]));
+}
+
 #[test]
 fn f() {
     let mut word = [2, 2];
@@ -148,4 +182,11 @@ fn refusals() {
     assert_eq!(parity::verify(&words, 7, 3, 0, &[0; 6]), Err(Refusal::Length));
     assert_eq!(parity::verify(&words, 7, 3, 0, &[0, 0, 0, 4, 0, 3, 0]), Err(Refusal::Byte { place: 3 }));
     assert_eq!(Refusal::Byte { place: 3 }.number(), 11);
+    let mut words = c();
+    assert_eq!(parity::take_back(&mut words[1..], 7, 3, 1), Err(Refusal::MatrixLength));
+    assert_eq!(parity::take_back(&mut words, 7, 3, 393), Err(Refusal::Range));
+    assert_eq!(parity::take_back(&mut words, 7, 2, 0), Err(Refusal::OneOutside));
+    assert_eq!(parity::take_back(&mut words, 7, 3, 1), Err(Refusal::RuleA));
+    assert_eq!(words, c());
+    assert_eq!(Refusal::CannotTakeBack.number(), 16);
 }

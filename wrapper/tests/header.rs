@@ -104,10 +104,10 @@ fn read(path: &str) -> String {
 #[test]
 fn header_wrapper_and_crate_agree() {
     let header = of_header(&read("../include/parity.h"));
-    assert_eq!(header.len(), 12);
+    assert_eq!(header.len(), 13);
     assert_eq!(header, of_wrapper(&read("src/ffi.rs")));
     let text = read("../crates/capi/src/lib.rt");
-    assert_eq!(text.matches("extern \"C\"").count(), 12);
+    assert_eq!(text.matches("extern \"C\"").count(), 13);
     assert_eq!(header, of_crate(&text));
 }
 
@@ -133,6 +133,8 @@ fn header_has_the_numbers_of_the_wrapper() {
         ("BYTE", Refusal::Byte { place: 0 }),
         ("CONTRADICTION", Refusal::Contradiction),
         ("EXTENDED", Refusal::Extended),
+        ("NOTHING_TO_TAKE_BACK", Refusal::NothingToTakeBack),
+        ("CANNOT_TAKE_BACK", Refusal::CannotTakeBack),
     ];
     let mut due = vec![
         ("WORDS", parity::WORDS),

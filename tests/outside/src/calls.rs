@@ -33,6 +33,8 @@ struct Pools {
     tight: Vec<Sample>,
     /// Full-size matrices with k = 0 that take hundreds of splits.
     dense: Vec<Sample>,
+    /// Matrices that no splits made, and whose newest added bit cannot be taken back.
+    not_back: Vec<Matrix>,
 }
 
 fn orthogonal(mut matrix: Matrix) -> Matrix {
@@ -91,12 +93,17 @@ impl Pools {
         full.push(part);
         let tight = (0..9).map(|i| {
             let (n, m) = (r.between(8, 40), r.between(3, 20));
-            generate::triples(r, n, m, 390 + i % 3)
+            Sample::new(generate::triples(r, n, m, 390 + i % 3))
         });
+        let tight = tight.collect();
+        let mut not_back: Vec<Matrix> = (0..500).map(|_| generate::not_back(r, 12, 12, 8)).collect();
+        not_back.extend((0..40).map(|_| generate::not_back(r, 120, 120, 100)));
+        not_back.extend((0..5).map(|_| generate::most_ones()));
         Pools {
             small: Vec::new(),
             medium,
-            tight: tight.map(Sample::new).collect(),
+            tight,
+            not_back,
             full: full.into_iter().map(Sample::new).collect(),
             dense: dense.into_iter().map(Sample::new).collect(),
         }
@@ -212,7 +219,7 @@ fn good(r: &mut Random, kind: Kind, sample: &Sample) -> Lent {
                 (lent.u, lent.v) = (lent.v, lent.u);
             }
         }
-        Kind::Count | Kind::Orthogonalise | Kind::Rank => {}
+        Kind::Count | Kind::TakeBack | Kind::Orthogonalise | Kind::Rank => {}
         Kind::Verify => {
             lent.input = elimination::combine(&sample.basis, bits, || r.chance(500));
             match r.below(10) {
@@ -264,6 +271,8 @@ enum Damage {
     Contradiction,
     RecordShort,
     RecordFault,
+    Nothing,
+    NotBack,
 }
 
 fn damages(kind: Kind) -> Vec<Damage> {
@@ -277,6 +286,7 @@ fn damages(kind: Kind) -> Vec<Damage> {
         Kind::Write => &[Extended, RecordShort, RecordShort],
         Kind::Share => &[Pair, Pair],
         Kind::Split => &[Pair, LowShare, LowShare, Full],
+        Kind::TakeBack => &[Nothing, Nothing, NotBack, NotBack, NotBack],
         Kind::Orthogonalise => &[Full],
         Kind::Verify | Kind::Extend | Kind::IsStopping => &[Lengths, Lengths, Bytes, Bytes, Bytes],
         Kind::Peel => &[Lengths, Lengths, Bytes, Bytes, Contradiction, Contradiction, Contradiction, Contradiction],
@@ -538,13 +548,17 @@ fn apply(r: &mut Random, damage: Damage, matrix: &Matrix, lent: &mut Lent) {
         }
         Damage::RecordFault => damage_record(r, &mut lent.record, matrix.n),
         // These choose the matrix.
-        Damage::Extended | Damage::Full => {}
+        Damage::Extended | Damage::Full | Damage::Nothing | Damage::NotBack => {}
     }
 }
 
 fn one_call(r: &mut Random, kind: Kind, pools: &Pools) -> Lent {
     let zero = matches!(kind, Kind::Load | Kind::Write | Kind::Rank | Kind::Encode);
-    let usual = if zero { Added::None } else { Added::Any };
+    let usual = match kind {
+        Kind::TakeBack => Added::Some,
+        _ if zero => Added::None,
+        _ => Added::Any,
+    };
     if r.chance(510) {
         let mut sample = pools.choose(r, kind, usual);
         // A split needs a pair; another matrix is tried a few times.
@@ -565,6 +579,10 @@ fn one_call(r: &mut Random, kind: Kind, pools: &Pools) -> Lent {
             from.retain(|sample| sample.matrix.k == 392);
         }
         (*r.pick(&from)).clone()
+    } else if chosen.contains(&Damage::NotBack) {
+        Sample { matrix: r.pick(&pools.not_back), basis: Vec::new() }
+    } else if chosen.contains(&Damage::Nothing) {
+        pools.choose(r, kind, Added::None)
     } else if chosen.contains(&Damage::Extended) {
         let matrix = pools.choose(r, Kind::Count, Added::Some).matrix;
         Sample { matrix, basis: Vec::new() }
@@ -688,7 +706,8 @@ pub fn at_once() -> Result<usize, String> {
 #[derive(Default)]
 struct Tally {
     answers: usize,
-    refusals: [usize; 14],
+    refusals: [usize; 17],
+    /// Answers whose first value is 1, and those whose first value is 0.
     yes: usize,
     no: usize,
     /// Peelings that recover some sent bits and leave others, and those that do so in the added bits.
@@ -750,12 +769,16 @@ pub fn run(named: &[Kind]) -> Result<usize, String> {
             stack::most(kind),
             start.elapsed().as_secs_f64()
         );
+        if kind == Kind::TakeBack {
+            println!("    taken back with s = 0: {}, with s = 1: {}", tally.no, tally.yes);
+        }
         // The inputs are good and bad in about equal parts, and every refusal was met.
         let yes_no = matches!(kind, Kind::Verify | Kind::IsStopping);
         let few = kind.refusals().iter().any(|&no| tally.refusals[no as usize] < 100)
             || tally.answers < CALLS * 2 / 5
             || tally.answers > CALLS * 3 / 5
             || yes_no && (tally.yes < 1000 || tally.no < 1000)
+            || kind == Kind::TakeBack && (tally.yes < 200 || tally.no < 200 || tally.refusals[16] < 500)
             || kind == Kind::Peel && (tally.partly[0] < 1000 || tally.partly[1] < 500);
         if few {
             return Err(format!("the inputs of {} are too much alike: a fault of this program", kind.name()));

@@ -1,4 +1,5 @@
-//! The model by itself: document 01's bench cases, and its quick methods against the definitions tried out in full.
+//! The model by itself: document 01's bench cases, known cases of document 02's taking back, and the model's quick methods
+//! against the definitions tried out in full.
 
 use crate::elimination;
 use crate::generate;
@@ -57,6 +58,32 @@ pub fn lend(kind: Kind, matrix: &Matrix) -> Lent {
         input: Vec::new(),
         word: Vec::new(),
     }
+}
+
+/// A matrix with k above 0 from the bits of its checks, the added ones last.
+fn extended(n: usize, k: usize, checks: &[&[usize]]) -> Matrix {
+    let mut matrix = Matrix::zero(n, checks.len() - k, k);
+    for (c, bits) in checks.iter().enumerate() {
+        bits.iter().for_each(|&b| matrix.rows[c][b] = true);
+    }
+    matrix
+}
+
+/// Known cases of taking back: the matrix, the reply and the matrix afterwards.
+pub fn taken_back() -> Vec<(&'static str, Matrix, Reply, Matrix)> {
+    let once = extended(3, 1, &[&[2, 3], &[2, 3], &[0, 1, 3]]);
+    let twice = extended(3, 2, &[&[4], &[4], &[0, 1, 3], &[2, 3, 4]]);
+    let stuck = extended(3, 2, &[&[1, 4], &[0, 1, 3], &[0, 2, 4]]);
+    let most = generate::most_ones();
+    vec![
+        ("E's second split", twice, reply(0, &[2, 1]), once.clone()),
+        ("E's first split", once, reply(0, &[2, 0]), e()),
+        ("E", e(), reply(15, &[]), e()),
+        ("rule A would break", stuck.clone(), reply(16, &[]), stuck),
+        ("the most ones", most.clone(), reply(16, &[]), most),
+        ("s = 0", extended(2, 1, &[&[0, 1, 2]]), reply(0, &[0, 0]), Matrix::zero(2, 0, 0)),
+        ("s = 1", extended(3, 1, &[&[0, 3], &[1, 2, 3]]), reply(0, &[1, 0]), Matrix::given(3, &[vec![0, 1, 2]])),
+    ]
 }
 
 fn ones_in(matrix: &Matrix) -> usize {
@@ -203,6 +230,16 @@ fn bench(t: &mut Tally) -> Result<(), String> {
     t.same("the most four-cycles", most.cycles(), 831_117_420)?;
     t.same("the most ones, accepted", model::accept(&most.pack(), 120, 120, 392).is_ok(), true)?;
 
+    for (what, matrix, due, after) in taken_back() {
+        let mut lent = lend(Kind::TakeBack, &matrix);
+        t.same(&format!("{what}, taken back"), call(&mut lent), due)?;
+        t.same(&format!("{what}, words"), lent.words, after.pack())?;
+    }
+    let mut split = e();
+    split.split(0, 1);
+    split.split(3, 2);
+    t.same("E's two splits by hand", split, taken_back()[0].1.clone())?;
+
     let mut input = vec![0, 0, 0, 16];
     RECORD_C.iter().for_each(|word| input.extend(word.to_be_bytes()));
     input.extend([2, 2, 2, 1, 1, 1, 1]);
@@ -298,6 +335,15 @@ fn methods(t: &mut Tally) -> Result<(), String> {
             }
         }
         t.same("elimination", elimination::decode(&matrix, &word), agreeing)?;
+
+        let pairs = matrix.pairs();
+        if !pairs.is_empty() && matrix.k < model::ADDED_MOST {
+            let (u, v) = r.pick(&pairs);
+            let mut split = matrix.clone();
+            split.split(u, v);
+            t.same("s of a split taken back", split.take_back(), matrix.share(u, v))?;
+            t.same("a split taken back", &split, &matrix)?;
+        }
 
         if matrix.k == 0 && matrix.n <= 8 {
             let parity = matrix.parity_bits();

@@ -1,5 +1,5 @@
-//! Demand 3's facts on random matrices and random lists of splits and orthogonalisings: by trying all words at small
-//! sizes, by rank at full size.
+//! Demand 3's facts on random matrices and random lists of splits, orthogonalisings and takings back: by trying all words
+//! at small sizes, by rank at full size.
 
 use crate::calls::erase;
 use crate::cases;
@@ -8,7 +8,28 @@ use crate::elimination;
 use crate::generate;
 use crate::model::{losses, twos, Kind, Matrix};
 use crate::random::Random;
-use parity::{Peeled, Refusal};
+use parity::{Peeled, Refusal, TakenBack};
+
+/// What stood before a call that made splits, and whether it was an orthogonalise.
+struct Mark {
+    words: Vec<u64>,
+    k: usize,
+    sum: u64,
+    orthogonalise: bool,
+}
+
+/// What was counted over all lists.
+#[derive(Default)]
+struct Tally {
+    facts: usize,
+    lists: usize,
+    /// Takings back that were made, those among them of splits inside an orthogonalise, and those refused 15.
+    back: usize,
+    inside: usize,
+    nothing: usize,
+    /// Takings back after which what stood before a split or an orthogonalise stands again.
+    again: usize,
+}
 
 /// The given matrix, the extended one as it stands after the list, and what the list's calls carried.
 struct Run {
@@ -20,13 +41,17 @@ struct Run {
     /// Whether the last call was an orthogonalise, and if so whether it finished.
     last: Option<bool>,
     list: Vec<String>,
-    facts: usize,
+    /// A mark for each call whose splits are not all taken back, the newest last.
+    marks: Vec<Mark>,
+    tally: Tally,
 }
 
 impl Run {
     fn new(given: Matrix) -> Run {
         let words = given.pack();
-        Run { given, given_words: words.clone(), words, k: 0, sum: 0, last: None, list: Vec::new(), facts: 0 }
+        let tally = Tally { lists: 1, ..Tally::default() };
+        let (list, marks) = (Vec::new(), Vec::new());
+        Run { given, given_words: words.clone(), words, k: 0, sum: 0, last: None, list, marks, tally }
     }
 
     fn fail<T>(&self, what: &str) -> Result<T, String> {
@@ -37,7 +62,7 @@ impl Run {
     }
 
     fn fact(&mut self, holds: bool, what: impl FnOnce() -> String) -> Result<(), String> {
-        self.facts += 1;
+        self.tally.facts += 1;
         if holds {
             Ok(())
         } else {
@@ -45,17 +70,24 @@ impl Run {
         }
     }
 
+    fn mark(&self, orthogonalise: bool) -> Mark {
+        Mark { words: self.words.clone(), k: self.k, sum: self.sum, orthogonalise }
+    }
+
     fn split(&mut self, u: usize, v: usize) {
         self.list.push(format!("split {u} {v}"));
         self.last = None;
+        let mark = self.mark(false);
         if let Ok(made) = parity::split(&mut self.words, self.given.n, self.given.m, self.k, u, v) {
             self.k = made.k;
             self.sum += made.share * (made.share - 1) / 2;
+            self.marks.push(mark);
         }
     }
 
     fn orthogonalise(&mut self) -> Result<(), String> {
         self.list.push("orthogonalise".to_string());
+        let mark = self.mark(true);
         match parity::orthogonalise(&mut self.words, self.given.n, self.given.m, self.k) {
             Ok(done) => {
                 self.k = done.k;
@@ -69,7 +101,59 @@ impl Run {
             }
             Err(refused) => return self.fail(&format!("orthogonalising the matrix that stands: {refused}")),
         }
+        if self.k > mark.k {
+            self.marks.push(mark);
+        }
         Ok(())
+    }
+
+    /// It is made if k is above 0, takes no more off the carried sum than is carried, and after as many of them as a call
+    /// made splits, the words, k and the carried sum are those of before the call.
+    fn take_back(&mut self) -> Result<(), String> {
+        self.list.push("take_back".to_string());
+        self.last = None;
+        let (k, carried) = (self.k, self.sum);
+        match parity::take_back(&mut self.words, self.given.n, self.given.m, k) {
+            Err(Refusal::NothingToTakeBack) => {
+                self.tally.nothing += 1;
+                self.fact(k == 0, || format!("nothing to take back with k = {k}"))
+            }
+            Err(refused) => self.fail(&format!("taking back with k = {k}: {refused}")),
+            Ok(TakenBack { share, k: next }) => {
+                self.tally.back += 1;
+                self.fact(next + 1 == k, || format!("taking back with k = {k} answers k = {next}"))?;
+                let off: u64 = (0..share).sum();
+                self.fact(off <= carried, || format!("{off} is taken off the carried sum, which is {carried}"))?;
+                self.k = next;
+                self.sum -= off;
+                self.stands_again()
+            }
+        }
+    }
+
+    /// After a taking back: whether what stood before the newest call with splits stands again, if k is that of before.
+    fn stands_again(&mut self) -> Result<(), String> {
+        let Some(mark) = self.marks.pop() else {
+            return self.fail("more is taken back than was split");
+        };
+        self.tally.inside += mark.orthogonalise as usize;
+        if self.k > mark.k {
+            self.marks.push(mark);
+            return Ok(());
+        }
+        self.tally.again += 1;
+        let (words, sum) = (self.words == mark.words, self.sum);
+        self.fact(words, || "the words are not those of before the splits that were taken back".to_string())?;
+        self.fact(sum == mark.sum, || format!("the carried sum was {} before the splits taken back", mark.sum))
+    }
+
+    /// Takes everything back and then twice more: the given matrix stands, and nothing is carried.
+    fn take_all_back(&mut self) -> Result<(), String> {
+        for _ in 0..self.k + 2 {
+            self.take_back()?;
+        }
+        let given = (self.k, self.sum) == (0, 0) && self.words == self.given_words;
+        self.fact(given, || "all is taken back, and the given matrix with nothing carried does not stand".to_string())
     }
 
     /// The cycles, what orthogonalise last says, and that any other k is refused.
@@ -230,15 +314,21 @@ fn some_pair(r: &mut Random, matrix: &Matrix) -> (usize, usize) {
     (r.below(end), r.below(end))
 }
 
-fn small(r: &mut Random) -> Result<usize, String> {
+/// How many of 1,000 calls of a list are takings back where k is above 0; where it is 0, a quarter of that.
+const BACK: [usize; 4] = [0, 300, 500, 700];
+
+fn small(r: &mut Random) -> Result<Tally, String> {
     let (n, m, part) = (r.between(1, 7), r.below(8), r.pick(&[150, 300, 500, 700, 900, 1000]));
     let mut run = Run::new(generate::given(r, n, m, part));
-    let mut facts = 0;
-    for _ in 0..r.below(6) {
+    let back = r.pick(&BACK);
+    for _ in 0..r.below(13) {
         // Each call of the list is compared with the model too.
         let matrix = Matrix::read(&run.words, n, m, run.k);
         let mut lent;
-        if r.chance(700) {
+        if r.chance(if run.k > 0 { back } else { back / 4 }) {
+            lent = cases::lend(Kind::TakeBack, &matrix);
+            run.take_back()?;
+        } else if r.chance(700) {
             let (u, v) = some_pair(r, &matrix);
             lent = cases::lend(Kind::Split, &matrix);
             (lent.u, lent.v) = (u, v);
@@ -251,7 +341,10 @@ fn small(r: &mut Random) -> Result<usize, String> {
         if after.words != run.words {
             return run.fail("a call of the list leaves other words than the same call by itself");
         }
-        facts += 1;
+        run.tally.facts += 1;
+    }
+    if r.chance(60) {
+        run.take_all_back()?;
     }
     run.cycles(r)?;
     let bits = n + run.k;
@@ -275,23 +368,59 @@ fn small(r: &mut Random) -> Result<usize, String> {
             run.peelings(&extended, &code, &received)?;
         }
     }
-    Ok(facts + run.facts)
+    Ok(run.tally)
 }
 
-fn large(r: &mut Random, given: Matrix, way: usize) -> Result<usize, String> {
-    let n = given.n;
-    let mut run = Run::new(given);
-    for _ in 0..[0, 12, 3, 0, 25][way % 5] {
-        let matrix = Matrix::read(&run.words, n, run.given.m, run.k);
+/// Splits of some pairs by hand.
+fn split_some(r: &mut Random, run: &mut Run, number: usize) {
+    for _ in 0..number {
+        let matrix = Matrix::read(&run.words, run.given.n, run.given.m, run.k);
         let (u, v) = some_pair(r, &matrix);
         run.split(u, v);
     }
-    match way % 5 {
+}
+
+fn take_some_back(run: &mut Run, number: usize) -> Result<(), String> {
+    (0..number).try_for_each(|_| run.take_back())
+}
+
+/// The ways that a list of calls on a large matrix is made.
+const WAYS: usize = 8;
+
+fn large(r: &mut Random, given: Matrix, way: usize) -> Result<Tally, String> {
+    let n = given.n;
+    let mut run = Run::new(given);
+    split_some(r, &mut run, [0, 12, 3, 0, 25, 9, 0, 4][way]);
+    match way {
         1 => {}
         2 => {
             run.orthogonalise()?;
             run.split(0, 1);
             run.split(n, n + 1);
+            run.orthogonalise()?;
+        }
+        // Splits by hand, of which some are taken back, twice.
+        5 => {
+            take_some_back(&mut run, 5)?;
+            split_some(r, &mut run, 20);
+            take_some_back(&mut run, 7)?;
+        }
+        // Splits inside an orthogonalise are taken back, others are made, and it is orthogonalised again.
+        6 => {
+            run.orthogonalise()?;
+            take_some_back(&mut run, 15)?;
+            split_some(r, &mut run, 6);
+            take_some_back(&mut run, 3)?;
+            run.orthogonalise()?;
+            take_some_back(&mut run, 10)?;
+        }
+        // Everything is taken back, and more; then the list goes on.
+        7 => {
+            run.orthogonalise()?;
+            run.take_all_back()?;
+            split_some(r, &mut run, 5);
+            run.orthogonalise()?;
+            take_some_back(&mut run, 2)?;
             run.orthogonalise()?;
         }
         _ => run.orthogonalise()?,
@@ -309,17 +438,25 @@ fn large(r: &mut Random, given: Matrix, way: usize) -> Result<usize, String> {
         });
         run.peelings(&extended, code, &received)?;
     }
-    Ok(run.facts)
+    Ok(run.tally)
 }
 
-/// The number of facts that were checked.
-pub fn run() -> Result<usize, String> {
+/// The number of facts that were checked, and a note on the lists.
+pub fn run() -> Result<(usize, String), String> {
     let r = &mut Random::new(4);
-    let mut facts = 0;
+    let mut all = Tally::default();
+    let mut add = |tally: Tally| {
+        all.facts += tally.facts;
+        all.lists += tally.lists;
+        all.back += tally.back;
+        all.inside += tally.inside;
+        all.nothing += tally.nothing;
+        all.again += tally.again;
+    };
     for _ in 0..5000 {
-        facts += small(r)?;
+        add(small(r)?);
     }
-    for way in 0..5 {
+    for way in 0..WAYS {
         let mut matrices = vec![generate::sparse(r), cases::l(23), cases::l(11)];
         for (n, m, part) in
             [(120, 60, 500), (120, 118, 500), (100, 30, 300), (120, 90, 60), (60, 30, 500), (120, 40, 1000)]
@@ -327,8 +464,15 @@ pub fn run() -> Result<usize, String> {
             matrices.push(generate::given(r, n, m, part));
         }
         for matrix in matrices {
-            facts += large(r, matrix, way)?;
+            add(large(r, matrix, way)?);
         }
     }
-    Ok(facts)
+    let Tally { facts, lists, back, inside, nothing, again } = all;
+    if inside < 1000 || back - inside < 1000 || nothing < 1000 || again < 1000 {
+        return Err(format!("{back} takings back, {inside} inside, {nothing} of nothing: a fault of this program"));
+    }
+    let note = format!(
+        "{lists} lists; {back} takings back made, {inside} of them of splits inside an orthogonalise, {nothing} refused 15"
+    );
+    Ok((facts, note))
 }

@@ -110,6 +110,28 @@ pub fn triples(r: &mut Random, n: usize, m: usize, k: usize) -> Matrix {
     matrix
 }
 
+/// Whether rule A would break with the newest added bit taken back: then no splits made the matrix.
+fn stuck(matrix: &Matrix) -> bool {
+    let mut back = matrix.clone();
+    back.take_back();
+    !back.rule_a()
+}
+
+/// A matrix with at most these n, m and k whose newest added bit cannot be taken back.
+pub fn not_back(r: &mut Random, n: usize, m: usize, k: usize) -> Matrix {
+    loop {
+        let (n, m, part) = (r.between(3, n), r.between(1, m), r.pick(&PARTS));
+        let mut matrix = given(r, n, m, part / 4);
+        for _ in 0..r.between(2, k) {
+            let part = r.pick(&PARTS);
+            add_triple(r, &mut matrix, part);
+        }
+        if matrix.k > 0 && stuck(&matrix) {
+            return matrix;
+        }
+    }
+}
+
 /// The accepted matrix with the most ones: the pairs of 29 bits have the added checks, and each given check contains
 /// all the other bits.
 pub fn most_ones() -> Matrix {

@@ -65,6 +65,7 @@ pub fn call(lent: &mut Lent, values: &mut [u64]) -> Result<u32, String> {
                 Kind::Share => ffi::parity_share(words_ptr, words_len, n, m, k, u, v, values_ptr, values_len),
                 Kind::Count => ffi::parity_count(words_ptr, words_len, n, m, k, values_ptr, values_len),
                 Kind::Split => ffi::parity_split(words_ptr, words_len, n, m, k, u, v, values_ptr, values_len),
+                Kind::TakeBack => ffi::parity_take_back(words_ptr, words_len, n, m, k, values_ptr, values_len),
                 Kind::Orthogonalise => ffi::parity_orthogonalise(words_ptr, words_len, n, m, k, values_ptr, values_len),
                 Kind::Verify => {
                     ffi::parity_verify(words_ptr, words_len, n, m, k, input_ptr, input_len, values_ptr, values_len)

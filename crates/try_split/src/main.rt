@@ -47,21 +47,15 @@ fn show_split(words: &mut [u64], n: usize, m: usize, k: usize, u: usize, v: usiz
     end();
 }
 
-// Takes back, and answers whether that was made.
-fn show_take_back(words: &mut [u64], n: usize, m: usize, k: usize) -> bool {
+fn show_take_back(words: &mut [u64], n: usize, m: usize, k: usize) {
     match split::take_back(words, n, m, k) {
         TakingBack::Made { share, k } => {
             field(b"taken back, s ", share);
             field(b", k ", k as u64);
-            end();
-            true
         }
-        TakingBack::Refused(r) => {
-            field(b"refused ", parity::number(r));
-            end();
-            false
-        }
+        TakingBack::Refused(r) => field(b"refused ", parity::number(r)),
     }
+    end();
 }
 
 fn show_result(splits: u64, sum: u64, k: usize) {
@@ -202,6 +196,13 @@ fn ones(words: &[u64], m: usize) -> u64
     n
 }
 
+// Takes back the `k` splits of L.
+fn take_all_back(words: &mut [u64], k: usize) {
+    for i in 0..k {
+        show_take_back(words, 23, 23, k - i);
+    }
+}
+
 fn case_l() {
     io::write_all(1, b"L\n");
     let mut words = [0u64; 4096];
@@ -212,11 +213,7 @@ fn case_l() {
     let before = words;
     let k = show_orthogonalise(&mut words, 23, 23);
     show_count(&words, 23, 23, k);
-    for i in 0..k {
-        if !show_take_back(&mut words, 23, 23, k - i) {
-            return;
-        }
-    }
+    take_all_back(&mut words, k);
     show_whether_same(&words, &before);
 }
 

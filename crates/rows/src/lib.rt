@@ -46,7 +46,7 @@ pub fn contains(rows: &[u64], width: usize, c: usize, b: usize) -> bool
     requires { ⌜ (c * width + width ≤ length (now rows)) × (b < width * 64) ⌝ }
     ensures { λ r. ⌜ r ≡ lent width (now (rows .entry)) c b ⌝ }
 {
-    (rows[c * width + b / 64] >> (b % 64)) % 2 == 1
+    rows[c * width + b / 64] & (1 << (b % 64)) != 0
 }
 
 // Bit `b` is put into row `c`.
@@ -110,7 +110,7 @@ pub fn is_odd(rows: &[u64], width: usize, c: usize, set: &[u64]) -> bool
     for i in 0..width {
         acc = acc ^ (rows[c * width + i] & set[i]);
     }
-    u64::count_ones(acc) % 2 == 1
+    u64::count_ones(acc) & 1 == 1
 }
 
 // The or of what each word of row `i` of `a` and the same word of row `j` of `b` have in common.

@@ -1,19 +1,19 @@
 -- Laws of the bits of a word, and of the machine's operations on them, over the word's width. Assumes nothing.
 use mathlib.Core.Path.{_≡_, refl, sym, ap, _∙_}
-use mathlib.Core.Bool.{false, not, _&&_, _||_}
+use mathlib.Core.Bool.{true, false, not, _&&_, _||_, and-false, true≢false}
 use Prim.Native.Nat.{ℕ, zero, suc, _+_, _-_, _*_, _/_, _%_, _^_, _≤_, _<_, min, max}
-use native.Mathlib.Nat.{add-mul, suc-mul, sub-add-cancel, div-eq-of-lt-le, one-mul, mod-lt, div-self, div-one, div-eq-of-lt, zero-div, mul-mod-left, pow-suc, lt-of-lt-of-le}
+use native.Mathlib.Nat.{add-mul, suc-mul, sub-add-cancel, div-eq-of-lt-le, one-mul, mod-lt, div-self, div-one, div-eq-of-lt, zero-div, mul-mod-left, pow-suc, lt-of-lt-of-le, lt-of-le-of-lt}
 use native.Mathlib.Numerals.{add-one}
 use native.Mathlib.Decide.{decLt, ℕ-discrete}
 use native.Mathlib.Omega.{arith}
 use lib.Arith.{digits-mod, lt-one}
-use lib.Bits.{bitAnd, bitOr, and-step, or-step, and-shr, or-shr}
+use lib.Bits.{bitAnd, bitOr, and-step, or-step, and-shr, or-shr, and-le-r}
 use lib.Dec.{eqb, ltb, lit<}
 use lib.Pow.{pow-pos, pow-lt, pow-mono, pow-add, shl-exact, shl-shr, shr-shr, shr-lt, le-ones, suc-ones, ones-lt, ones-split, split as parts, high as upper}
 use borrow.Author.Tests.{eq-eqb, ne-eqb, lt-ltb, le-ltb}
 use Rattle.parity.specs.Finite.{one}
 use Rattle.parity.specs.Matrix.{bitOf}
-use Rattle.parity.proofs.Finite.Sums.{byte-one}
+use Rattle.parity.proofs.Finite.Sums.{is-true, is-false, is, byte-one}
 
 -- digit i of a word, 0 or 1
 abbrev digit : ℕ → ℕ → ℕ
@@ -141,3 +141,22 @@ same-bits (suc k) x y a b f =
     (λ i l. sym (higher x i) ∙ f (1 + i) (omega arith) ∙ higher y i) in
     let q : x % 2 ≡ y % 2 = sym (low-bit x) ∙ ap one (f 0 (omega arith)) ∙ low-bit y in
     omega arith
+
+-- a bit tested by a mask
+pub bit-test : (w t : ℕ) → not (eqb (bitAnd w (2 ^ t)) 0) ≡ bitOf w t
+bit-test w t =
+    elim (is (bitOf w t)) [
+      | is-true e ↦
+          let h : bitOf (bitAnd w (2 ^ t)) t ≡ true = bit-and w (2 ^ t) t ∙ rw (e, bit-pow t t, eq-eqb t t refl) in
+          rw (e, ne-eqb (bitAnd w (2 ^ t)) 0 (λ q. true≢false (sym h ∙ ap (λ x. bitOf x t) q ∙ bit-zero t)))
+      | is-false e ↦
+          let h : bitAnd w (2 ^ t) ≡ 0 = same-bits (suc t) (bitAnd w (2 ^ t)) 0 (lt-of-le-of-lt (and-le-r w (2 ^ t)) (pow-lt {i = t} {j = suc t} (omega arith))) (pow-pos (suc t)) (λ i l. none e i) in
+          rw (e, eq-eqb (bitAnd w (2 ^ t)) 0 h)
+    ]
+  where
+    none : bitOf w t ≡ false → (i : ℕ) → bitOf (bitAnd w (2 ^ t)) i ≡ bitOf 0 i
+    none e i =
+        bit-and w (2 ^ t) i ∙ rw (bit-pow t i, bit-zero i) (elim (ℕ-discrete i t) [
+          | yes q ↦ rw (q, e)
+          | no d ↦ rw (ne-eqb i t d, and-false)
+        ])

@@ -1,7 +1,8 @@
 -- `contains` meets its contract. Assumes nothing.
-use Prim.Native.Nat.{_*_}
+use Prim.Native.Nat.{_*_, _%_}
 use borrow.Author.Tests.{lt-ltb}
-use Rattle.parity.specs.Matrix.{lent, bitOf}
+use Rattle.parity.specs.Matrix.{lent}
+use Rattle.parity.proofs.Matrix.Digits.{one-shl, bit-test}
 use native.Mathlib.Omega.{arith}
 use borrow.Author.Needs.{needs}
 use Rattle.rows.proofs.contains.Statement.{statement}
@@ -19,14 +20,16 @@ mul-result-2 c = search needs
 shared-slice-read-result : tie.Need-shared-slice-read-result
 shared-slice-read-result c = search needs
 
-shr-result : tie.Need-shr-result
-shr-result c = search needs
+shl-result : tie.Need-shl-result
+shl-result c = search needs
 
 returns : tie.Need-returns
-unfolding lent bitOf
-returns c = rw (lt-ltb (c .before .args .b) (c .before .args .width * 64) (omega arith))
+unfolding lent
+returns c =
+    let b = c .before .args .b in
+    rw (lt-ltb b (c .before .args .width * 64) (omega arith), one-shl (b % 64) (omega arith)) (bit-test _ (b % 64))
 
 pub contains-spec : {M : Type 1} → statement M
 contains-spec =
     tie.close
-    (tie.spec mul-result add-result mul-result-2 shared-slice-read-result shr-result returns)
+    (tie.spec mul-result add-result mul-result-2 shared-slice-read-result shl-result returns)

@@ -3,11 +3,11 @@ use Rattle.parity.proofs.Words.Sets.{inside-word, ones-xor}
 use Rattle.parity.specs.Words.{inside, odd}
 use Rattle.parity.specs.Matrix.{lent}
 use lib.Count.{ones as onesOf}
-use lib.Bits.{and-le-l, xor-lt}
+use lib.Bits.{and-le-l, xor-lt, and-mask}
 use borrow.Author.Needs.{needs}
 use native.Mathlib.Omega.{arith}
 use Prim.Native.Nat.{_+_, _*_, _-_, _%_, _^_, _≤_, _<_}
-use mathlib.Core.Path.{_≡_, ap}
+use mathlib.Core.Path.{_≡_, ap, _∙_}
 use lib.ListN.{getD}
 use lib.Dec.{eqb}
 use Rattle.parity.specs.Finite.{sum, count}
@@ -62,7 +62,7 @@ returns : tie.Need-returns Inv-loop μ-loop
 unfolding odd
 returns c =
     let e : c .before .loop .i ≡ c .before .before .args .width = omega arith in
-    ap (λ a. eqb a 1) (rw e at (c .before .loop .inv .2))
+    ap (λ a. eqb a 1) (and-mask _ 1 ∙ (rw e at (c .before .loop .inv .2)))
 
 pub is-odd-spec : {M : Type 1} → statement M
 is-odd-spec =

@@ -5,4 +5,5 @@ pub mod Records
 pub mod ReadPart
 pub mod ReadWritten
 pub mod ReadBack
+pub mod SecondForm
 pub mod RoundTrip

@@ -1,4 +1,4 @@
-// The types that the calls share: the numbers of bits and of checks, and the refusals.
+// The types that the calls share: the numbers of bits and of checks, the forms of a record, and the refusals.
 ghost use mathlib.Core.Path.{_≡_};
 ghost use Rattle.parity.specs.Causes.{refusalOf};
 
@@ -7,6 +7,12 @@ pub struct Bit(pub usize);
 
 // A check's number: given checks first, then added ones.
 pub struct Check(pub usize);
+
+// The form of a record: the second has the number of each check written out.
+pub enum Form {
+    First,
+    Second,
+}
 
 // Why a call is refused: document 01's causes, in its order, and those that document 02 adds, each with the values that it returns.
 pub enum Refusal {

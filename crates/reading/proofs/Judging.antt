@@ -10,7 +10,8 @@ use lib.Dec.{eqb}
 use lib.ListN.{getD, length, drop}
 use borrow.Author.Tests.{eq-eqb, ne-eqb}
 use Rattle.parity.specs.Matrix.{Matrix, inRange}
-use Rattle.parity.specs.Record.{kindOf, payload, headWord, openWord, endWord, faulty, ending, loading}
+use Rattle.parity.specs.Record.{kindOf, payload, headKind, formOf, headWord, openWord, endWord, faulty, ending, loading}
+use Rattle.parity.specs.declared.Form.{Form}
 use Rattle.parity.proofs.Finite.Sums.{is-true, is-false, is}
 use Rattle.parity.proofs.Matrix.Accept.{ranges}
 use Rattle.parity.proofs.Record.Reading.{readingAt, read-missing, read-open, not-open, read-end, not-end, not-bit, end-last, end-more}
@@ -18,26 +19,26 @@ use Rattle.reading.specs.Read.{puts, BitsRead}
 use Rattle.reading.specs.Judge.{Gives, Complete, Stops, Reached, Loads}
 
 -- the first word
-pub head-kind : (w : ℕ) → (kindOf w ≡ 1 → ⊥) → headWord w ≡ false
+pub head-kind : (w : ℕ) → ((f : Form) → kindOf w ≡ headKind f → ⊥) → headWord (formOf w) w ≡ false
 unfolding headWord
-head-kind w d = rw (ne-eqb (kindOf w) 1 d)
+head-kind w d = rw (ne-eqb (kindOf w) (headKind (formOf w)) (d (formOf w)))
 
-pub head-range : (w : ℕ) → ((1 ≤ payload w % 256) × (payload w % 256 ≤ 120) × (payload w / 256 ≤ 120) → ⊥) → headWord w ≡ false
+pub head-range : (f : Form) (w : ℕ) → ((1 ≤ payload w % 256) × (payload w % 256 ≤ 120) × (payload w / 256 ≤ 120) → ⊥) → headWord f w ≡ false
 unfolding headWord
-head-range w d =
+head-range f w d =
     elim (is (inRange (payload w % 256) (payload w / 256) 0)) [
       | is-false e ↦ rw (e, and-false)
-      | is-true e ↦ let (a, b, f, g) = ranges (payload w % 256) (payload w / 256) 0 .0 e in absurd (d (a, b, f))
+      | is-true e ↦ let (a, b, g, t) = ranges (payload w % 256) (payload w / 256) 0 .0 e in absurd (d (a, b, g))
     ]
 
-pub head-yes : (w : ℕ) → kindOf w ≡ 1 → 1 ≤ payload w % 256 → payload w % 256 ≤ 120 → payload w / 256 ≤ 120 → headWord w ≡ true
+pub head-yes : (f : Form) (w : ℕ) → kindOf w ≡ headKind f → 1 ≤ payload w % 256 → payload w % 256 ≤ 120 → payload w / 256 ≤ 120 → headWord f w ≡ true
 unfolding headWord
-head-yes w e a b d = rw (eq-eqb (kindOf w) 1 e, ranges (payload w % 256) (payload w / 256) 0 .1 (a, b, d, omega arith))
+head-yes f w e a b d = rw (eq-eqb (kindOf w) (headKind f) e, ranges (payload w % 256) (payload w / 256) 0 .1 (a, b, d, omega arith))
 
-head-sizes : (w : ℕ) → headWord w ≡ true → (payload w % 256 ≤ 120) × (payload w / 256 ≤ 120)
+head-sizes : (f : Form) (w : ℕ) → headWord f w ≡ true → (payload w % 256 ≤ 120) × (payload w / 256 ≤ 120)
 unfolding headWord
-head-sizes w e =
-    let (a, b, d, f) = ranges (payload w % 256) (payload w / 256) 0 .0 (and-eq-true-iff (eqb (kindOf w) 1) _ .0 e .1) in
+head-sizes f w e =
+    let (a, b, d, g) = ranges (payload w % 256) (payload w / 256) 0 .0 (and-eq-true-iff (eqb (kindOf w) (headKind f)) _ .0 e .1) in
     (b, d)
 
 pub load-empty : (source : List ℕ) → length source ≡ 0 → loading source ≡ faulty 0
@@ -45,94 +46,95 @@ unfolding loading
 load-empty [] e = refl
 load-empty (w ∷ ws) e = absurd (omega arith)
 
-pub load-other : (source : List ℕ) → (length source ≡ 0 → ⊥) → headWord (getD source 0 0) ≡ false → loading source ≡ faulty 0
+pub load-other : (source : List ℕ) → (length source ≡ 0 → ⊥) → headWord (formOf (getD source 0 0)) (getD source 0 0) ≡ false → loading source ≡ faulty 0
 unfolding loading
 load-other [] k e = absurd (k refl)
 load-other (w ∷ ws) k e = rw e
 
-pub load-head : (source : List ℕ) (n m : ℕ) → (length source ≡ 0 → ⊥) → Gives (getD source 0 0) n m → Reached n m source 1 0
+pub load-head : (source : List ℕ) (f : Form) (n m : ℕ) → (length source ≡ 0 → ⊥) → Gives (getD source 0 0) f n m → Reached f n m source 1 0
 unfolding loading
-load-head [] n m k G = absurd (k refl)
-load-head (w ∷ ws) n m k G =
-    let (a, b) = head-sizes w (G .right) in
+load-head [] f n m k G = absurd (k refl)
+load-head (w ∷ ws) f n m k G =
+    let (a, b) = head-sizes f w (G .right) in
     record {
       few = rw (← G .bits) a;
       checks = rw (← G .checks) b;
-      start = rw (G .right, G .bits, G .checks);
+      start = rw (G .form, G .right, G .bits, G .checks);
       inside = omega arith;
       low = 0;
       matrix = λ c b. false;
-      reached = rw (G .right, G .bits, G .checks);
+      reached = rw (G .form, G .right, G .bits, G .checks);
     }
 
-pub stop-missing : (n : ℕ) (source : List ℕ) (p : ℕ) → length source ≤ p → Stops n source p p
-stop-missing n source p k = record { stops = λ m c below h l. read-missing n m source p c below h 0 k }
+module _ (f : Form) (n c : ℕ) (source : List ℕ) (p : ℕ) where
+  pub stop-missing : length source ≤ p → Stops f n c source p p
+  stop-missing k = record { stops = λ m below h l. read-missing f n m source p c below h 0 k }
 
-module _ (n : ℕ) (source : List ℕ) (p : ℕ) (k : p < length source) where
-  pub stop-open : openWord n (getD source p 0) ≡ false → Stops n source p p
-  stop-open e = record { stops = λ m c below h l. not-open n m source p c below h k l e }
+  module _ (k : p < length source) where
+    pub stop-open : openWord f n c (getD source p 0) ≡ false → Stops f n c source p p
+    stop-open e = record { stops = λ m below h l. not-open f n m source p c below h k l e }
 
-  -- `due` ones are looked at, all that the check has or all that the record has left
-  module _ (count due right : ℕ) (e : openWord n (getD source p 0) ≡ true) (f : payload (getD source p 0) ≡ count) (B : BitsRead n source (p + 1) due right)
-      (room : p + 1 + due ≤ length source) where
-    opened : (m c below : ℕ) (h : Matrix) → c < m → readingAt n m source p c 0 below h ≡ readingAt n m source (p + 1) (suc c) count 0 h
-    opened m c below h l = rw (add-one p, ← f) (read-open n m source p c below h k l e)
+    -- `due` ones are looked at, all that the check has or all that the record has left
+    module _ (count due right : ℕ) (e : openWord f n c (getD source p 0) ≡ true) (d : payload (getD source p 0) % 256 ≡ count)
+        (B : BitsRead n source (p + 1) due right) (room : p + 1 + due ≤ length source) where
+      opened : (m below : ℕ) (h : Matrix) → c < m → readingAt f n m source p c 0 below h ≡ readingAt f n m source (p + 1) (suc c) count 0 h
+      opened m below h l = rw (add-one p, ← d) (read-open f n m source p c below h k l e)
 
-    pub check-stops : (due < count → p + 1 + due ≡ length source) → right < count → Stops n source p (p + 1 + right)
-    check-stops t r = record {
-      stops = λ m c below h l.
-          let d : ℕ = count - suc right in
-          let s : count ≡ right + suc d = omega arith in
-          let g = puts source (suc c - 1) (p + 1) right h in
-          opened m c below h l ∙ ap (λ (x : ℕ). readingAt n m source (p + 1) (suc c) x 0 h) s ∙ B .rising .goes m (suc c) (suc d) h
-          ∙ elim (decLt right due) [
-            | yes q ↦ not-bit n m source (p + 1 + right) (suc c) (B .low) g (omega arith) d (B .next q)
-            | no q ↦ read-missing n m source (p + 1 + right) (suc c) (B .low) g (suc d) (outside q)
-          ];
-    }
-      where
-        outside : (right < due → ⊥) → length source ≤ p + 1 + right
-        outside q = let b = B .top in omega (arith, t (omega arith))
+      pub check-stops : (due < count → p + 1 + due ≡ length source) → right < count → Stops f n c source p (p + 1 + right)
+      check-stops t r = record {
+        stops = λ m below h l.
+            let x : ℕ = count - suc right in
+            let s : count ≡ right + suc x = omega arith in
+            let g = puts source (suc c - 1) (p + 1) right h in
+            opened m below h l ∙ ap (λ (y : ℕ). readingAt f n m source (p + 1) (suc c) y 0 h) s ∙ B .rising .goes f m (suc c) (suc x) h
+            ∙ elim (decLt right due) [
+              | yes q ↦ not-bit f n m source (p + 1 + right) (suc c) (B .low) g (omega arith) x (B .next q)
+              | no q ↦ read-missing f n m source (p + 1 + right) (suc c) (B .low) g (suc x) (outside q)
+            ];
+      }
+        where
+          outside : (right < due → ⊥) → length source ≤ p + 1 + right
+          outside q = let b = B .top in omega (arith, t (omega arith))
 
-    pub check-complete : due ≤ count → count ≤ right → Complete n source p (p + 1 + right)
-    check-complete d r =
-        let s : count ≡ right + 0 = omega (arith, B .top) in
-        record {
-          top = omega (arith, B .top);
-          low = B .low;
-          after = λ c h. puts source (suc c - 1) (p + 1) right h;
-          goes = λ m c below h l.
-              opened m c below h l ∙ ap (λ (x : ℕ). readingAt n m source (p + 1) (suc c) x 0 h) s ∙ B .rising .goes m (suc c) 0 h;
-        }
+      pub check-complete : due ≤ count → count ≤ right → Complete f n c source p (p + 1 + right)
+      check-complete x r =
+          let s : count ≡ right + 0 = omega (arith, B .top) in
+          record {
+            top = omega (arith, B .top);
+            low = B .low;
+            after = λ h. puts source (suc c - 1) (p + 1) right h;
+            goes = λ m below h l.
+                opened m below h l ∙ ap (λ (y : ℕ). readingAt f n m source (p + 1) (suc c) y 0 h) s ∙ B .rising .goes f m (suc c) 0 h;
+          }
 
 -- the checks, one after another
-module _ (n m : ℕ) (source : List ℕ) (p q c : ℕ) (R : Reached n m source p c) (l : c < m) where
-  pub reach-next : Complete n source p q → Reached n m source q (c + 1)
+module _ (f : Form) (n m : ℕ) (source : List ℕ) (p q c : ℕ) (R : Reached f n m source p c) (l : c < m) where
+  pub reach-next : Complete f n c source p q → Reached f n m source q (c + 1)
   reach-next C = record {
     few = R .few;
     checks = R .checks;
     start = R .start;
     inside = C .top;
     low = C .low;
-    matrix = C .after c (R .matrix);
-    reached = rw (add-one c) (R .reached ∙ C .goes m c (R .low) (R .matrix) l);
+    matrix = C .after (R .matrix);
+    reached = rw (add-one c) (R .reached ∙ C .goes m (R .low) (R .matrix) l);
   }
 
-  pub reach-stop : Stops n source p q → loading source ≡ faulty q
-  reach-stop S = R .reached ∙ S .stops m c (R .low) (R .matrix) l
+  pub reach-stop : Stops f n c source p q → loading source ≡ faulty q
+  reach-stop S = R .reached ∙ S .stops m (R .low) (R .matrix) l
 
 -- the end of a record
-module _ (n m : ℕ) (source : List ℕ) (p : ℕ) (R : Reached n m source p m) where
+module _ (f : Form) (n m : ℕ) (source : List ℕ) (p : ℕ) (R : Reached f n m source p m) where
   pub last-missing : length source ≤ p → loading source ≡ faulty p
-  last-missing k = R .reached ∙ read-missing n m source p m (R .low) (R .matrix) 0 k
+  last-missing k = R .reached ∙ read-missing f n m source p m (R .low) (R .matrix) 0 k
 
   module _ (k : p < length source) where
     pub last-other : endWord (getD source p 0) ≡ false → loading source ≡ faulty p
-    last-other e = R .reached ∙ not-end n m source p m (R .low) (R .matrix) k (omega arith) e
+    last-other e = R .reached ∙ not-end f n m source p m (R .low) (R .matrix) k (omega arith) e
 
     module _ (e : endWord (getD source p 0) ≡ true) where
       at-end : loading source ≡ ending n m (drop (suc p) source) (suc p) (R .matrix)
-      at-end = R .reached ∙ read-end n m source p m (R .low) (R .matrix) k (omega arith) e
+      at-end = R .reached ∙ read-end f n m source p m (R .low) (R .matrix) k (omega arith) e
 
       pub last-more : p + 1 < length source → loading source ≡ faulty (p + 1)
       last-more l = rw (add-one p) (at-end ∙ end-more n m source (suc p) (R .matrix) (omega arith))
@@ -141,6 +143,7 @@ module _ (n m : ℕ) (source : List ℕ) (p : ℕ) (R : Reached n m source p m) 
       last-right l = record {
         few = R .few;
         checks = R .checks;
+        form = f;
         start = R .start;
         matrix = R .matrix;
         loads = at-end ∙ end-last n m source (suc p) (R .matrix) (omega arith);

@@ -13,14 +13,14 @@ use Rattle.reading.specs.Read.{puts, Rising}
 
 pub rising-none : (n : ℕ) (source : List ℕ) (from : ℕ) → Rising n source from 0 0
 unfolding puts
-rising-none n source from = record { goes = λ m c d h. rw (add-zero from, zero-add d) }
+rising-none n source from = record { goes = λ f m c d h. rw (add-zero from, zero-add d) }
 
 pub rising-next : (n : ℕ) (source : List ℕ) (from j low : ℕ) → Rising n source from j low → from + j < length source
     → bitWord n low (getD source (from + j) 0) ≡ true → Rising n source from (j + 1) (payload (getD source (from + j) 0) + 1)
 unfolding puts
-rising-next n source from j low R k e = record {
-  goes = λ m c d h.
-      let f : suc j + d ≡ j + suc d = omega arith in
-      rw (add-one j, add-one (payload (getD source (from + j) 0)), f, add-suc from j)
-      (R .goes m c (suc d) h ∙ read-bit n m source (from + j) c low (puts source (c - 1) from j h) k d e);
+rising-next n source from j low R k o = record {
+  goes = λ f m c d h.
+      let e : suc j + d ≡ j + suc d = omega arith in
+      rw (add-one j, add-one (payload (getD source (from + j) 0)), e, add-suc from j)
+      (R .goes f m c (suc d) h ∙ read-bit f n m source (from + j) c low (puts source (c - 1) from j h) k d o);
 }

@@ -5,55 +5,58 @@ use mathlib.Core.List.{List}
 use Prim.Native.Nat.{ℕ, suc, _/_, _%_, _≤_, _<_}
 use lib.ListN.{length, drop}
 use Rattle.parity.specs.Matrix.{Matrix}
-use Rattle.parity.specs.Record.{payload, headWord, faulty, loaded, reading, loading}
-use Rattle.reading.specs.declared.judge.First.{First}
-use Rattle.reading.specs.declared.judge.First.the-variants.{Sizes, Faulty}
+use Rattle.parity.specs.Record.{payload, formOf, headWord, faulty, loaded, reading, loading}
+use Rattle.parity.specs.declared.Form.{Form}
+use Rattle.reading.specs.declared.judge.Head.{Head}
+use Rattle.reading.specs.declared.judge.Head.the-variants.{Sizes, Faulty}
 use Rattle.reading.specs.declared.judge.Step.{Step}
 use Rattle.reading.specs.declared.judge.Step.the-variants.{Next, Stop}
 use Rattle.reading.specs.declared.judge.Judged.{Judged}
 use Rattle.reading.specs.declared.judge.Judged.the-variants.{Right, Stopped}
 
--- The first word gives n and m.
-pub record Gives (w n m : ℕ) : Type 0 where
-  pub right : headWord w ≡ true
+-- The first word gives the form, n and m.
+pub record Gives (w : ℕ) (f : Form) (n m : ℕ) : Type 0 where
+  pub right : headWord f w ≡ true
+  pub form : formOf w ≡ f
   pub bits : payload w % 256 ≡ n
   pub checks : payload w / 256 ≡ m
 
-abbrev pub FirstRead : ℕ → First → Type 0
-FirstRead w (Sizes n m) = Gives w n m
-FirstRead w Faulty = headWord w ≡ false
+abbrev pub HeadRead : ℕ → Head → Type 0
+HeadRead w (Sizes f n m) = Gives w f n m
+HeadRead w Faulty = headWord (formOf w) w ≡ false
 
--- Reading, at place p with a check to open, comes to place q with that check complete.
-pub record Complete (n : ℕ) (source : List ℕ) (p q : ℕ) : Type 0 where
+-- Reading, at place p with check c to open, comes to place q with that check complete.
+pub record Complete (f : Form) (n c : ℕ) (source : List ℕ) (p q : ℕ) : Type 0 where
   pub top : q ≤ length source
   pub low : ℕ
-  pub after : ℕ → Matrix → Matrix
-  pub goes : (m c below : ℕ) (h : Matrix) → c < m
-      → reading n m (drop p source) p c 0 below h ≡ reading n m (drop q source) q (suc c) 0 low (after c h)
+  pub after : Matrix → Matrix
+  pub goes : (m below : ℕ) (h : Matrix) → c < m
+      → reading f n m (drop p source) p c 0 below h ≡ reading f n m (drop q source) q (suc c) 0 low (after h)
 
 -- It is faulty at place q.
-pub record Stops (n : ℕ) (source : List ℕ) (p q : ℕ) : Type 0 where
-  pub stops : (m c below : ℕ) (h : Matrix) → c < m → reading n m (drop p source) p c 0 below h ≡ faulty q
+pub record Stops (f : Form) (n c : ℕ) (source : List ℕ) (p q : ℕ) : Type 0 where
+  pub stops : (m below : ℕ) (h : Matrix) → c < m → reading f n m (drop p source) p c 0 below h ≡ faulty q
 
-abbrev pub CheckRead : ℕ → List ℕ → ℕ → Step → Type 0
-CheckRead n source p (Next q) = Complete n source p q
-CheckRead n source p (Stop q) = Stops n source p q
+abbrev pub CheckRead : Form → ℕ → ℕ → List ℕ → ℕ → Step → Type 0
+CheckRead f n c source p (Next q) = Complete f n c source p q
+CheckRead f n c source p (Stop q) = Stops f n c source p q
 
--- Reading the record came to place p with c complete checks.
-pub record Reached (n m : ℕ) (source : List ℕ) (p c : ℕ) : Type 0 where
+-- Reading the record, of the form f, came to place p with c complete checks.
+pub record Reached (f : Form) (n m : ℕ) (source : List ℕ) (p c : ℕ) : Type 0 where
   pub few : n ≤ 120
   pub checks : m ≤ 120
-  pub start : loading source ≡ reading n m (drop 1 source) 1 0 0 0 (λ c b. false)
+  pub start : loading source ≡ reading f n m (drop 1 source) 1 0 0 0 (λ c b. false)
   pub inside : p ≤ length source
   pub low : ℕ
   pub matrix : Matrix
-  pub reached : loading source ≡ reading n m (drop p source) p c 0 low matrix
+  pub reached : loading source ≡ reading f n m (drop p source) p c 0 low matrix
 
 -- The record loads.
 pub record Loads (n m : ℕ) (source : List ℕ) : Type 0 where
   pub few : n ≤ 120
   pub checks : m ≤ 120
-  pub start : loading source ≡ reading n m (drop 1 source) 1 0 0 0 (λ c b. false)
+  pub form : Form
+  pub start : loading source ≡ reading form n m (drop 1 source) 1 0 0 0 (λ c b. false)
   pub matrix : Matrix
   pub loads : loading source ≡ loaded n m matrix
 

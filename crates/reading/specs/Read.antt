@@ -5,13 +5,14 @@ use mathlib.Core.List.{List}
 use Prim.Native.Nat.{ℕ, zero, suc, _+_, _-_, _≤_, _<_}
 use lib.ListN.{getD, drop}
 use Rattle.parity.specs.Matrix.{Matrix, put}
-use Rattle.parity.specs.Record.{kindOf, payload, bitWord, reading}
+use Rattle.parity.specs.Record.{kindOf, payload, headKind, bitWord, reading}
+use Rattle.parity.specs.declared.Form.{Form}
 use Rattle.reading.specs.declared.words.Word.{Word}
 use Rattle.reading.specs.declared.words.Word.the-variants.{Head, Open, Bit, End, Faulty}
 
--- a word of none of the four kinds
+-- a word of none of the kinds
 pub record Kindless (w : ℕ) : Type 0 where
-  pub not-head : kindOf w ≡ 1 → ⊥
+  pub not-head : (f : Form) → kindOf w ≡ headKind f → ⊥
   pub not-open : kindOf w ≡ 2 → ⊥
   pub not-bit : kindOf w ≡ 3 → ⊥
   pub not-end : kindOf w ≡ 15 → ⊥
@@ -23,7 +24,7 @@ pub record Kind (k w x : ℕ) : Type 0 where
 
 -- what a word is read as
 abbrev pub Reads : ℕ → Word → Type 0
-Reads w (Head x) = Kind 1 w x
+Reads w (Head f x) = Kind (headKind f) w x
 Reads w (Open x) = Kind 2 w x
 Reads w (Bit x) = Kind 3 w x
 Reads w (End x) = Kind 15 w x
@@ -36,8 +37,8 @@ puts source c from (suc j) h = put c (payload (getD source (from + j) 0)) true (
 
 -- The j words from place `from` on are rising bits below n, none of them at `low` or above: reading goes on behind them.
 pub record Rising (n : ℕ) (source : List ℕ) (from j low : ℕ) : Type 0 where
-  pub goes : (m c d : ℕ) (h : Matrix)
-      → reading n m (drop from source) from c (j + d) 0 h ≡ reading n m (drop (from + j) source) (from + j) c d low (puts source (c - 1) from j h)
+  pub goes : (f : Form) (m c d : ℕ) (h : Matrix)
+      → reading f n m (drop from source) from c (j + d) 0 h ≡ reading f n m (drop (from + j) source) (from + j) c d low (puts source (c - 1) from j h)
 
 -- Of `count` words from place `from` on j are so, and the next one is not.
 pub record BitsRead (n : ℕ) (source : List ℕ) (from count j : ℕ) : Type 0 where

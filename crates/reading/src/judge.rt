@@ -1,10 +1,13 @@
 // Judging a record: its n and m, or the place of its first faulty word.
 use crate::words::Word;
+use crate::words::number_in;
 use crate::words::read;
+use parity::Check;
+use parity::Form;
 ghost use Prim.Native.Nat.{_+_, _≤_};
 ghost use lib.ListN.{length};
 ghost use Rattle.reading.specs.Read.{BitsRead};
-ghost use Rattle.reading.specs.Judge.{FirstRead, CheckRead, Reached, Judges};
+ghost use Rattle.reading.specs.Judge.{HeadRead, CheckRead, Reached, Judges};
 
 // What comes of judging a record.
 pub enum Judged {
@@ -13,8 +16,8 @@ pub enum Judged {
 }
 
 // What comes of judging the first word.
-pub enum First {
-    Sizes { n: usize, m: usize },
+pub enum Head {
+    Sizes { form: Form, n: usize, m: usize },
     Faulty,
 }
 
@@ -45,17 +48,23 @@ fn bits(source: &[u32], n: usize, from: usize, count: usize) -> usize
     count
 }
 
-// Judges a check, whose kind 2 word is at place `p`.
-fn check(source: &[u32], n: usize, p: usize) -> Step
+// Judges check `c`, whose kind 2 word is at place `p`.
+fn check(source: &[u32], form: Form, n: usize, c: Check, p: usize) -> Step
     requires { ⌜ p ≤ length (now source) ⌝ }
-    ensures { λ r. ⌜ CheckRead n (now (source .entry)) p r ⌝ }
+    ensures { λ r. ⌜ CheckRead form n (c .0) (now (source .entry)) p r ⌝ }
 {
     if p == source.len() {
         return Step::Stop(p);
     }
-    let Word::Open(count) = read(source[p]) else {
+    let Word::Open(x) = read(source[p]) else {
         return Step::Stop(p);
     };
+    let number = x / 256;
+    let due_number = number_in(form, c);
+    if number != due_number {
+        return Step::Stop(p);
+    }
+    let count = x % 256;
     if n < count {
         return Step::Stop(p);
     }
@@ -69,8 +78,8 @@ fn check(source: &[u32], n: usize, p: usize) -> Step
 }
 
 // Judges what is left at place `p`, behind the checks: the end word, and nothing else.
-fn last(source: &[u32], n: usize, m: usize, p: usize) -> Judged
-    requires { ⌜ Reached n m (now source) p m ⌝ }
+fn last(source: &[u32], form: Form, n: usize, m: usize, p: usize) -> Judged
+    requires { ⌜ Reached form n m (now source) p m ⌝ }
     ensures { λ r. ⌜ Judges (now (source .entry)) r ⌝ }
 {
     if p == source.len() {
@@ -89,13 +98,13 @@ fn last(source: &[u32], n: usize, m: usize, p: usize) -> Judged
 }
 
 // Judges the checks and what is behind them.
-fn checks(source: &[u32], n: usize, m: usize) -> Judged
-    requires { ⌜ Reached n m (now source) 1 0 ⌝ }
+fn checks(source: &[u32], form: Form, n: usize, m: usize) -> Judged
+    requires { ⌜ Reached form n m (now source) 1 0 ⌝ }
     ensures { λ r. ⌜ Judges (now (source .entry)) r ⌝ }
 {
     let mut p = 1;
     for c in 0..m {
-        match check(source, n, p) {
+        match check(source, form, n, Check(c), p) {
             Step::Next(q) => {
                 p = q;
             }
@@ -104,39 +113,39 @@ fn checks(source: &[u32], n: usize, m: usize) -> Judged
             }
         }
     }
-    last(source, n, m, p)
+    last(source, form, n, m, p)
 }
 
 // Judges the first word.
-fn head(w: u32) -> First
-    ensures { λ r. ⌜ FirstRead w r ⌝ }
+fn first_word(w: u32) -> Head
+    ensures { λ r. ⌜ HeadRead w r ⌝ }
 {
-    let Word::Head(x) = read(w) else {
-        return First::Faulty;
+    let Word::Head(form, x) = read(w) else {
+        return Head::Faulty;
     };
     let n = x % 256;
     let m = x / 256;
     if n < 1 {
-        return First::Faulty;
+        return Head::Faulty;
     }
     if 120 < n {
-        return First::Faulty;
+        return Head::Faulty;
     }
     if 120 < m {
-        return First::Faulty;
+        return Head::Faulty;
     }
-    First::Sizes { n, m }
+    Head::Sizes { form, n, m }
 }
 
-// Judges a record.
+// Judges a record, of either form.
 pub fn judge(source: &[u32]) -> Judged
     ensures { λ r. ⌜ Judges (now (source .entry)) r ⌝ }
 {
     if source.len() == 0 {
         return Judged::Stopped { place: 0 };
     }
-    let First::Sizes { n, m } = head(source[0]) else {
+    let Head::Sizes { form, n, m } = first_word(source[0]) else {
         return Judged::Stopped { place: 0 };
     };
-    checks(source, n, m)
+    checks(source, form, n, m)
 }

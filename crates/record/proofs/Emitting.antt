@@ -15,7 +15,9 @@ use lib.Seq.{sets, sets-eq, length-sets}
 use borrow.Author.Tests.{eq-eqb, ne-eqb, lt-ltb, le-ltb, ltb-false, not-true}
 use Rattle.parity.specs.Finite.{sum, count}
 use Rattle.parity.specs.Matrix.{Matrix, bitOf, lent}
-use Rattle.parity.specs.Record.{bitWords, checkWords, written}
+use Rattle.parity.specs.Record.{headKind, bitWords, opening, checkWords, recordOf, written}
+use Rattle.parity.specs.declared.Form.{Form}
+use Rattle.parity.specs.declared.Form.the-variants.{Second}
 use Rattle.parity.proofs.Finite.Sums.{count-mono}
 use Rattle.parity.proofs.Matrix.Digits.{bit-zero}
 use Rattle.parity.proofs.Matrix.Lent.{lent-word}
@@ -157,41 +159,41 @@ module _ (W : ℕ) (ws : List ℕ) (c i : ℕ) where
       omega (arith, length-bits (lent W ws c) ((i + 1) * 64), length-bits (lent W ws c) (used * 64), count-mono ((i + 1) * 64) (used * 64) (lent W ws c) (omega arith))
 
 -- the words of a check: one that opens it, and its bits
-pub check-length : (s : ℕ → Bool) (N : ℕ) → length (checkOf s N) ≡ 1 + length (bitWords s N)
+pub check-length : (f : Form) (c : ℕ) (s : ℕ → Bool) (N : ℕ) → length (checkOf f c s N) ≡ 1 + length (bitWords s N)
 unfolding checkOf
-check-length s N = omega arith
+check-length f c s N = omega arith
 
-pub wrote-check : (s : ℕ → Bool) (N x : ℕ) (old new : List ℕ) (p r : ℕ) → x ≡ count N s → Wrote (set old p (2 * 2 ^ 28 + x)) new (p + 1) (bitWords s N) r → Wrote old new p (checkOf s N) r
+pub wrote-check : (f : Form) (c : ℕ) (s : ℕ → Bool) (N x v : ℕ) (old new : List ℕ) (p r : ℕ) → v ≡ opening f c x → x ≡ count N s
+    → Wrote (set old p v) new (p + 1) (bitWords s N) r → Wrote old new p (checkOf f c s N) r
 unfolding checkOf
-wrote-check s N x old new p r e A =
-    rw (← e) (wrote-more old (set old p (2 * 2 ^ 28 + x)) new p (p + 1) r ((2 * 2 ^ 28 + x) ∷ []) (bitWords s N) (wrote-one old p (2 * 2 ^ 28 + x)) A)
+wrote-check f c s N x v old new p r d e A =
+    rw (← e, ← d) (wrote-more old (set old p v) new p (p + 1) r (v ∷ []) (bitWords s N) (wrote-one old p v) A)
 
 -- the checks
-pub checks-next : (h : Matrix) (N c : ℕ) → checkWords h N (c + 1) ≡ checkWords h N c ++ checkOf (h c) N
+pub checks-next : (f : Form) (h : Matrix) (N c : ℕ) → checkWords f h N (c + 1) ≡ checkWords f h N c ++ checkOf f c (h c) N
 unfolding checkWords checkOf
-checks-next h N c = rw (add-one c)
+checks-next f h N c = rw (add-one c)
 
-pub checks-mono : (h : Matrix) (n c m : ℕ) → c ≤ m → length (checkWords h n c) ≤ length (checkWords h n m)
-checks-mono h n c zero k = rw (le-zero k) (omega arith)
-checks-mono h n c (suc m) k =
-    elim (ℕ-discrete c (suc m)) [ yes q ↦ rw q (omega arith) | no d ↦ omega (arith, checks-mono h n c m (omega arith), length-check h n m) ]
+pub checks-mono : (f : Form) (h : Matrix) (n c m : ℕ) → c ≤ m → length (checkWords f h n c) ≤ length (checkWords f h n m)
+checks-mono f h n c zero k = rw (le-zero k) (omega arith)
+checks-mono f h n c (suc m) k =
+    elim (ℕ-discrete c (suc m)) [ yes q ↦ rw q (omega arith) | no d ↦ omega (arith, checks-mono f h n c m (omega arith), length-check f h n m) ]
 
 -- the whole record
-pub plain-length : (h : Matrix) (N n m : ℕ) → length (plainRecord h N n m) ≡ length (checkWords h N m) + 2
+pub plain-length : (f : Form) (h : Matrix) (N n m : ℕ) → length (plainRecord f h N n m) ≡ length (checkWords f h N m) + 2
 unfolding plainRecord
-plain-length h N n m = omega (arith, length-append (checkWords h N m) ((15 * 2 ^ 28) ∷ []))
+plain-length f h N n m = omega (arith, length-append (checkWords f h N m) ((15 * 2 ^ 28) ∷ []))
 
-pub wrote-plain : (h : Matrix) (N n m a b : ℕ) (old new : List ℕ) (q : ℕ) → a ≡ m → b ≡ n
-    → Wrote (set old 0 (2 ^ 28 + a * 256 + b)) new 1 (checkWords h N m) q
-    → Wrote old (set new q (15 * 2 ^ 28)) 0 (plainRecord h N n m) (q + 1)
+pub wrote-plain : (f : Form) (h : Matrix) (N n m v : ℕ) (old new : List ℕ) (q : ℕ) → v ≡ headKind f * 2 ^ 28 + m * 256 + n
+    → Wrote (set old 0 v) new 1 (checkWords f h N m) q → Wrote old (set new q (15 * 2 ^ 28)) 0 (plainRecord f h N n m) (q + 1)
 unfolding plainRecord
-wrote-plain h N n m a b old new q e f A =
-    rw (← e, ← f) (wrote-more old (set old 0 (2 ^ 28 + a * 256 + b)) (set new q (15 * 2 ^ 28)) 0 1 (q + 1) ((2 ^ 28 + a * 256 + b) ∷ []) _
-    (wrote-one old 0 (2 ^ 28 + a * 256 + b)) (wrote-more _ new _ 1 q (q + 1) (checkWords h N a) ((15 * 2 ^ 28) ∷ []) (rw (← e) at A) (wrote-one new q (15 * 2 ^ 28))))
+wrote-plain f h N n m v old new q d A =
+    rw (← d) (wrote-more old (set old 0 v) (set new q (15 * 2 ^ 28)) 0 1 (q + 1) (v ∷ []) _
+    (wrote-one old 0 v) (wrote-more _ new _ 1 q (q + 1) (checkWords f h N m) ((15 * 2 ^ 28) ∷ []) A (wrote-one new q (15 * 2 ^ 28))))
 
-pub plain-written : (ws : List ℕ) (N n m : ℕ) → n ≤ N → Accepted ws n m 0 → plainRecord (lent 8 ws) N n m ≡ written (lent 8 ws) n m
-unfolding plainRecord written
-plain-written ws N n m k A = rw (checks-wider (lent 8 ws) n N m k (λ d b l. A .sound .clean .bits d b (omega arith)))
+pub plain-written : (ws : List ℕ) (N n m : ℕ) → n ≤ N → Accepted ws n m 0 → plainRecord Second (lent 8 ws) N n m ≡ written (lent 8 ws) n m
+unfolding plainRecord recordOf
+plain-written ws N n m k A = rw (checks-wider Second (lent 8 ws) n N m k (λ d b l. A .sound .clean .bits d b (omega arith)))
 
 -- what stands afterwards, where the record is long enough
 pub wrote-first : (old new : List ℕ) (ws : List ℕ) (r : ℕ) → Wrote old new 0 ws r → length ws ≤ length old → new ≡ ws ++ drop (length ws) old

@@ -12,6 +12,7 @@ use lib.ListN.{getD, length, set, length-set, List·getD-eq-default}
 use lib.Seq.{getD-set-same, getD-set-other, set-getD, set-set}
 use Rattle.parity.specs.Matrix.{Matrix, lent}
 use Rattle.parity.specs.Record.{payload, openWord, loaded, loading}
+use Rattle.parity.specs.declared.Form.{Form}
 use Rattle.parity.proofs.Matrix.Digits.{bit-zero}
 use Rattle.parity.proofs.Matrix.Lent.{lent-in, lent-out, raised-put}
 use Rattle.parity.proofs.Record.Reading.{readingAt, bits, opens, read-open, read-bit, loads-more, loads-open, loads-bit, loads-end}
@@ -106,36 +107,36 @@ module _ (W : ℕ) (source : List ℕ) (from count j c : ℕ) (old new : List �
   }
 
 -- the ones of a check of a record that loads, j of them read
-pub record BitsIn (n m : ℕ) (source : List ℕ) (from c j d : ℕ) (g : Matrix) (n′ m′ : ℕ) (h : Matrix) : Type 0 where
+pub record BitsIn (f : Form) (n m : ℕ) (source : List ℕ) (from c j d : ℕ) (g : Matrix) (n′ m′ : ℕ) (h : Matrix) : Type 0 where
   pub inside : from + j < length source
   pub below : (i : ℕ) → i < j → payload (getD source (from + i) 0) < n
   pub rising : (i k : ℕ) → i < k → k < j → payload (getD source (from + i) 0) < payload (getD source (from + k) 0)
   pub low : ℕ
   pub last : (i : ℕ) → i < j → payload (getD source (from + i) 0) < low
-  pub rest : readingAt n m source (from + j) c d low (puts source (c - 1) from j g) ≡ loaded n′ m′ h
+  pub rest : readingAt f n m source (from + j) c d low (puts source (c - 1) from j g) ≡ loaded n′ m′ h
 
-pub bits-in : (n m : ℕ) (source : List ℕ) (from c j d low : ℕ) (g : Matrix) (n′ m′ : ℕ) (h : Matrix) → readingAt n m source from c (j + d) low g ≡ loaded n′ m′ h
-    → BitsIn n m source from c j d g n′ m′ h
+pub bits-in : (f : Form) (n m : ℕ) (source : List ℕ) (from c j d low : ℕ) (g : Matrix) (n′ m′ : ℕ) (h : Matrix) → readingAt f n m source from c (j + d) low g ≡ loaded n′ m′ h
+    → BitsIn f n m source from c j d g n′ m′ h
 unfolding puts
-bits-in n m source from c zero d low g n′ m′ h e = record {
-  inside = rw (add-zero from) (loads-more n m source from c low g n′ m′ h (0 + d) e);
+bits-in f n m source from c zero d low g n′ m′ h e = record {
+  inside = rw (add-zero from) (loads-more f n m source from c low g n′ m′ h (0 + d) e);
   below = λ i k. absurd (omega arith);
   rising = λ i k l t. absurd (omega arith);
   low = low;
   last = λ i k. absurd (omega arith);
   rest = rw (add-zero from) (rw (zero-add d) at e);
 }
-bits-in n m source from c (suc j) d low g n′ m′ h e =
-    let f : suc j + d ≡ j + suc d = omega arith in
-    let B = bits-in n m source from c j (suc d) low g n′ m′ h (rw f at e) in
+bits-in f n m source from c (suc j) d low g n′ m′ h e =
+    let s : suc j + d ≡ j + suc d = omega arith in
+    let B = bits-in f n m source from c j (suc d) low g n′ m′ h (rw s at e) in
     let p = puts source (c - 1) from j g in
-    let w = loads-bit n m source (from + j) c (B .low) p n′ m′ h d (B .rest) in
+    let w = loads-bit f n m source (from + j) c (B .low) p n′ m′ h d (B .rest) in
     let (a, b, t) = bits n (B .low) (getD source (from + j) 0) w in
-    let r = sym (read-bit n m source (from + j) c (B .low) p (B .inside) d w) ∙ B .rest in
+    let r = sym (read-bit f n m source (from + j) c (B .low) p (B .inside) d w) ∙ B .rest in
     record {
-      inside = rw (add-suc from j) (loads-more n m source (suc (from + j)) c _ _ n′ m′ h d r);
+      inside = rw (add-suc from j) (loads-more f n m source (suc (from + j)) c _ _ n′ m′ h d r);
       below = λ i k. elim (ℕ-discrete i j) [ yes q ↦ rw q t | no q ↦ B .below i (omega arith) ];
-      rising = λ i k l q. elim (ℕ-discrete k j) [ yes s ↦ rw s (omega (arith, B .last i (omega arith), b)) | no s ↦ B .rising i k l (omega arith) ];
+      rising = λ i k l q. elim (ℕ-discrete k j) [ yes v ↦ rw v (omega (arith, B .last i (omega arith), b)) | no v ↦ B .rising i k l (omega arith) ];
       low = suc (payload (getD source (from + j) 0));
       last = λ i k. elim (ℕ-discrete i j) [ yes q ↦ rw q (omega arith) | no q ↦ omega (arith, B .last i (omega arith), b) ];
       rest = rw (add-suc from j) r;
@@ -143,18 +144,20 @@ bits-in n m source from c (suc j) d low g n′ m′ h e =
 
 -- c checks of a record that loads are filled, and reading came to place p
 pub record Filling (m : ℕ) (source : List ℕ) (p c : ℕ) (ws : List ℕ) : Type 0 where
+  pub form : Form
   pub n : ℕ
   pub few : n ≤ 120
   pub checks : m ≤ 120
   pub matrix : Matrix
   pub loads : loading source ≡ loaded n m matrix
   pub low : ℕ
-  pub rest : readingAt n m source p c 0 low (lent 8 ws) ≡ loaded n m matrix
+  pub rest : readingAt form n m source p c 0 low (lent 8 ws) ≡ loaded n m matrix
 
 pub filling-none : (m : ℕ) (source ws : List ℕ) → Checks m source → Zeroed ws (length ws) → Filling m source 1 0 ws
 filling-none m source ws C Z =
     let L = C .loads in
     record {
+      form = L .form;
       n = C .n;
       few = L .few;
       checks = L .checks;
@@ -166,25 +169,26 @@ filling-none m source ws C Z =
 
 module _ (m : ℕ) (source : List ℕ) (p c : ℕ) (ws : List ℕ) (F : Filling m source p c ws) (l : c < m) where
   pub filling-more : p < length source
-  filling-more = loads-more (F .n) m source p c (F .low) (lent 8 ws) (F .n) m (F .matrix) 0 (F .rest)
+  filling-more = loads-more (F .form) (F .n) m source p c (F .low) (lent 8 ws) (F .n) m (F .matrix) 0 (F .rest)
 
-  opened : openWord (F .n) (getD source p 0) ≡ true
-  opened = loads-open (F .n) m source p c (F .low) (lent 8 ws) (F .n) m (F .matrix) l (F .rest)
+  opened : openWord (F .form) (F .n) c (getD source p 0) ≡ true
+  opened = loads-open (F .form) (F .n) m source p c (F .low) (lent 8 ws) (F .n) m (F .matrix) l (F .rest)
 
-  pub filling-count : payload (getD source p 0) ≤ 120
-  filling-count = omega (arith, opens (F .n) (getD source p 0) opened .1, F .few)
+  pub filling-count : payload (getD source p 0) % 256 ≤ 120
+  filling-count = omega (arith, opens (F .form) (F .n) c (getD source p 0) opened .2, F .few)
 
-  all-in : BitsIn (F .n) m source (p + 1) (suc c) (payload (getD source p 0)) 0 (lent 8 ws) (F .n) m (F .matrix)
+  all-in : BitsIn (F .form) (F .n) m source (p + 1) (suc c) (payload (getD source p 0) % 256) 0 (lent 8 ws) (F .n) m (F .matrix)
   all-in =
-      bits-in (F .n) m source (p + 1) (suc c) (payload (getD source p 0)) 0 0 (lent 8 ws) (F .n) m (F .matrix)
-      (rw (add-zero (payload (getD source p 0)), add-one p) (sym (read-open (F .n) m source p c (F .low) (lent 8 ws) filling-more l opened) ∙ F .rest))
+      bits-in (F .form) (F .n) m source (p + 1) (suc c) (payload (getD source p 0) % 256) 0 0 (lent 8 ws) (F .n) m (F .matrix)
+      (rw (add-zero (payload (getD source p 0) % 256), add-one p) (sym (read-open (F .form) (F .n) m source p c (F .low) (lent 8 ws) filling-more l opened) ∙ F .rest))
 
-  pub filling-payloads : Payloads source (p + 1) (payload (getD source p 0)) (8 * 64)
+  pub filling-payloads : Payloads source (p + 1) (payload (getD source p 0) % 256) (8 * 64)
   filling-payloads = record { inside = omega (arith, all-in .inside); below = λ j k. omega (arith, all-in .below j k, F .few); rising = all-in .rising }
 
-  pub filling-next : (new : List ℕ) → lent 8 new ≡ puts source c (p + 1) (payload (getD source p 0)) (lent 8 ws)
-      → Filling m source (p + 1 + payload (getD source p 0)) (c + 1) new
+  pub filling-next : (new : List ℕ) → lent 8 new ≡ puts source c (p + 1) (payload (getD source p 0) % 256) (lent 8 ws)
+      → Filling m source (p + 1 + payload (getD source p 0) % 256) (c + 1) new
   filling-next new s = record {
+    form = F .form;
     n = F .n;
     few = F .few;
     checks = F .checks;
@@ -196,6 +200,6 @@ module _ (m : ℕ) (source : List ℕ) (p c : ℕ) (ws : List ℕ) (F : Filling 
 
 pub filling-end : (m : ℕ) (source : List ℕ) (p : ℕ) (ws : List ℕ) → Filling m source p m ws → Filled source ws
 filling-end m source p ws F =
-    let e = loads-end (F .n) m source p m (F .low) (lent 8 ws) (F .n) m (F .matrix) (omega arith) (F .rest) .2 in
+    let e = loads-end (F .form) (F .n) m source p m (F .low) (lent 8 ws) (F .n) m (F .matrix) (omega arith) (F .rest) .2 in
     let f = F .loads in
     record { holds = λ n′ m′ h g. cc }

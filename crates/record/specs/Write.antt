@@ -7,20 +7,21 @@ use lib.ListN.{length}
 use lib.Seq.{sets}
 use Rattle.parity.specs.Finite.{count}
 use Rattle.parity.specs.Matrix.{Matrix, bitOf}
-use Rattle.parity.specs.Record.{bitWords, checkWords}
+use Rattle.parity.specs.Record.{headKind, bitWords, opening, checkWords}
+use Rattle.parity.specs.declared.Form.{Form}
 
 -- the words of the ones of x among its lowest b bits, bit 0 as the word `first`
 unfoldable pub wordOnes : ℕ → ℕ → ℕ → List ℕ
 wordOnes first x zero = []
 wordOnes first x (suc b) = wordOnes first x b ++ cond (bitOf x b) ((first + b) ∷ []) []
 
--- the words of a check that contains no bit at N or above
-unfoldable pub checkOf : (ℕ → Bool) → ℕ → List ℕ
-checkOf s N = (2 * 2 ^ 28 + count N s) ∷ bitWords s N
+-- the words of check c, which contains no bit at N or above
+unfoldable pub checkOf : Form → ℕ → (ℕ → Bool) → ℕ → List ℕ
+checkOf f c s N = opening f c (count N s) ∷ bitWords s N
 
--- the record of a matrix of n bits and m checks, none of which contains a bit at N or above
-unfoldable pub plainRecord : Matrix → ℕ → ℕ → ℕ → List ℕ
-plainRecord h N n m = (2 ^ 28 + m * 256 + n) ∷ checkWords h N m ++ ((15 * 2 ^ 28) ∷ [])
+-- the record, of a form, of a matrix of n bits and m checks, none of which contains a bit at N or above
+unfoldable pub plainRecord : Form → Matrix → ℕ → ℕ → ℕ → List ℕ
+plainRecord f h N n m = (headKind f * 2 ^ 28 + m * 256 + n) ∷ checkWords f h N m ++ ((15 * 2 ^ 28) ∷ [])
 
 -- `new` is `old` with the words ws stored from place p on, and r is the place behind them.
 pub record Wrote (old new : List ℕ) (p : ℕ) (ws : List ℕ) (r : ℕ) : Type 0 where

@@ -1,11 +1,15 @@
 // Writing the words of a record. No check has a one beyond its first `used` words.
+use parity::Check;
+use parity::Form;
+use reading::words::head_kind;
+use reading::words::number_in;
 use rows::common;
 ghost use mathlib.Core.Path.{_≡_};
 ghost use Prim.Native.Nat.{_+_, _*_, _^_, _≤_, _<_};
 ghost use lib.ListN.{length};
-ghost use Rattle.parity.specs.Finite.{count};
+ghost use Rattle.parity.specs.Finite.{sum, count};
 ghost use Rattle.parity.specs.Matrix.{lent};
-ghost use Rattle.parity.specs.Record.{bitWords, checkWords};
+ghost use Rattle.parity.specs.Record.{headKind, opening, bitWords, checkWords};
 ghost use Rattle.record.specs.Write.{wordOnes, checkOf, plainRecord, Wrote};
 
 // A number below 2^28, as part of a record word.
@@ -24,10 +28,10 @@ fn weight(words: &[u64], used: usize, c: usize) -> usize
     common(words, c, words, c, 8, used)
 }
 
-// How many words the record takes.
+// How many words the record takes, of whichever form: the first and the last, and for each check one that opens it and its ones.
 pub fn needed(words: &[u64], used: usize, m: usize) -> usize
     requires { ⌜ (length (now words) ≡ 4096) × (used ≤ 8) × (m ≤ 120) ⌝ }
-    ensures { λ r. ⌜ r ≡ length (checkWords (lent 8 (now (words .entry))) (used * 64) m) + 2 ⌝ }
+    ensures { λ r. ⌜ r ≡ sum m (λ c. 1 + count (used * 64) (lent 8 (now (words .entry)) c)) + 2 ⌝ }
 {
     let mut total: usize = 2;
     for c in 0..m {
@@ -69,37 +73,68 @@ fn put_row(rows: &[u64], width: usize, used: usize, c: usize, target: &mut [u32]
     at
 }
 
-// Writes a check from place `p` on, and answers the place behind it.
-fn put_check(words: &[u64], used: usize, c: usize, target: &mut [u32], p: usize) -> usize
-    requires { ⌜ (length (now words) ≡ 4096) × (used ≤ 8) × (c < 512) ⌝ }
-    requires { ⌜ p + length (checkOf (lent 8 (now words) c) (used * 64)) ≤ length (now target) ⌝ }
-    ensures { λ r. ⌜ Wrote (now (target .entry)) (now (target .exit)) p (checkOf (lent 8 (now (words .entry)) c) (used * 64)) r ⌝ }
+// The word that opens check `c`, of so many ones.
+fn opening_word(form: Form, c: Check, ones: usize) -> u32
+    requires { ⌜ (c .0 < 512) × (ones ≤ 512) ⌝ }
+    ensures { λ r. ⌜ r ≡ opening form (c .0) ones ⌝ }
 {
-    target[p] = 0x2000_0000 + narrow(weight(words, used, c));
-    put_row(words, 8, used, c, target, p + 1)
+    0x2000_0000 + narrow(number_in(form, c)) * 256 + narrow(ones)
+}
+
+// Writes check `c` from place `p` on, and answers the place behind it.
+fn put_check(
+    words: &[u64],
+    used: usize,
+    form: Form,
+    c: Check,
+    target: &mut [u32],
+    p: usize,
+) -> usize
+    requires { ⌜ (length (now words) ≡ 4096) × (used ≤ 8) × (c .0 < 512) ⌝ }
+    requires { ⌜ p + length (checkOf form (c .0) (lent 8 (now words) (c .0)) (used * 64)) ≤ length (now target) ⌝ }
+    ensures { λ r. ⌜ Wrote (now (target .entry)) (now (target .exit)) p (checkOf form (c .0) (lent 8 (now (words .entry)) (c .0)) (used * 64)) r ⌝ }
+{
+    let at = c.0;
+    target[p] = opening_word(form, c, weight(words, used, at));
+    put_row(words, 8, used, at, target, p + 1)
 }
 
 // Writes `m` checks from place 1 on, and answers the place behind them.
-fn put_checks(words: &[u64], used: usize, m: usize, target: &mut [u32]) -> usize
+fn put_checks(words: &[u64], used: usize, form: Form, m: usize, target: &mut [u32]) -> usize
     requires { ⌜ (length (now words) ≡ 4096) × (used ≤ 8) × (m ≤ 120) ⌝ }
-    requires { ⌜ 1 + length (checkWords (lent 8 (now words)) (used * 64) m) ≤ length (now target) ⌝ }
-    ensures { λ r. ⌜ Wrote (now (target .entry)) (now (target .exit)) 1 (checkWords (lent 8 (now (words .entry))) (used * 64) m) r ⌝ }
+    requires { ⌜ 1 + length (checkWords form (lent 8 (now words)) (used * 64) m) ≤ length (now target) ⌝ }
+    ensures { λ r. ⌜ Wrote (now (target .entry)) (now (target .exit)) 1 (checkWords form (lent 8 (now (words .entry))) (used * 64) m) r ⌝ }
 {
     let mut p = 1;
     for c in 0..m {
-        p = put_check(words, used, c, target, p);
+        p = put_check(words, used, form, Check(c), target, p);
     }
     p
 }
 
-// Writes the record, and answers how many words it took.
-pub fn put_record(words: &[u64], used: usize, n: usize, m: usize, target: &mut [u32]) -> usize
-    requires { ⌜ (length (now words) ≡ 4096) × (used ≤ 8) × (n ≤ 120) × (m ≤ 120) ⌝ }
-    requires { ⌜ length (plainRecord (lent 8 (now words)) (used * 64) n m) ≤ length (now target) ⌝ }
-    ensures { λ r. ⌜ Wrote (now (target .entry)) (now (target .exit)) 0 (plainRecord (lent 8 (now (words .entry))) (used * 64) n m) r ⌝ }
+// The first word.
+fn head_word(form: Form, n: usize, m: usize) -> u32
+    requires { ⌜ (n ≤ 120) × (m ≤ 120) ⌝ }
+    ensures { λ r. ⌜ r ≡ headKind form * 2 ^ 28 + m * 256 + n ⌝ }
 {
-    target[0] = 0x1000_0000 + narrow(m) * 256 + narrow(n);
-    let end = put_checks(words, used, m, target);
+    narrow(head_kind(form)) * 0x1000_0000 + narrow(m) * 256 + narrow(n)
+}
+
+// Writes the record, of a form, and answers how many words it took.
+pub fn put_record(
+    words: &[u64],
+    used: usize,
+    form: Form,
+    n: usize,
+    m: usize,
+    target: &mut [u32],
+) -> usize
+    requires { ⌜ (length (now words) ≡ 4096) × (used ≤ 8) × (n ≤ 120) × (m ≤ 120) ⌝ }
+    requires { ⌜ length (plainRecord form (lent 8 (now words)) (used * 64) n m) ≤ length (now target) ⌝ }
+    ensures { λ r. ⌜ Wrote (now (target .entry)) (now (target .exit)) 0 (plainRecord form (lent 8 (now (words .entry))) (used * 64) n m) r ⌝ }
+{
+    target[0] = head_word(form, n, m);
+    let end = put_checks(words, used, form, m, target);
     target[end] = 0xf000_0000;
     end + 1
 }

@@ -47,7 +47,7 @@ pub fn fill(source: &[u32], words: &mut [u64], m: usize)
     clear(words);
     let mut p = 1;
     for c in 0..m {
-        let count = payload(source[p]);
+        let count = payload(source[p]) % 256;
         fill_row(source, p + 1, count, words, 8, c);
         p = p + 1 + count;
     }

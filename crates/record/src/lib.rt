@@ -7,6 +7,7 @@ use crate::emit::put_record;
 use crate::fill::fill;
 use matrix::Accepting;
 use matrix::accept;
+use parity::Form;
 use parity::Refusal;
 use reading::judge::Judged;
 use reading::judge::judge;
@@ -29,7 +30,7 @@ pub enum Writing {
     Refused(Refusal),
 }
 
-// Loads the matrix of a record into all 4,096 words.
+// Loads the matrix of a record, of either form, into all 4,096 words.
 pub fn load(record: &[u32], words: &mut [u64]) -> Loading
     ensures { λ r. ⌜ loadingReply r ≡ loadOutcome (now («record» .entry)) (now (words .entry)) .reply ⌝ }
     ensures { λ r. ⌜ now (words .exit) ≡ loadOutcome (now («record» .entry)) (now (words .entry)) .after ⌝ }
@@ -46,7 +47,7 @@ pub fn load(record: &[u32], words: &mut [u64]) -> Loading
     }
 }
 
-// Writes a matrix with k = 0 into the first words of a record.
+// Writes a matrix with k = 0 into the first words of a record, which is of the second form.
 pub fn write(words: &[u64], n: usize, m: usize, k: usize, record: &mut [u32]) -> Writing
     ensures { λ r. ⌜ writingReply r ≡ writeOutcome (now (words .entry)) n m k (now («record» .entry)) .reply ⌝ }
     ensures { λ r. ⌜ now («record» .exit) ≡ writeOutcome (now (words .entry)) n m k (now («record» .entry)) .after ⌝ }
@@ -62,6 +63,6 @@ pub fn write(words: &[u64], n: usize, m: usize, k: usize, record: &mut [u32]) ->
     if record.len() < used {
         return Writing::Refused(Refusal::RecordTooShort { needed: used });
     }
-    put_record(words, IN_USE, n, m, record);
+    put_record(words, IN_USE, Form::Second, n, m, record);
     Writing::Written { used }
 }

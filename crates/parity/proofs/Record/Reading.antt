@@ -2,7 +2,7 @@
 use mathlib.Core.Path.{_≡_, sym, _∙_}
 use mathlib.Core.Bool.{true, false, _&&_, and-false, and-eq-true-iff}
 use mathlib.Core.List.{List}
-use Prim.Native.Nat.{ℕ, suc, _+_, _*_, _-_, _^_, _≤_, _<_}
+use Prim.Native.Nat.{ℕ, suc, _+_, _*_, _-_, _/_, _%_, _^_, _≤_, _<_}
 use native.Mathlib.Nat.{div-add-mod'}
 use native.Mathlib.Decide.{decLt}
 use native.Mathlib.Omega.{arith}
@@ -12,7 +12,9 @@ use lib.ListN.{getD, length, drop, drop-of-length-le}
 use lib.Seq.{drop-cons}
 use borrow.Author.Tests.{eq-eqb, ne-eqb, lt-ltb, le-ltb, le-leb, lt-leb, eqb-true, ltb-true, leb-true}
 use Rattle.parity.specs.Matrix.{Matrix, put}
-use Rattle.parity.specs.Record.{kindOf, payload, openWord, bitWord, endWord, Loaded, faulty, loaded, ending, reading}
+use Rattle.parity.specs.Record.{kindOf, payload, numberIn, openWord, bitWord, endWord, Loaded, faulty, loaded, ending, reading}
+use Rattle.parity.specs.declared.Form.{Form}
+use Rattle.parity.specs.declared.Form.the-variants.{First, Second}
 use Rattle.parity.proofs.Finite.Sums.{is-true, is-false, is}
 
 -- a word is its kind and its payload
@@ -28,24 +30,35 @@ pub word-payload : (k x : ℕ) → x < 2 ^ 28 → payload (k * 2 ^ 28 + x) ≡ x
 unfolding payload
 word-payload k x l = digits-mod k l
 
+-- the number in a kind 2 word is a byte
+pub number-most : (f : Form) (c : ℕ) → numberIn f c ≤ c
+number-most First c = omega arith
+number-most Second c = omega arith
+
 -- what the tests of a word say
-pub opens : (n w : ℕ) → openWord n w ≡ true → (kindOf w ≡ 2) × (payload w ≤ n)
+pub opens : (f : Form) (n c w : ℕ) → openWord f n c w ≡ true → (kindOf w ≡ 2) × (payload w / 256 ≡ numberIn f c) × (payload w % 256 ≤ n)
 unfolding openWord
-opens n w e =
-    let (a, b) = and-eq-true-iff (eqb (kindOf w) 2) (leb (payload w) n) .0 e in
-    (eqb-true (kindOf w) 2 a, leb-true (payload w) n b)
+opens f n c w e =
+    let (a, b) = and-eq-true-iff (eqb (kindOf w) 2 && eqb (payload w / 256) (numberIn f c)) (leb (payload w % 256) n) .0 e in
+    let (d, g) = and-eq-true-iff (eqb (kindOf w) 2) (eqb (payload w / 256) (numberIn f c)) .0 a in
+    (eqb-true (kindOf w) 2 d, eqb-true (payload w / 256) (numberIn f c) g, leb-true (payload w % 256) n b)
 
-pub open-yes : (n w : ℕ) → kindOf w ≡ 2 → payload w ≤ n → openWord n w ≡ true
-unfolding openWord
-open-yes n w e k = rw (eq-eqb (kindOf w) 2 e, le-leb (payload w) n k)
+module _ (f : Form) (n c w : ℕ) where
+  pub open-yes : kindOf w ≡ 2 → payload w / 256 ≡ numberIn f c → payload w % 256 ≤ n → openWord f n c w ≡ true
+  unfolding openWord
+  open-yes e d k = rw (eq-eqb (kindOf w) 2 e, eq-eqb (payload w / 256) (numberIn f c) d, le-leb (payload w % 256) n k)
 
-pub open-kind : (n w : ℕ) → (kindOf w ≡ 2 → ⊥) → openWord n w ≡ false
-unfolding openWord
-open-kind n w d = rw (ne-eqb (kindOf w) 2 d)
+  pub open-kind : (kindOf w ≡ 2 → ⊥) → openWord f n c w ≡ false
+  unfolding openWord
+  open-kind d = rw (ne-eqb (kindOf w) 2 d)
 
-pub open-large : (n w : ℕ) → n < payload w → openWord n w ≡ false
-unfolding openWord
-open-large n w k = rw (lt-leb (payload w) n k, and-false)
+  pub open-number : (payload w / 256 ≡ numberIn f c → ⊥) → openWord f n c w ≡ false
+  unfolding openWord
+  open-number d = rw (ne-eqb (payload w / 256) (numberIn f c) d, and-false)
+
+  pub open-large : n < payload w % 256 → openWord f n c w ≡ false
+  unfolding openWord
+  open-large k = rw (lt-leb (payload w % 256) n k, and-false)
 
 pub bits : (n low w : ℕ) → bitWord n low w ≡ true → (kindOf w ≡ 3) × (low ≤ payload w) × (payload w < n)
 unfolding bitWord
@@ -89,12 +102,12 @@ unfolding endWord
 end-unnamed w d = rw (ne-eqb (payload w) 0 d, and-false)
 
 -- reading from place p of a record on
-abbrev pub readingAt : ℕ → ℕ → List ℕ → ℕ → ℕ → ℕ → ℕ → Matrix → Loaded
-readingAt n m source p c due low h = reading n m (drop p source) p c due low h
+abbrev pub readingAt : Form → ℕ → ℕ → List ℕ → ℕ → ℕ → ℕ → ℕ → Matrix → Loaded
+readingAt f n m source p c due low h = reading f n m (drop p source) p c due low h
 
 -- what one word does
-module _ (n m : ℕ) (source : List ℕ) (p c low : ℕ) (h : Matrix) where
-  pub read-missing : (due : ℕ) → length source ≤ p → readingAt n m source p c due low h ≡ faulty p
+module _ (f : Form) (n m : ℕ) (source : List ℕ) (p c low : ℕ) (h : Matrix) where
+  pub read-missing : (due : ℕ) → length source ≤ p → readingAt f n m source p c due low h ≡ faulty p
   unfolding reading
   read-missing due k = rw (drop-of-length-le source k)
 
@@ -102,28 +115,28 @@ module _ (n m : ℕ) (source : List ℕ) (p c low : ℕ) (h : Matrix) where
     abbrev w : ℕ
     w = getD source p 0
 
-    pub read-open : c < m → openWord n w ≡ true → readingAt n m source p c 0 low h ≡ readingAt n m source (suc p) (suc c) (payload w) 0 h
+    pub read-open : c < m → openWord f n c w ≡ true → readingAt f n m source p c 0 low h ≡ readingAt f n m source (suc p) (suc c) (payload w % 256) 0 h
     unfolding reading
     read-open l e = rw (drop-cons source p 0 k, lt-ltb c m l, e)
 
-    pub not-open : c < m → openWord n w ≡ false → readingAt n m source p c 0 low h ≡ faulty p
+    pub not-open : c < m → openWord f n c w ≡ false → readingAt f n m source p c 0 low h ≡ faulty p
     unfolding reading
     not-open l e = rw (drop-cons source p 0 k, lt-ltb c m l, e)
 
-    pub read-end : m ≤ c → endWord w ≡ true → readingAt n m source p c 0 low h ≡ ending n m (drop (suc p) source) (suc p) h
+    pub read-end : m ≤ c → endWord w ≡ true → readingAt f n m source p c 0 low h ≡ ending n m (drop (suc p) source) (suc p) h
     unfolding reading
     read-end l e = rw (drop-cons source p 0 k, le-ltb c m l, e)
 
-    pub not-end : m ≤ c → endWord w ≡ false → readingAt n m source p c 0 low h ≡ faulty p
+    pub not-end : m ≤ c → endWord w ≡ false → readingAt f n m source p c 0 low h ≡ faulty p
     unfolding reading
     not-end l e = rw (drop-cons source p 0 k, le-ltb c m l, e)
 
     pub read-bit : (due : ℕ) → bitWord n low w ≡ true
-        → readingAt n m source p c (suc due) low h ≡ readingAt n m source (suc p) c due (suc (payload w)) (put (c - 1) (payload w) true h)
+        → readingAt f n m source p c (suc due) low h ≡ readingAt f n m source (suc p) c due (suc (payload w)) (put (c - 1) (payload w) true h)
     unfolding reading
     read-bit due e = rw (drop-cons source p 0 k, e)
 
-    pub not-bit : (due : ℕ) → bitWord n low w ≡ false → readingAt n m source p c (suc due) low h ≡ faulty p
+    pub not-bit : (due : ℕ) → bitWord n low w ≡ false → readingAt f n m source p c (suc due) low h ≡ faulty p
     unfolding reading
     not-bit due e = rw (drop-cons source p 0 k, e)
 
@@ -140,38 +153,38 @@ end-more n m source p h k = rw (drop-cons source p 0 k)
 pub never : (p n m : ℕ) (h : Matrix) → faulty p ≡ loaded n m h → ⊥
 never p n m h e = let z : _≡_ {A = ℕ} 0 1 = cc in omega arith
 
-module _ (n m : ℕ) (source : List ℕ) (p c low : ℕ) (h : Matrix) (n′ m′ : ℕ) (g : Matrix) where
-  pub loads-more : (due : ℕ) → readingAt n m source p c due low h ≡ loaded n′ m′ g → p < length source
+module _ (f : Form) (n m : ℕ) (source : List ℕ) (p c low : ℕ) (h : Matrix) (n′ m′ : ℕ) (g : Matrix) where
+  pub loads-more : (due : ℕ) → readingAt f n m source p c due low h ≡ loaded n′ m′ g → p < length source
   loads-more due e =
       elim (decLt p (length source)) [
         | yes k ↦ k
-        | no k ↦ absurd (never p n′ m′ g (sym (read-missing n m source p c low h due (omega arith)) ∙ e))
+        | no k ↦ absurd (never p n′ m′ g (sym (read-missing f n m source p c low h due (omega arith)) ∙ e))
       ]
 
-  pub loads-open : c < m → readingAt n m source p c 0 low h ≡ loaded n′ m′ g → openWord n (getD source p 0) ≡ true
+  pub loads-open : c < m → readingAt f n m source p c 0 low h ≡ loaded n′ m′ g → openWord f n c (getD source p 0) ≡ true
   loads-open l e =
-      elim (is (openWord n (getD source p 0))) [
+      elim (is (openWord f n c (getD source p 0))) [
         | is-true q ↦ q
-        | is-false q ↦ absurd (never p n′ m′ g (sym (not-open n m source p c low h (loads-more 0 e) l q) ∙ e))
+        | is-false q ↦ absurd (never p n′ m′ g (sym (not-open f n m source p c low h (loads-more 0 e) l q) ∙ e))
       ]
 
-  pub loads-bit : (due : ℕ) → readingAt n m source p c (suc due) low h ≡ loaded n′ m′ g → bitWord n low (getD source p 0) ≡ true
+  pub loads-bit : (due : ℕ) → readingAt f n m source p c (suc due) low h ≡ loaded n′ m′ g → bitWord n low (getD source p 0) ≡ true
   loads-bit due e =
       elim (is (bitWord n low (getD source p 0))) [
         | is-true q ↦ q
-        | is-false q ↦ absurd (never p n′ m′ g (sym (not-bit n m source p c low h (loads-more (suc due) e) due q) ∙ e))
+        | is-false q ↦ absurd (never p n′ m′ g (sym (not-bit f n m source p c low h (loads-more (suc due) e) due q) ∙ e))
       ]
 
-  pub loads-end : m ≤ c → readingAt n m source p c 0 low h ≡ loaded n′ m′ g
+  pub loads-end : m ≤ c → readingAt f n m source p c 0 low h ≡ loaded n′ m′ g
       → (endWord (getD source p 0) ≡ true) × (suc p ≡ length source) × (loaded n m h ≡ loaded n′ m′ g)
   loads-end l e =
       let k = loads-more 0 e in
       elim (is (endWord (getD source p 0))) [
-        | is-false q ↦ absurd (never p n′ m′ g (sym (not-end n m source p c low h k l q) ∙ e))
+        | is-false q ↦ absurd (never p n′ m′ g (sym (not-end f n m source p c low h k l q) ∙ e))
         | is-true q ↦
-            let f = sym (read-end n m source p c low h k l q) ∙ e in
+            let t = sym (read-end f n m source p c low h k l q) ∙ e in
             elim (decLt (suc p) (length source)) [
-              | yes t ↦ absurd (never (suc p) n′ m′ g (sym (end-more n m source (suc p) h t) ∙ f))
-              | no t ↦ (q, omega arith, sym (end-last n m source (suc p) h (omega arith)) ∙ f)
+              | yes r ↦ absurd (never (suc p) n′ m′ g (sym (end-more n m source (suc p) h r) ∙ t))
+              | no r ↦ (q, omega arith, sym (end-last n m source (suc p) h (omega arith)) ∙ t)
             ]
       ]

@@ -7,13 +7,16 @@ use native.Mathlib.Omega.{arith}
 use lib.ListN.{getD, length, drop, take}
 use lib.Seq.{take-at}
 use Rattle.parity.specs.Matrix.{Matrix, lent, pack, cause}
-use Rattle.parity.specs.Record.{Loaded, faulty, loaded, loading, written}
+use Rattle.parity.specs.Record.{Loaded, faulty, loaded, loading, written, secondForm}
+use Rattle.parity.specs.declared.Form.the-variants.{First, Second}
 use Rattle.parity.specs.Causes.{Reply, answer, Outcome}
 use Rattle.parity.specs.Calls.{loadOutcome, writeOutcome}
+use Rattle.parity.specs.Promises.{WrittenLoads, SecondFormKept, FirstFormNumbered}
 use Rattle.parity.proofs.Matrix.Accept.{Accepted, accepts, pack-same, pack-accepted, pack-words, accepting-refuses}
 use Rattle.parity.proofs.Record.Records.{load-length, load-faulty, load-right, write-added, write-short, write-made}
-use Rattle.parity.proofs.Record.ReadWritten.{loading-written}
+use Rattle.parity.proofs.Record.ReadWritten.{form-head, loading-record}
 use Rattle.parity.proofs.Record.ReadBack.{loading-back}
+use Rattle.parity.proofs.Record.SecondForm.{second-form, length-second}
 
 -- Where loading answers, the record loads.
 pub record Answered (source held : List ℕ) (n m : ℕ) : Type 0 where
@@ -46,16 +49,30 @@ load-accepted source held n m e =
     let A = load-answered source held n m e in
     rw (loaded-words source held n m A) (pack-accepted (A .matrix) n m 0 (loading-back source n m (A .matrix) (A .loads) .1))
 
--- A record that loads, once written, gives the same record words.
-pub load-write : (source held target : List ℕ) (n m : ℕ) → loadOutcome source held .reply ≡ answer (n ∷ m ∷ []) → length source ≤ length target
-    → writeOutcome (loadOutcome source held .after) n m 0 target ≡ record { reply = answer (length source ∷ []); after = source ++ drop (length source) target }
-load-write source held target n m e k =
-    let A = load-answered source held n m e in
-    let (f, S) = loading-back source n m (A .matrix) (A .loads) in
+-- A record that loads to the matrix of a record of the second form writes to that record.
+load-writes : (source held target second : List ℕ) (n m : ℕ) (A : Answered source held n m) → written (A .matrix) n m ≡ second → length second ≡ length source
+    → length source ≤ length target
+    → writeOutcome (loadOutcome source held .after) n m 0 target ≡ record { reply = answer (length source ∷ []); after = second ++ drop (length source) target }
+load-writes source held target second n m A w e k =
+    let S = loading-back source n m (A .matrix) (A .loads) .1 in
     let p = pack-same (A .matrix) n m 0 S in
     let c = accepts (pack 8 (A .matrix)) n m 0 .1 (pack-accepted (A .matrix) n m 0 S) in
-    rw (loaded-words source held n m A)
-    (rw (p, f) at (write-made (pack 8 (A .matrix)) n m 0 target c refl (rw (p, f) k)))
+    rw (loaded-words source held n m A, ← e)
+    (rw (p, w) at (write-made (pack 8 (A .matrix)) n m 0 target c refl (rw (p, w) (omega arith))))
+
+-- A second-form record that loads, once written, gives the same record words,
+pub second-kept : SecondFormKept
+second-kept source held target n m q e k =
+    let A = load-answered source held n m e in
+    load-writes source held target source n m A (rw (form-head Second (getD source 0 0) q) at (loading-back source n m (A .matrix) (A .loads) .0)) refl k
+
+-- and a first-form one those of its second form.
+pub first-numbered : FirstFormNumbered
+first-numbered source held target n m q e k =
+    let A = load-answered source held n m e in
+    let (r, S) = loading-back source n m (A .matrix) (A .loads) in
+    let f = rw (form-head First (getD source 0 0) q) at r in
+    load-writes source held target (secondForm source) n m A (sym (second-form (A .matrix) n m (S .n120) (S .m120)) ∙ ap secondForm f) (length-second source) k
 
 refused-number : (ws : List ℕ) (n m k : ℕ) (target : List ℕ) → (cause ws n m k ≡ 0 → ⊥) → writeOutcome ws n m k target .reply .number ≡ 0 → cause ws n m k ≡ 0
 unfolding writeOutcome
@@ -77,8 +94,7 @@ write-answered ws n m k target e =
     ]
 
 -- Loading what was written gives the same words, n and m.
-pub write-load : (ws : List ℕ) (n m k : ℕ) (target held : List ℕ) (used : ℕ) → writeOutcome ws n m k target .reply ≡ answer (used ∷ []) → length held ≡ 4096
-    → loadOutcome (take used (writeOutcome ws n m k target .after)) held ≡ record { reply = answer (n ∷ m ∷ []); after = ws }
+pub write-load : WrittenLoads
 write-load ws n m k target held used e l =
     let (c, z, t) = write-answered ws n m k target (ap (λ (x : Reply). x .number) e) in
     let A = accepts ws n m 0 .0 (rw z at c) in
@@ -86,4 +102,4 @@ write-load ws n m k target held used e l =
     let u : length (written (lent 8 ws) n m) ≡ used = ap (λ (x : Reply). getD (x .values) 0 0) (sym (ap (λ (o : Outcome). o .reply) W) ∙ e) in
     let r : take used (writeOutcome ws n m k target .after) ≡ written (lent 8 ws) n m =
     rw (ap (λ (o : Outcome). o .after) W) (take-at (written (lent 8 ws) n m) _ used u) in
-    rw r (load-right (written (lent 8 ws) n m) held n m (lent 8 ws) l (loading-written (lent 8 ws) n m (A .sound)) ∙ rw (pack-words ws n m 0 A))
+    rw r (load-right (written (lent 8 ws) n m) held n m (lent 8 ws) l (loading-record Second (lent 8 ws) n m (A .sound)) ∙ rw (pack-words ws n m 0 A))

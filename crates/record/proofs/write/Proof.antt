@@ -1,7 +1,7 @@
 -- `write` meets its contract. Assumes nothing.
 use mathlib.Core.Path.{_≡_, sym, ap, _∙_}
 use mathlib.Core.List.{[], _∷_}
-use Prim.Native.Nat.{ℕ, _≤_}
+use Prim.Native.Nat.{ℕ, _+_, _≤_}
 use native.Mathlib.Omega.{arith}
 use lib.ListN.{length}
 use Rattle.parity.specs.Matrix.{lent, cause}
@@ -9,6 +9,8 @@ use Rattle.parity.specs.Record.{written}
 use Rattle.parity.specs.Causes.{Outcome, answer}
 use Rattle.parity.proofs.Matrix.Accept.{Accepted, accepts}
 use Rattle.parity.proofs.Causes.Refused.{accepted-cause}
+use Rattle.parity.specs.declared.Form.the-variants.{Second}
+use Rattle.parity.proofs.Record.Writing.{length-checks}
 use Rattle.parity.proofs.Record.Records.{write-refused, write-added, write-short, write-made}
 use Rattle.record.proofs.Emitting.{plain-length, plain-written, wrote-first}
 use borrow.Author.Needs.{needs}
@@ -65,7 +67,8 @@ used : (c : lts.After-needed (accept-reads.Asked, accept-reads.Learnt, needed-re
 used c =
     let s = c .before .before .before .before .before .before .before in
     let A = plain (c .before) in
-    c .needed .ensures ∙ sym (plain-length (lent 8 (s .args .words .now)) 128 (s .args .n) (s .args .m))
+    let h = lent 8 (s .args .words .now) in
+    c .needed .ensures ∙ ap (λ (x : ℕ). x + 2) (sym (length-checks Second h 128 (s .args .m))) ∙ sym (plain-length Second h 128 (s .args .n) (s .args .m))
     ∙ ap length (plain-written (s .args .words .now) 128 (s .args .n) (s .args .m) (omega (arith, A .sound .n120)) A)
 
 returns-3 : tie.Need-returns-3

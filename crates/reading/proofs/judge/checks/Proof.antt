@@ -9,10 +9,10 @@ use Rattle.reading.proofs.judge.checks.Statement.{statement}
 use Rattle.reading.proofs.judge.checks.Tie as tie
 
 abbrev Inv-loop : tie.InvT-loop
-Inv-loop source n m p₀ c₀ p c = (c ≤ m) × Reached n m source p c
+Inv-loop source form n m p₀ c₀ p c = (c ≤ m) × Reached form n m source p c
 
 abbrev μ-loop : tie.MeasureT-loop
-μ-loop source n m p₀ c₀ p c = m - c
+μ-loop source form n m p₀ c₀ p c = m - c
 
 loop-holds : tie.Need-loop-holds Inv-loop μ-loop
 loop-holds c = (omega arith, c .before .pre)
@@ -29,7 +29,7 @@ enum-known-q-2 c = search needs
 returns : tie.Need-returns Inv-loop μ-loop
 returns c =
     let S = rw (c .before .q2 .given .1) at (c .before .before .before .check .ensures) in
-    reach-stop _ _ _ _ _ _ (c .before .before .before .before .before .loop .inv .1) (omega arith) S
+    reach-stop _ _ _ _ _ _ _ (c .before .before .before .before .before .loop .inv .1) (omega arith) S
 
 add-c : tie.Need-add-c Inv-loop μ-loop
 add-c c = omega arith
@@ -40,7 +40,7 @@ loop-less c = omega arith
 loop-again : tie.Need-loop-again Inv-loop μ-loop
 loop-again c =
     let C = rw (c .before .q .given .1) at (c .before .before .before .check .ensures) in
-    (omega arith, reach-next _ _ _ _ _ _ (c .before .before .before .before .before .loop .inv .1) (omega arith) C)
+    (omega arith, reach-next _ _ _ _ _ _ _ (c .before .before .before .before .before .loop .inv .1) (omega arith) C)
 
 last-requires : tie.Need-last-requires Inv-loop μ-loop
 last-requires c κs =

@@ -7,23 +7,23 @@ use Rattle.reading.proofs.judge.judge.Tie as tie
 returns : tie.Need-returns
 returns c = load-empty _ (c .if1 .taken)
 
-shared-slice-read-head : tie.Need-shared-slice-read-head
-shared-slice-read-head c = search needs
+shared-slice-read-first-word : tie.Need-shared-slice-read-first-word
+shared-slice-read-first-word c = search needs
 
-head-requires : tie.Need-head-requires
-head-requires c κs = search needs
+first-word-requires : tie.Need-first-word-requires
+first-word-requires c κs = search needs
 
-enum-known-n : tie.Need-enum-known-n
-enum-known-n c = search needs
+enum-known-form : tie.Need-enum-known-form
+enum-known-form c = search needs
 
 enum-told : tie.Need-enum-told
 enum-told c = search needs
 
 returns-2 : tie.Need-returns-2
-returns-2 c = load-other _ (c .before .before .before .before .if1 .left) (rw (c .enum-told .given .1) at (c .before .before .head .ensures))
+returns-2 c = load-other _ (c .before .before .before .before .if1 .left) (rw (c .enum-told .given .1) at (c .before .before .first-word .ensures))
 
 checks-requires : tie.Need-checks-requires
-checks-requires c κs = load-head _ _ _ (c .before .before .before .before .before .if1 .left) (rw (c .before .n .given .1) at (c .before .before .before .head .ensures))
+checks-requires c κs = load-head _ _ _ _ (c .before .before .before .before .before .if1 .left) (rw (c .before .form .given .1) at (c .before .before .before .first-word .ensures))
 
 returns-3 : tie.Need-returns-3
 returns-3 c = search needs
@@ -33,9 +33,9 @@ judge-spec =
     tie.close
     (tie.spec
     returns
-    shared-slice-read-head
-    head-requires
-    enum-known-n
+    shared-slice-read-first-word
+    first-word-requires
+    enum-known-form
     enum-told
     returns-2
     checks-requires

@@ -3,22 +3,20 @@ use mathlib.Core.Path.{_≡_}
 use Prim.Native.Nat.{_+_, _*_, _-_, _≤_}
 use native.Mathlib.Numerals.{add-one}
 use native.Mathlib.Omega.{arith}
-use lib.ListN.{length}
 use Rattle.parity.specs.Matrix.{lent}
-use Rattle.parity.specs.Record.{checkWords}
+use Rattle.parity.specs.Finite.{sum, count}
 use Rattle.parity.proofs.Finite.Sums.{count-bound}
-use Rattle.parity.proofs.Record.Writing.{length-check}
 use Rattle.record.proofs.emit.needed.Statement.{statement}
 use Rattle.record.proofs.emit.needed.Tie as tie
 
 abbrev Inv-loop : tie.InvT-loop
-Inv-loop words used m total₀ c₀ total c = (c ≤ m) × (total ≤ 2 + 513 * c) × (total ≡ length (checkWords (lent 8 words) (used * 64) c) + 2)
+Inv-loop words used m total₀ c₀ total c = (c ≤ m) × (total ≤ 2 + 513 * c) × (total ≡ sum c (λ d. 1 + count (used * 64) (lent 8 words d)) + 2)
 
 abbrev μ-loop : tie.MeasureT-loop
 μ-loop words used m total₀ c₀ total c = m - c
 
 loop-holds : tie.Need-loop-holds Inv-loop μ-loop
-loop-holds c = unfold checkWords in (omega arith, omega arith, omega arith)
+loop-holds c = unfold sum in (omega arith, omega arith, omega arith)
 
 weight-requires : tie.Need-weight-requires Inv-loop μ-loop
 weight-requires c κs = let s = c .before .before .before in (s .pre .0, s .pre .1, omega arith)
@@ -46,7 +44,7 @@ loop-again c =
     let h = lent 8 (s .args .words .now) in (
       omega arith,
       omega (arith, c .weight .ensures, count-bound (s .args .used * 64) (h (l .c))),
-      rw (add-one (l .c)) (omega (arith, c .weight .ensures, length-check h (s .args .used * 64) (l .c))),
+      rw (add-one (l .c)) (unfold sum in omega (arith, c .weight .ensures)),
     )
 
 returns : tie.Need-returns Inv-loop μ-loop

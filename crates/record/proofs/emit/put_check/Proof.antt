@@ -13,15 +13,10 @@ use Rattle.record.proofs.emit.put_check.Tie as tie
 weight-requires : tie.Need-weight-requires
 weight-requires c κs = search needs
 
-narrow-requires : tie.Need-narrow-requires
-narrow-requires c κs =
+opening-word-requires : tie.Need-opening-word-requires
+opening-word-requires c κs =
     let s = c .before .before .before in
-    omega (arith, s .pre .0, c .weight .ensures, count-bound (s .args .used * 64) (lent 8 (s .args .words .now) (s .args .c)))
-
-add-target : tie.Need-add-target
-add-target c =
-    let s = c .before .before .before .before in
-    omega (arith, s .pre .0, c .narrow .ensures, c .before .weight .ensures, count-bound (s .args .used * 64) (lent 8 (s .args .words .now) (s .args .c)))
+    (s .pre .0 .2, omega (arith, s .pre .0, c .weight .ensures, count-bound (s .args .used * 64) (lent 8 (s .args .words .now) (s .args .c .0))))
 
 mul-target : tie.Need-mul-target
 mul-target c = search needs
@@ -29,7 +24,7 @@ mul-target c = search needs
 slice-write-target : tie.Need-slice-write-target
 slice-write-target c =
     let s = c .before .before .before .before in
-    omega (arith, s .pre .1, check-length (lent 8 (s .args .words .now) (s .args .c)) (s .args .used * 64))
+    omega (arith, s .pre .1, check-length (s .args .form) (s .args .c .0) (lent 8 (s .args .words .now) (s .args .c .0)) (s .args .used * 64))
 
 add-put-row : tie.Need-add-put-row
 add-put-row c = search needs
@@ -38,26 +33,25 @@ put-row-requires : tie.Need-put-row-requires
 put-row-requires c κs =
     let s = c .before .before .before .before .before in (
       (omega (arith, s .pre .0), s .pre .0 .1, omega arith),
-      omega (arith, s .pre .1, check-length (lent 8 (s .args .words .now) (s .args .c)) (s .args .used * 64), length-set (s .args .target .now) (s .args .p) (536870912 + c .before .narrow .result)),
+      omega (arith, s .pre .1, check-length (s .args .form) (s .args .c .0) (lent 8 (s .args .words .now) (s .args .c .0)) (s .args .used * 64), length-set (s .args .target .now) (s .args .p) (c .before .opening-word .result)),
     )
 
 same-length : tie.Need-same-length
 same-length c =
     let s = c .before .before .before .before .before .before .before .before in
-    wrote-length _ _ _ _ _ (c .before .before .put-row .ensures) ∙ length-set (s .args .target .now) (s .args .p) (536870912 + c .before .before .before .before .narrow .result)
+    wrote-length _ _ _ _ _ (c .before .before .put-row .ensures) ∙ length-set (s .args .target .now) (s .args .p) (c .before .before .before .before .opening-word .result)
 
 returns : tie.Need-returns
 returns c =
     let n = c .before .before .before .before in
-    wrote-check _ _ _ _ _ _ _ (n .narrow .ensures ∙ n .before .weight .ensures) (c .before .before .put-row .ensures)
+    wrote-check _ _ _ _ _ _ _ _ _ _ (n .opening-word .ensures) (n .before .weight .ensures) (c .before .before .put-row .ensures)
 
 pub put-check-spec : {M : Type 1} → statement M
 put-check-spec =
     tie.close
     (tie.spec
     weight-requires
-    narrow-requires
-    add-target
+    opening-word-requires
     mul-target
     slice-write-target
     add-put-row

@@ -11,10 +11,10 @@ use Rattle.record.proofs.emit.put_checks.Statement.{statement}
 use Rattle.record.proofs.emit.put_checks.Tie as tie
 
 abbrev Inv-loop : tie.InvT-loop
-Inv-loop words used m target₀ p₀ c₀ target p c = (c ≤ m) × Wrote target₀ target 1 (checkWords (lent 8 words) (used * 64) c) p
+Inv-loop words used form m target₀ p₀ c₀ target p c = (c ≤ m) × Wrote target₀ target 1 (checkWords form (lent 8 words) (used * 64) c) p
 
 abbrev μ-loop : tie.MeasureT-loop
-μ-loop words used m target₀ p₀ c₀ target p c = m - c
+μ-loop words used form m target₀ p₀ c₀ target p c = m - c
 
 loop-holds : tie.Need-loop-holds Inv-loop μ-loop
 loop-holds c = unfold checkWords in (omega arith, wrote-none _ _)
@@ -25,9 +25,10 @@ put-check-requires c κs =
     let l = c .before .before .loop in
     let h = lent 8 (s .args .words .now) in
     let N = s .args .used * 64 in
-    let e = ap length (checks-next h N (l .c)) ∙ length-append (checkWords h N (l .c)) (checkOf (h (l .c)) N) in (
+    let f = s .args .form in
+    let e = ap length (checks-next f h N (l .c)) ∙ length-append (checkWords f h N (l .c)) (checkOf f (l .c) (h (l .c)) N) in (
       (s .pre .0 .0, s .pre .0 .1, omega arith),
-      omega (arith, s .pre .1, l .inv .1 .place, wrote-length _ _ _ _ _ (l .inv .1), checks-mono h N (l .c + 1) (s .args .m) (omega arith)),
+      omega (arith, s .pre .1, l .inv .1 .place, wrote-length _ _ _ _ _ (l .inv .1), checks-mono f h N (l .c + 1) (s .args .m) (omega arith)),
     )
 
 add-c : tie.Need-add-c Inv-loop μ-loop
@@ -40,7 +41,7 @@ loop-again : tie.Need-loop-again Inv-loop μ-loop
 loop-again c =
     let l = c .before .before .before .before .before .loop in
     let s = c .before .before .before .before .before .before .before .before in
-    (omega arith, rw (checks-next (lent 8 (s .args .words .now)) (s .args .used * 64) (l .c)) (wrote-more _ _ _ _ _ _ _ _ (l .inv .1) (c .before .before .put-check .ensures)))
+    (omega arith, rw (checks-next (s .args .form) (lent 8 (s .args .words .now)) (s .args .used * 64) (l .c)) (wrote-more _ _ _ _ _ _ _ _ (l .inv .1) (c .before .before .put-check .ensures)))
 
 same-length : tie.Need-same-length Inv-loop μ-loop
 same-length c = wrote-length _ _ _ _ _ (c .before .loop .inv .1)

@@ -10,49 +10,38 @@ use Rattle.record.proofs.emit.put_record.Statement.{statement}
 use Rattle.record.proofs.emit.put_record.Tie as tie
 use Rattle.record.proofs.emit.put_record.Reads as reads
 use Rattle.record.proofs.emit.put_record.Lts as lts
-use Rattle.record.proofs.emit.narrow.Reads as narrow-reads
+use Rattle.record.proofs.emit.head_word.Reads as head-word-reads
 use Rattle.record.proofs.emit.put_checks.Reads as put-checks-reads
 
-narrow-requires : tie.Need-narrow-requires
-narrow-requires c κs = search needs
-
-mul-target : tie.Need-mul-target
-mul-target c = search needs
-
-add-target : tie.Need-add-target
-add-target c = search needs
-
-narrow-requires-2 : tie.Need-narrow-requires-2
-narrow-requires-2 c κs = search needs
-
-add-target-2 : tie.Need-add-target-2
-add-target-2 c = search needs
+head-word-requires : tie.Need-head-word-requires
+head-word-requires c κs = search needs
 
 slice-write-target : tie.Need-slice-write-target
 slice-write-target c =
-    let s = c .before .before .before .before in
-    let k : 0 < length (s .args .target .now) = omega (arith, s .pre .1, plain-length (lent 8 (s .args .words .now)) (s .args .used * 64) (s .args .n) (s .args .m)) in
+    let s = c .before .before .before in
+    let k : 0 < length (s .args .target .now) = omega (arith, s .pre .1, plain-length (s .args .form) (lent 8 (s .args .words .now)) (s .args .used * 64) (s .args .n) (s .args .m)) in
     k
 
 put-checks-requires : tie.Need-put-checks-requires
 put-checks-requires c κs =
-    let s = c .before .before .before .before .before in (
+    let s = c .before .before .before .before in (
       (s .pre .0 .0, s .pre .0 .1, s .pre .0 .3),
-      omega (arith, s .pre .1, plain-length (lent 8 (s .args .words .now)) (s .args .used * 64) (s .args .n) (s .args .m), length-set (s .args .target .now) 0 (268435456 + c .before .before .narrow .result * 256 + c .before .narrow2 .result)),
+      omega (arith, s .pre .1, plain-length (s .args .form) (lent 8 (s .args .words .now)) (s .args .used * 64) (s .args .n) (s .args .m), length-set (s .args .target .now) 0 (c .before .head-word .result)),
     )
 
 -- the end word has a place
-room : (c : lts.After-slice-known2 (narrow-reads.Asked, narrow-reads.Learnt, put-checks-reads.Asked, put-checks-reads.Learnt) reads.Pre reads.Post)
-    → (c .before .before .put-checks .result + 1 ≤ length (c .before .before .before .before .before .before .before .before .args .target .now)) × (length (c .before .before .put-checks .last .1 .1 .1 .0) ≡ length (c .before .before .before .before .before .before .before .before .args .target .now))
+room : (c : lts.After-slice-known2 (head-word-reads.Asked, head-word-reads.Learnt, put-checks-reads.Asked, put-checks-reads.Learnt) reads.Pre reads.Post)
+    → let s = c .before .before .before .before .before .before .before in
+    (c .before .before .put-checks .result + 1 ≤ length (s .args .target .now)) × (length (c .before .before .put-checks .last .1 .1 .1 .1 .0) ≡ length (s .args .target .now))
 room c =
-    let s = c .before .before .before .before .before .before .before .before in
+    let s = c .before .before .before .before .before .before .before in
     let o = c .before .before .put-checks .ensures in (
-      omega (arith, s .pre .1, o .place, plain-length (lent 8 (s .args .words .now)) (s .args .used * 64) (s .args .n) (s .args .m)),
-      wrote-length _ _ _ _ _ o ∙ length-set (s .args .target .now) 0 (268435456 + c .before .before .before .before .before .narrow .result * 256 + c .before .before .before .before .narrow2 .result),
+      omega (arith, s .pre .1, o .place, plain-length (s .args .form) (lent 8 (s .args .words .now)) (s .args .used * 64) (s .args .n) (s .args .m)),
+      wrote-length _ _ _ _ _ o ∙ length-set (s .args .target .now) 0 (c .before .before .before .before .head-word .result),
     )
 
-mul-target-2 : tie.Need-mul-target-2
-mul-target-2 c = let k = room c .0 in omega arith
+mul-target : tie.Need-mul-target
+mul-target c = let k = room c .0 in omega arith
 
 slice-write-target-2 : tie.Need-slice-write-target-2
 slice-write-target-2 c = omega (arith, room c .0, room c .1)
@@ -61,23 +50,19 @@ add-result : tie.Need-add-result
 add-result c = let k = room c .0 in omega arith
 
 same-length : tie.Need-same-length
-same-length c = length-set (c .before .before .put-checks .last .1 .1 .1 .0) (c .before .before .put-checks .result) 4026531840 ∙ room c .1
+same-length c = length-set (c .before .before .put-checks .last .1 .1 .1 .1 .0) (c .before .before .put-checks .result) 4026531840 ∙ room c .1
 
 returns : tie.Need-returns
-returns c = wrote-plain _ _ _ _ _ _ _ _ _ (c .before .before .before .before .before .narrow .ensures) (c .before .before .before .before .narrow2 .ensures) (c .before .before .put-checks .ensures)
+returns c = wrote-plain _ _ _ _ _ _ _ _ _ (c .before .before .before .before .head-word .ensures) (c .before .before .put-checks .ensures)
 
 pub put-record-spec : {M : Type 1} → statement M
 put-record-spec =
     tie.close
     (tie.spec
-    narrow-requires
-    mul-target
-    add-target
-    narrow-requires-2
-    add-target-2
+    head-word-requires
     slice-write-target
     put-checks-requires
-    mul-target-2
+    mul-target
     slice-write-target-2
     add-result
     same-length

@@ -18,7 +18,7 @@ ghost use mathlib.Core.Path.{_≡_};
 ghost use Prim.Native.Nat.{_<_, _≤_};
 ghost use lib.ListN.{length};
 
-// The records of cases A, C, E, F and I.
+// The records of cases A, C, E, F and I, each in its first form and in its second.
 const A: [u32; 17] = [
     0x1000_0307,
     0x2000_0004,
@@ -39,28 +39,23 @@ const A: [u32; 17] = [
     0xf000_0000,
 ];
 
-const E: [u32; 10] = [
-    0x1000_0203,
-    0x2000_0003,
+const A2: [u32; 17] = [
+    0x4000_0307,
+    0x2000_0004,
     0x3000_0000,
+    0x3000_0003,
+    0x3000_0004,
+    0x3000_0006,
+    0x2000_0104,
     0x3000_0001,
+    0x3000_0003,
+    0x3000_0005,
+    0x3000_0006,
+    0x2000_0204,
     0x3000_0002,
-    0x2000_0003,
-    0x3000_0000,
-    0x3000_0001,
-    0x3000_0002,
-    0xf000_0000,
-];
-
-const F: [u32; 2] = [0x1000_0002, 0xf000_0000];
-
-const I: [u32; 7] = [
-    0x1000_0202,
-    0x2000_0001,
-    0x3000_0000,
-    0x2000_0002,
-    0x3000_0000,
-    0x3000_0001,
+    0x3000_0004,
+    0x3000_0005,
+    0x3000_0006,
     0xf000_0000,
 ];
 
@@ -83,20 +78,106 @@ const C: [u32; 16] = [
     0xf000_0000,
 ];
 
-// Words that are wrong at most places: other kinds, counts above n, bits not below n, unnamed bits set.
-const WRONG: [u32; 14] = [
+const C2: [u32; 16] = [
+    0x4000_0307,
+    0x2000_0004,
+    0x3000_0000,
+    0x3000_0001,
+    0x3000_0002,
+    0x3000_0003,
+    0x2000_0104,
+    0x3000_0000,
+    0x3000_0001,
+    0x3000_0004,
+    0x3000_0005,
+    0x2000_0203,
+    0x3000_0000,
+    0x3000_0002,
+    0x3000_0006,
+    0xf000_0000,
+];
+
+const E: [u32; 10] = [
+    0x1000_0203,
+    0x2000_0003,
+    0x3000_0000,
+    0x3000_0001,
+    0x3000_0002,
+    0x2000_0003,
+    0x3000_0000,
+    0x3000_0001,
+    0x3000_0002,
+    0xf000_0000,
+];
+
+const E2: [u32; 10] = [
+    0x4000_0203,
+    0x2000_0003,
+    0x3000_0000,
+    0x3000_0001,
+    0x3000_0002,
+    0x2000_0103,
+    0x3000_0000,
+    0x3000_0001,
+    0x3000_0002,
+    0xf000_0000,
+];
+
+const F: [u32; 2] = [0x1000_0002, 0xf000_0000];
+
+const F2: [u32; 2] = [0x4000_0002, 0xf000_0000];
+
+const I: [u32; 7] = [
+    0x1000_0202,
+    0x2000_0001,
+    0x3000_0000,
+    0x2000_0002,
+    0x3000_0000,
+    0x3000_0001,
+    0xf000_0000,
+];
+
+const I2: [u32; 7] = [
+    0x4000_0202,
+    0x2000_0001,
+    0x3000_0000,
+    0x2000_0102,
+    0x3000_0000,
+    0x3000_0001,
+    0xf000_0000,
+];
+
+// Words that are wrong at most places: other kinds, counts above n, other check numbers, bits not below n, unnamed bits set.
+const WRONG: [u32; 31] = [
     0,
     0x1000_0307,
     0x1000_0079,
     0x1001_0007,
+    0x4000_0307,
+    0x4000_0079,
+    0x4001_0007,
     0x2000_0000,
     0x2000_0008,
     0x2000_0104,
+    0x2000_0103,
+    0x2000_0204,
+    0x2000_0203,
+    0x2001_0004,
     0x3000_0000,
     0x3000_0006,
     0x3000_0007,
     0x3800_0000,
-    0x4000_0000,
+    0x3000_0100,
+    0x5000_0307,
+    0x6000_0000,
+    0x7000_0000,
+    0x8000_0000,
+    0x9000_0000,
+    0xa000_0000,
+    0xb000_0000,
+    0xc000_0000,
+    0xd000_0000,
+    0xe000_0000,
     0xf000_0000,
     0xf000_0001,
 ];
@@ -113,28 +194,28 @@ fn load_case(head: &[u8], source: &[u32]) {
     io::write_all(1, b"\n");
 }
 
-// Loads a record, writes its matrix and says whether the record comes back.
-fn round_trip(head: &[u8], source: &[u32]) {
+// Loads a record of either form, writes its matrix and says whether that gives the second form.
+fn round_trip(head: &[u8], source: &[u32], second: &[u32]) {
     let mut words = [0xffff_ffff_ffff_ffff; 4096];
     io::write_all(1, head);
     let r = record::load(source, &mut words);
     loads(r);
     if let Loading::Loaded { n, m } = r {
-        write_back(source, &words, n, m);
+        write_back(second, &words, n, m);
     }
     io::write_all(1, b"\n");
 }
 
-// Writes a matrix and compares the record with the one that it came from.
-fn write_back(source: &[u32], words: &[u64], n: usize, m: usize) {
+// Writes a matrix and compares the record with the second form.
+fn write_back(second: &[u32], words: &[u64], n: usize, m: usize) {
     let mut target = [0xffff_ffffu32; 14523];
     let w = record::write(words, n, m, 0, &mut target);
     io::write_all(1, b", ");
     writes(w);
     if let Writing::Written { used } = w {
-        if used == source.len() {
-            if begins(source, &target) {
-                io::write_all(1, b", the same record");
+        if used == second.len() {
+            if begins(second, &target) {
+                io::write_all(1, b", the second form");
             }
         }
     }
@@ -170,15 +251,20 @@ fn load_back(target: &[u32], used: usize, words: &[u64]) {
     }
 }
 
-// The records of the bench's matrices with k = 0, and an empty record.
+// The records of the bench's matrices with k = 0, of both forms, and an empty record.
 fn bench() {
-    round_trip(b"A: ", &A);
-    round_trip(b"C: ", &C);
-    round_trip(b"E: ", &E);
-    round_trip(b"F: ", &F);
-    round_trip(b"I: ", &I);
+    round_trip(b"A: ", &A, &A2);
+    round_trip(b"A, second form: ", &A2, &A2);
+    round_trip(b"C: ", &C, &C2);
+    round_trip(b"C, second form: ", &C2, &C2);
+    round_trip(b"E: ", &E, &E2);
+    round_trip(b"E, second form: ", &E2, &E2);
+    round_trip(b"F: ", &F, &F2);
+    round_trip(b"F, second form: ", &F2, &F2);
+    round_trip(b"I: ", &I, &I2);
+    round_trip(b"I, second form: ", &I2, &I2);
     let none: [u32; 0] = [];
-    round_trip(b"K: ", &none);
+    round_trip(b"K: ", &none, &none);
 }
 
 // First words at the ends of their ranges, and other lengths.
@@ -222,37 +308,93 @@ fn firsts() {
     );
 }
 
-// The record of C with one word replaced.
-fn replaced(at: usize, word: u32)
+// Check numbers: of the second form, in the first form, and none in the second form.
+fn numbers() {
+    load_case(
+        b"first form, check 1 numbered: ",
+        &[0x1000_0203, 0x2000_0000, 0x2000_0100, 0xf000_0000],
+    );
+    load_case(
+        b"second form, check 1 not numbered: ",
+        &[0x4000_0203, 0x2000_0000, 0x2000_0000, 0xf000_0000],
+    );
+    load_case(
+        b"second form, numbers from 1: ",
+        &[0x4000_0203, 0x2000_0100, 0x2000_0200, 0xf000_0000],
+    );
+    load_case(
+        b"second form, a number skipped: ",
+        &[0x4000_0203, 0x2000_0000, 0x2000_0200, 0xf000_0000],
+    );
+    load_case(
+        b"second form, bit 16 of a kind 2 word: ",
+        &[0x4000_0103, 0x2001_0000, 0xf000_0000],
+    );
+    load_case(
+        b"second form, a word after the end: ",
+        &[0x4000_0002, 0xf000_0000, 0xf000_0000],
+    );
+    load_case(b"second form, n = 120: ", &[0x4000_0078, 0xf000_0000]);
+    load_case(b"second form, n = 121: ", &[0x4000_0079, 0xf000_0000]);
+    load_case(b"second form, m = 121: ", &[0x4000_7901, 0xf000_0000]);
+    load_case(b"third kind of first word: ", &[0x5000_0002, 0xf000_0000]);
+}
+
+// The full record, with check 119 numbered otherwise, and with kind 1 in its first word.
+fn last_numbers(words: &[u64]) {
+    let mut target = [0u32; 14522];
+    record::write(words, 120, 120, 0, &mut target);
+    if target[14400] == 0x2000_7778 {
+        io::write_all(1, b"check 119 is opened at 14400\n");
+    }
+    target[14400] = 0x2000_7678;
+    load_case(b"check 119 numbered 118: ", &target);
+    target[14400] = 0x2000_7878;
+    load_case(b"check 119 numbered 120: ", &target);
+    target[14400] = 0x2000_7778;
+    target[0] = 0x1000_7878;
+    load_case(b"full, kind 1 first: ", &target);
+}
+
+// The record of C, of one form,
+fn record_of_c(second: bool) -> [u32; 16] {
+    if second {
+        return C2;
+    }
+    C
+}
+
+// with one word replaced.
+fn replaced(second: bool, at: usize, word: u32)
     requires { ⌜ at < 16 ⌝ }
 {
     let mut words = [0u64; 4096];
-    let mut source = C;
+    let mut source = record_of_c(second);
     source[at] = word;
     place(record::load(&source, &mut words));
 }
 
-fn replaced_at(at: usize)
+fn replaced_at(second: bool, at: usize)
     requires { ⌜ at < 16 ⌝ }
 {
     let wrong = WRONG;
-    for f in 0..14 {
-        replaced(at, wrong[f]);
+    for f in 0..31 {
+        replaced(second, at, wrong[f]);
     }
 }
 
-fn replaced_line(at: usize)
+fn replaced_line(second: bool, at: usize)
     requires { ⌜ at < 16 ⌝ }
 {
-    number(b"C with another word at ", at as u64);
+    number(b"another word at ", at as u64);
     io::write_all(1, b":");
-    replaced_at(at);
+    replaced_at(second, at);
     io::write_all(1, b"\n");
 }
 
-fn all_replaced() {
+fn all_replaced(second: bool) {
     for at in 0..16 {
-        replaced_line(at);
+        replaced_line(second, at);
     }
 }
 
@@ -318,10 +460,17 @@ fn main() {
     write_case(b"full: ", &all, 120, 120, 0);
     rooms(&all);
     too_long(&all);
+    last_numbers(&all);
     firsts();
-    all_replaced();
+    numbers();
+    io::write_all(1, b"C with\n");
+    all_replaced(false);
+    io::write_all(1, b"C, second form, with\n");
+    all_replaced(true);
     io::write_all(1, b"C cut:");
     all_cut(&C);
+    io::write_all(1, b"\nC, second form, cut:");
+    all_cut(&C2);
     io::write_all(1, b"\n");
     lengths();
     with_word(b"n = 121 to write: ", 0, 121, 0, 0);

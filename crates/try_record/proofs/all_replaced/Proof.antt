@@ -5,10 +5,10 @@ use Rattle.try_record.proofs.all_replaced.Statement.{statement}
 use Rattle.try_record.proofs.all_replaced.Tie as tie
 
 abbrev Inv-loop : tie.InvT-loop
-Inv-loop at₀ at = at ≤ 16
+Inv-loop second at₀ at = at ≤ 16
 
 abbrev μ-loop : tie.MeasureT-loop
-μ-loop at₀ at = 16 - at
+μ-loop second at₀ at = 16 - at
 
 loop-holds : tie.Need-loop-holds Inv-loop μ-loop
 loop-holds c = search needs

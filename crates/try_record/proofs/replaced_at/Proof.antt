@@ -5,10 +5,10 @@ use Rattle.try_record.proofs.replaced_at.Statement.{statement}
 use Rattle.try_record.proofs.replaced_at.Tie as tie
 
 abbrev Inv-loop : tie.InvT-loop
-Inv-loop at wrong f₀ f = f ≤ 14
+Inv-loop second at wrong f₀ f = f ≤ 31
 
 abbrev μ-loop : tie.MeasureT-loop
-μ-loop at wrong f₀ f = 14 - f
+μ-loop second at wrong f₀ f = 31 - f
 
 loop-holds : tie.Need-loop-holds Inv-loop μ-loop
 loop-holds c = search needs

@@ -95,25 +95,31 @@ extern "C" {
 /* The matrix with the newest added bit taken back would break rule A. */
 #define PARITY_CANNOT_TAKE_BACK 16
 
-/* Loads a record into a matrix with k = 0.
+/* Loads a record of either form into a matrix with k = 0.
  *
  * record: read. Words of 32 bits; bits 28 to 31 are a word's kind and unnamed
- *   bits are zero. Kind 1, only first: bits 8-15 m, bits 0-7 n. Kind 2, opens
- *   the next check: bits 0-7 its number of ones, 0 to n. Kind 3, that many after
- *   it: bits 0-7 a bit number below n, rising within the check. Kind 15, after
- *   m checks, is the last word.
+ *   bits are zero. The first word's kind says the form.
+ *   First form. Kind 1, only first: bits 8-15 m, bits 0-7 n. Kind 2, opens the
+ *   next check: bits 0-7 its number of ones, 0 to n. Kind 3, that many after it:
+ *   bits 0-7 a bit number below n, rising within the check. Kind 15, after m
+ *   checks, is the last word.
+ *   Second form. Kind 4, only first, laid out as kind 1. A kind 2 word holds
+ *   besides, in bits 8-15, the number of the check that it opens, from 0. Kinds
+ *   3 and 15 as in the first form.
  * words: all PARITY_WORDS are written.
  * Values of the answer, 2: n, m.
  * Refusals: 1; 5 with the place of the first faulty word, where a missing word
  *   is faulty at the place where it should be and a word after the last one is
  *   faulty. A first word with n outside 1 to 120 or m above 120 is refused 5 at
- *   place 0.
+ *   place 0. A wrong check number is refused 5 at the place of its kind 2 word.
  */
 uint32_t parity_load(const uint32_t *record, size_t record_len,
                      uint64_t *words, size_t words_len,
                      uint64_t *values, size_t values_len);
 
-/* Writes a matrix with k = 0 as a record.
+/* Writes a matrix with k = 0 as a record of the second form (parity_load has its
+ * layout). A record of the second form that was loaded is written as it was, one
+ * of the first form as its second form, which has as many words.
  *
  * words: read.
  * record: its first elements are written, the others are left.

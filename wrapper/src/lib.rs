@@ -173,7 +173,7 @@ fn reply(number: u32, values: Values) -> Result<Values, Refusal> {
     })
 }
 
-/// Loads a record into a matrix with k = 0; writes all words.
+/// Loads a record, of the first or the second form, into a matrix with k = 0; writes all words.
 pub fn load(record: &[u32], words: &mut [u64]) -> Result<Loaded, Refusal> {
     let mut values: Values = [0; VALUES_MOST];
     // The pointers and lengths are those of live slices, and the written ones are borrowed alone; so in each call below.
@@ -190,7 +190,7 @@ pub fn load(record: &[u32], words: &mut [u64]) -> Result<Loaded, Refusal> {
     reply(number, values).map(|v| Loaded { n: v[0] as usize, m: v[1] as usize })
 }
 
-/// Writes a matrix with k = 0 as a record; answers the number of words used, and leaves the others.
+/// Writes a matrix with k = 0 as a record of the second form; answers the number of words used, and leaves the others.
 pub fn write(words: &[u64], n: usize, m: usize, k: usize, record: &mut [u32]) -> Result<usize, Refusal> {
     let mut values: Values = [0; VALUES_MOST];
     let number = unsafe {

@@ -43,6 +43,15 @@ const RECORD_C: [u32; 16] = [
     0xF000_0000,
 ];
 
+/// The same with the number of each check in its kind 2 word.
+fn second_form_of_c() -> [u32; 16] {
+    let mut record = RECORD_C;
+    record[0] = 0x4000_0307;
+    record[6] = 0x2000_0104;
+    record[11] = 0x2000_0203;
+    record
+}
+
 #[test]
 fn a_and_b() {
     let mut words = a();
@@ -168,8 +177,21 @@ fn k() {
     assert_eq!(words, c());
     let mut record = [0; 20];
     assert_eq!(parity::write(&words, 7, 3, 0, &mut record), Ok(16));
-    assert_eq!(record[..16], RECORD_C);
+    assert_eq!(record[..16], second_form_of_c());
     assert_eq!(parity::write(&words, 7, 3, 0, &mut record[..15]), Err(Refusal::RecordShort { needed: 16 }));
+}
+
+#[test]
+fn second_form() {
+    let mut words = vec![7; WORDS];
+    let mut record = second_form_of_c();
+    assert_eq!(parity::load(&record, &mut words), Ok(Loaded { n: 7, m: 3 }));
+    assert_eq!(words, c());
+    record[6] = 0x2000_0004;
+    assert_eq!(parity::load(&record, &mut words), Err(Refusal::FaultyWord { place: 6 }));
+    record[0] = 0x1000_0307;
+    assert_eq!(parity::load(&record, &mut words), Err(Refusal::FaultyWord { place: 11 }));
+    assert_eq!(words, c());
 }
 
 #[test]

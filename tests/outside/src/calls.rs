@@ -4,7 +4,7 @@ use crate::cases;
 use crate::compare::compare;
 use crate::elimination;
 use crate::generate;
-use crate::model::{self, Kind, Lent, Matrix, KINDS, WORDS};
+use crate::model::{self, Form, Kind, Lent, Matrix, FORMS, KINDS, WORDS};
 use crate::random::Random;
 use crate::stack;
 use std::thread;
@@ -196,12 +196,12 @@ fn good(r: &mut Random, kind: Kind, sample: &Sample) -> Lent {
     let mut lent = cases::lend(kind, matrix);
     match kind {
         Kind::Load => {
-            lent.record = model::record(matrix);
+            lent.record = model::record(matrix, r.pick(&FORMS));
             lent.words = vec![r.next(); WORDS];
             (lent.n, lent.m) = (0, 0);
         }
         Kind::Write => {
-            let needed = model::record(matrix).len();
+            let needed = model::record(matrix, Form::Second).len();
             let more = if r.chance(300) { 0 } else { r.below(6) };
             lent.record = (0..needed + more).map(|_| r.next() as u32).collect();
         }
@@ -436,14 +436,14 @@ pub fn damage_record(r: &mut Random, record: &mut Vec<u32>, n: usize) {
         let kind = r.below(16) as u32;
         let byte = r.below(256) as u32;
         let low = r.pick(&[0, 1, n.saturating_sub(1) as u32, n as u32, n as u32 + 1, 120, 121, 255, byte]);
-        let (named, random) = (r.pick(&[1, 2, 3, 15]), r.next() as u32);
+        let (named, random) = (r.pick(&[1, 2, 3, 4, 15]), r.next() as u32);
         let any = r.pick(&[kind << 28 | low, named << 28 | low, random]);
         if place == record.len() {
             record.push(r.pick(&[any, 0xF000_0000, 0]));
             continue;
         }
         let other = r.below(record.len());
-        match r.below(12) {
+        match r.below(14) {
             0 => record[place] ^= 1 << r.below(32),
             1 => record[place] = record[place] & 0x0FFF_FFFF | kind << 28,
             2 => record[place] |= 1 << r.between(8, 27),
@@ -456,7 +456,12 @@ pub fn damage_record(r: &mut Random, record: &mut Vec<u32>, n: usize) {
             7 => record[place] = record[place] & !255 | low,
             8 => record[place] = record[place] & !255 | record[place].wrapping_add(r.pick(&[1, 255])) & 255,
             9 => record.swap(place, other),
-            10 => record[0] = 0x1000_0000 | r.pick(&[0, 1, 120, 121, 255, 256]) << 8 | low,
+            10 => record[0] = r.pick(&[1, 4]) << 28 | r.pick(&[0, 1, 120, 121, 255, 256]) << 8 | low,
+            11 => {
+                let near = record[place].wrapping_add(r.pick(&[256, 0xFF00])) >> 8 & 255;
+                record[place] = record[place] & !0xFF00 | r.pick(&[low, near, near]) << 8;
+            }
+            12 => record[0] ^= 0x5000_0000,
             _ => record[place] = any,
         }
         if record.is_empty() {
@@ -542,7 +547,7 @@ fn apply(r: &mut Random, damage: Damage, matrix: &Matrix, lent: &mut Lent) {
             }
         }
         Damage::RecordShort => {
-            let needed = model::record(matrix).len();
+            let needed = model::record(matrix, Form::Second).len();
             let any = r.below(needed);
             lent.record.resize(r.pick(&[needed - 1, needed - 1, 0, 1, any]), 7);
         }
@@ -616,7 +621,7 @@ fn lend_extended(r: &mut Random, kind: Kind, matrix: &Matrix) -> Lent {
     lent
 }
 
-/// Every record word of small records changed in every way.
+/// Every record word of small records of both forms changed in every way.
 fn every_record(r: &mut Random) -> Result<usize, String> {
     let matrices = [
         cases::a(),
@@ -628,8 +633,8 @@ fn every_record(r: &mut Random) -> Result<usize, String> {
         Matrix::given(3, &[vec![2], vec![0, 1, 2], vec![0]]),
     ];
     let mut done = 0;
-    for matrix in &matrices {
-        let whole = model::record(matrix);
+    for (matrix, form) in matrices.iter().flat_map(|matrix| FORMS.map(|form| (matrix, form))) {
+        let whole = model::record(matrix, form);
         let n = matrix.n as u32;
         let mut records = vec![whole.clone()];
         for place in 0..=whole.len() {
@@ -655,9 +660,7 @@ fn every_record(r: &mut Random) -> Result<usize, String> {
             }
             for low in 0..256 {
                 put(now & !255 | low, true);
-                if place == 0 {
-                    put(now & !0xFF00 | low << 8, true);
-                }
+                put(now & !0xFF00 | low << 8, true);
             }
             records.push(whole[..place].to_vec());
             if place < whole.len() {

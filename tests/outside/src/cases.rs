@@ -3,7 +3,7 @@
 
 use crate::elimination;
 use crate::generate;
-use crate::model::{self, call, Kind, Lent, Matrix, Reply, WORDS};
+use crate::model::{self, call, Form, Kind, Lent, Matrix, Reply, FORMS, WORDS};
 use crate::random::Random;
 
 pub fn a() -> Matrix {
@@ -189,11 +189,22 @@ fn bench(t: &mut Tally) -> Result<(), String> {
     lent.record = RECORD_C.to_vec();
     t.same("the record of C", call(&mut lent), reply(0, &[7, 3]))?;
     t.same("the record of C, words", &lent.words, &c().pack())?;
-    t.same("C written", model::record(&c()), RECORD_C.to_vec())?;
+    t.same("the first form of C", model::record(&c(), Form::First), RECORD_C.to_vec())?;
+    let second: Vec<u32> = [(0, 0x4000_0307), (6, 0x2000_0104), (11, 0x2000_0203)].iter().fold(
+        RECORD_C.to_vec(),
+        |mut record, &(place, word)| {
+            record[place] = word;
+            record
+        },
+    );
+    t.same("C written", &model::record(&c(), Form::Second), &second)?;
+    lent.record = second;
+    t.same("the second form of C", call(&mut lent), reply(0, &[7, 3]))?;
+    t.same("the second form of C, words", &lent.words, &c().pack())?;
     let full: Vec<Vec<usize>> = vec![(0..120).collect(); 120];
-    t.same("the longest record", model::record(&Matrix::given(120, &full)).len(), 14_522)?;
+    t.same("the longest record", model::record(&Matrix::given(120, &full), Form::Second).len(), 14_522)?;
     // The first record word that breaks the form, one example for each way.
-    let faulty: [(&[u32], u64); 12] = [
+    let faulty: [(&[u32], u64); 19] = [
         (&[0x1000_0003], 1),
         (&[0x1000_0103, 0x2000_0004], 1),
         (&[0x1000_0103, 0x2000_0003, 0x3000_0002, 0x3000_0001], 3),
@@ -206,6 +217,13 @@ fn bench(t: &mut Tally) -> Result<(), String> {
         (&[0x1000_0003, 0x2000_0000], 1),
         (&[0x1000_7903, 0xF000_0000], 0),
         (&[0x1001_0003, 0xF000_0000], 0),
+        (&[0x4000_0003], 1),
+        (&[0x4000_0103, 0x2000_0100, 0xF000_0000], 1),
+        (&[0x4000_0203, 0x2000_0000, 0x2000_0000, 0xF000_0000], 2),
+        (&[0x4000_0203, 0x2000_0000, 0x2000_0200, 0xF000_0000], 2),
+        (&[0x4000_0203, 0x2000_0000, 0x2001_0100, 0xF000_0000], 2),
+        (&[0x1000_0203, 0x2000_0000, 0x2000_0100, 0xF000_0000], 2),
+        (&[0x5000_0003, 0xF000_0000], 0),
     ];
     for (record, place) in faulty {
         lent.record = record.to_vec();
@@ -353,7 +371,9 @@ fn methods(t: &mut Tally) -> Result<(), String> {
             t.same("encoding", matrix.encode(&message), matrix.encode_by_words(&message))?;
         }
         if matrix.k == 0 {
-            t.same("load after write", &model::load(&model::record(&matrix)), &Ok(matrix.clone()))?;
+            for form in FORMS {
+                t.same("load after write", &model::load(&model::record(&matrix, form)), &Ok(matrix.clone()))?;
+            }
         }
         t.same("read after pack", &Matrix::read(&matrix.pack(), matrix.n, matrix.m, matrix.k), &matrix)?;
     }

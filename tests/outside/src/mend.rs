@@ -4,7 +4,7 @@ use crate::calls::{damage_record, erase};
 use crate::cases;
 use crate::elimination;
 use crate::generate;
-use crate::model::{self, Matrix};
+use crate::model::{self, Form, Matrix, FORMS};
 use crate::random::Random;
 use std::env;
 use std::io::{Read, Write};
@@ -87,7 +87,7 @@ fn bytes(count: u32, record: &[u32], word: &[u8]) -> Vec<u8> {
 }
 
 fn whole(matrix: &Matrix, word: &[u8]) -> Vec<u8> {
-    let record = model::record(matrix);
+    let record = model::record(matrix, Form::First);
     bytes(record.len() as u32, &record, word)
 }
 
@@ -113,7 +113,7 @@ fn matrix(r: &mut Random, large: &[Matrix]) -> Matrix {
 fn random_input(r: &mut Random, large: &[Matrix]) -> Vec<u8> {
     let matrix = matrix(r, large);
     let mut word = received(r, &matrix);
-    let mut record = model::record(&matrix);
+    let mut record = model::record(&matrix, r.pick(&FORMS));
     let mut count = record.len() as u32;
     match r.below(20) {
         // Good inputs.

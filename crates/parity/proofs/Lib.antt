@@ -5,4 +5,5 @@ pub mod Words
 pub mod Lists
 pub mod Record
 pub mod Encoding
+pub mod House
 pub mod Causes

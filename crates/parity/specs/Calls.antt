@@ -11,6 +11,7 @@ use Rattle.parity.specs.Cycles.{share, cycles, splitOf, takenBack, other
 use Rattle.parity.specs.Words.{isOne, codeword, extended, stopping, peels, peeled, losses}
 use Rattle.parity.specs.Record.{Loaded, faulty, loaded, loading, written}
 use Rattle.parity.specs.Encoding.{rankOf, encoded}
+use Rattle.parity.specs.House.{houseCode, known}
 use Rattle.parity.specs.Causes.{Reply, answer, refusal, refuse, accepting, Outcome, leaving}
 
 -- the byte of each bit of a word that is a list
@@ -154,3 +155,12 @@ encodeReply ws n m k message w =
 unfoldable pub encodeOutcome : List ℕ → ℕ → ℕ → ℕ → List ℕ → List ℕ → Outcome
 encodeOutcome ws n m k message w =
     leaving w (encodeReply ws n m k message w) (listFrom 0 n (λ b. one (encoded (lent 8 ws) n m (isOne (byteOf message)) b)))
+
+-- house code (M-104): copies the code of a name into all 4,096 words; answers n and m
+unfoldable pub houseOutcome : ℕ → List ℕ → Outcome
+houseOutcome name ws =
+    leaving ws
+    (refuse (wrongLength 4096 ws) (refusal 1 [])
+    (refuse (not (known name)) (refusal 17 [])
+    (answer (houseCode name .n ∷ houseCode name .m ∷ []))))
+    (pack 8 (houseCode name .matrix))

@@ -5,7 +5,7 @@ use mathlib.Core.List.{List, [], _∷_}
 use lib.Dec.{eqb}
 use Rattle.parity.specs.Matrix.{cause}
 use Rattle.parity.specs.declared.Refusal.{Refusal}
-use Rattle.parity.specs.declared.Refusal.the-variants.{MatrixLength, OutOfRange, OneOutside, RuleABroken, FaultyWord, RecordTooShort, NotAPair, ShareBelowTwo, NoRoomToSplit, NoRoomLeft, WrongLength, WrongByte, Contradiction, AddedBits, ProgramInput, NothingToTakeBack, CannotTakeBack}
+use Rattle.parity.specs.declared.Refusal.the-variants.{MatrixLength, OutOfRange, OneOutside, RuleABroken, FaultyWord, RecordTooShort, NotAPair, ShareBelowTwo, NoRoomToSplit, NoRoomLeft, WrongLength, WrongByte, Contradiction, AddedBits, ProgramInput, NothingToTakeBack, CannotTakeBack, UnknownName}
 
 -- What a call returns: 0 for an answer, or the cause's number; and the values that it carries, in document 01's order. Yes is 1, no is 0.
 pub record Reply : Type 0 where
@@ -37,6 +37,7 @@ refusalOf AddedBits = refusal 13 []
 refusalOf ProgramInput = refusal 14 []
 refusalOf NothingToTakeBack = refusal 15 []
 refusalOf CannotTakeBack = refusal 16 []
+refusalOf UnknownName = refusal 17 []
 
 -- The refusal where its cause holds, and else what comes after it in the order of the checks.
 abbrev pub refuse : Bool → Reply → Reply → Reply

@@ -5,6 +5,7 @@ pub mod Words
 pub mod Demand3
 pub mod Record
 pub mod Encoding
+pub mod House
 pub mod Causes
 pub mod Calls
 pub mod Promises

@@ -6,7 +6,9 @@ use mathlib.Core.List.{List, [], _∷_, _++_}
 use lib.ListN.{getD, length, take, drop}
 use Rattle.parity.specs.Record.{kindOf, secondForm}
 use Rattle.parity.specs.Causes.{answer}
-use Rattle.parity.specs.Calls.{loadOutcome, writeOutcome, splitOutcome, takeBackOutcome}
+use Rattle.parity.specs.Matrix.{lent, cause}
+use Rattle.parity.specs.House.{houseCode}
+use Rattle.parity.specs.Calls.{loadOutcome, writeOutcome, splitOutcome, takeBackOutcome, houseOutcome}
 
 -- M-101: a split that is made, followed by taking back, gives the same words and k; both answer the same s.
 abbrev pub SplitTakenBack : Type 0
@@ -27,3 +29,8 @@ SecondFormKept = (source held target : List ℕ) (n m : ℕ) → kindOf (getD so
 abbrev pub FirstFormNumbered : Type 0
 FirstFormNumbered = (source held target : List ℕ) (n m : ℕ) → kindOf (getD source 0 0) ≡ 1 → loadOutcome source held .reply ≡ answer (n ∷ m ∷ []) → length source ≤ length target
     → writeOutcome (loadOutcome source held .after) n m 0 target ≡ record { reply = answer (length source ∷ []); after = secondForm source ++ drop (length source) target }
+
+-- M-104: a house code that is copied is accepted with k = 0, and its words hold the matrix that its rule says.
+abbrev pub HouseCopied : Type 0
+HouseCopied = (ws : List ℕ) (name n m : ℕ) → houseOutcome name ws .reply ≡ answer (n ∷ m ∷ [])
+    → (cause (houseOutcome name ws .after) n m 0 ≡ 0) × (lent 8 (houseOutcome name ws .after) ≡ houseCode name .matrix)

@@ -50,6 +50,8 @@ pub enum Refusal {
     NothingToTakeBack,
     // 16: with the newest split taken back rule A would be broken.
     CannotTakeBack,
+    // 17: no house code has the name.
+    UnknownName,
 }
 
 // The number of a refusal in the papers' table.
@@ -78,5 +80,6 @@ pub fn number(r: Refusal) -> u64
         Refusal::ProgramInput => 14,
         Refusal::NothingToTakeBack => 15,
         Refusal::CannotTakeBack => 16,
+        Refusal::UnknownName => 17,
     }
 }

@@ -56,6 +56,7 @@ fn refused(why: Refusal) -> Numbered
         Refusal::ProgramInput => Numbered::Alone(14),
         Refusal::NothingToTakeBack => Numbered::Alone(15),
         Refusal::CannotTakeBack => Numbered::Alone(16),
+        Refusal::UnknownName => Numbered::Alone(17),
     }
 }
 

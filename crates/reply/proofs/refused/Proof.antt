@@ -56,6 +56,9 @@ enum-told-11 c = search needs
 enum-told-12 : tie.Need-enum-told-12
 enum-told-12 c = search needs
 
+enum-told-13 : tie.Need-enum-told-13
+enum-told-13 c = search needs
+
 returns : tie.Need-returns
 returns c = sym (ap refusalOf (c .enum-told .given .1))
 
@@ -107,6 +110,9 @@ returns-16 c = sym (ap refusalOf (c .enum-told11 .given .1))
 returns-17 : tie.Need-returns-17
 returns-17 c = sym (ap refusalOf (c .enum-told12 .given .1))
 
+returns-18 : tie.Need-returns-18
+returns-18 c = sym (ap refusalOf (c .enum-told13 .given .1))
+
 pub refused-spec : {M : Type 1} → statement M
 refused-spec =
     tie.close
@@ -128,6 +134,7 @@ refused-spec =
     enum-told-10
     enum-told-11
     enum-told-12
+    enum-told-13
     returns
     returns-2
     returns-3
@@ -144,4 +151,5 @@ refused-spec =
     returns-14
     returns-15
     returns-16
-    returns-17)
+    returns-17
+    returns-18)

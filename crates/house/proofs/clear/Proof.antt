@@ -1,0 +1,60 @@
+-- `clear` meets its contract. Assumes nothing.
+use mathlib.Core.Path.{_≡_, refl, _∙_}
+use Prim.Native.Nat.{_-_, _≤_}
+use native.Mathlib.Omega.{arith}
+use lib.ListN.{length, length-set}
+use Rattle.house.specs.Holding.{Zeroed}
+use borrow.Author.Needs.{needs}
+use Rattle.house.proofs.Held.{zeroed-next}
+use Rattle.house.proofs.clear.Statement.{statement}
+use Rattle.house.proofs.clear.Tie as tie
+
+abbrev Inv-loop : tie.InvT-loop
+Inv-loop words₀ count i₀ words i = (i ≤ count) × (count ≤ length words₀) × (length words ≡ length words₀) × Zeroed words i
+
+abbrev μ-loop : tie.MeasureT-loop
+μ-loop words₀ count i₀ words i = count - i
+
+loop-holds : tie.Need-loop-holds Inv-loop μ-loop
+loop-holds c = (omega arith, c .pre, refl, record { none = λ j k. absurd (omega arith) })
+
+mul-words : tie.Need-mul-words Inv-loop μ-loop
+mul-words c = omega arith
+
+slice-write-words : tie.Need-slice-write-words Inv-loop μ-loop
+slice-write-words c = omega arith
+
+add-i : tie.Need-add-i Inv-loop μ-loop
+add-i c = omega arith
+
+loop-less : tie.Need-loop-less Inv-loop μ-loop
+loop-less c = omega arith
+
+loop-again : tie.Need-loop-again Inv-loop μ-loop
+loop-again c =
+    let l = c .before .loop in
+    (omega arith, l .inv .1, length-set (l .words) (l .i) 0 ∙ l .inv .2, zeroed-next _ _ (omega arith) (l .inv .3))
+
+same-length : tie.Need-same-length Inv-loop μ-loop
+same-length c = search needs
+
+returns : tie.Need-returns Inv-loop μ-loop
+returns c =
+    let l = c .before .loop in
+    let e : l .i ≡ c .before .before .args .count = omega arith in
+    rw e at (l .inv .3)
+
+pub clear-spec : {M : Type 1} → statement M
+clear-spec =
+    tie.close
+    (tie.spec
+    Inv-loop
+    μ-loop
+    loop-holds
+    mul-words
+    slice-write-words
+    add-i
+    loop-less
+    loop-again
+    same-length
+    returns)

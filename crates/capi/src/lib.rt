@@ -2,7 +2,7 @@
 // that it carries at the front of `values`, as far as it reaches.
 use parity::Bit;
 ghost use mathlib.Core.Path.{_≡_};
-ghost use Rattle.parity.specs.Calls.{loadOutcome, writeOutcome, shareReply, countReply, splitOutcome, takeBackOutcome, orthogonaliseOutcome, verifyReply, extendOutcome, isStoppingReply, peelOutcome, rankReply, encodeOutcome};
+ghost use Rattle.parity.specs.Calls.{loadOutcome, writeOutcome, shareReply, countReply, splitOutcome, takeBackOutcome, orthogonaliseOutcome, verifyReply, extendOutcome, isStoppingReply, peelOutcome, rankReply, encodeOutcome, houseOutcome};
 ghost use Rattle.reply.specs.Passed.{Passed};
 
 // Carries n and m.
@@ -224,5 +224,16 @@ pub extern "C" fn parity_encode(
 {
     let encoding = encode::encode(words, n, m, k, message, word);
     let numbered = reply::encoding(encoding);
+    reply::pass(numbered, values)
+}
+
+// Carries n and m.
+#[no_mangle]
+pub extern "C" fn parity_house_code(name: usize, words: &mut [u64], values: &mut [u64]) -> u32
+    ensures { λ r. ⌜ Passed (houseOutcome name (now (words .entry)) .reply) (now (values .entry)) (now (values .exit)) r ⌝ }
+    ensures { λ r. ⌜ now (words .exit) ≡ houseOutcome name (now (words .entry)) .after ⌝ }
+{
+    let copying = house::copy(name, words);
+    let numbered = reply::copying(copying);
     reply::pass(numbered, values)
 }

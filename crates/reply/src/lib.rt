@@ -3,6 +3,7 @@ use cycles::Counting;
 use cycles::Sharing;
 use encode::Encoding;
 use encode::Ranking;
+use house::Copying;
 use parity::Refusal;
 use peel::Peeling;
 use record::Loading;
@@ -23,6 +24,7 @@ ghost use Rattle.word.specs.Answers.{verifyingReply, stoppingReply};
 ghost use Rattle.word.specs.Answers.{extendingReply};
 ghost use Rattle.peel.specs.Answers.{peelingReply};
 ghost use Rattle.encode.specs.Answers.{rankingReply, encodingReply};
+ghost use Rattle.house.specs.Answers.{copyingReply};
 ghost use Rattle.reply.specs.Passed.{numberedReply, Passed};
 
 // A number and the values that it carries.
@@ -194,6 +196,16 @@ pub fn encoding(answer: Encoding) -> Numbered
     match answer {
         Encoding::Written => Numbered::Alone(0),
         Encoding::Refused(why) => refused(why),
+    }
+}
+
+// What copying a house code answers.
+pub fn copying(answer: Copying) -> Numbered
+    ensures { λ r. ⌜ numberedReply r ≡ copyingReply answer ⌝ }
+{
+    match answer {
+        Copying::Copied { n, m } => Numbered::Two(0, n as u64, m as u64),
+        Copying::Refused(why) => refused(why),
     }
 }
 

@@ -1,0 +1,123 @@
+// Each house code, copied over words that are all ones: its n, m, rank and cycle count, and the splits, sum and k of its orthogonalising. Then
+// names that no code has, and slices of another length than 4,096, which are left as they were.
+use cycles::Counting;
+use encode::Ranking;
+use house::Copying;
+use split::Orthogonalising;
+ghost use mathlib.Core.Path.{_≡_};
+ghost use Prim.Native.Nat.{_≤_};
+ghost use lib.ListN.{length};
+
+fn field(head: &[u8], x: u64) {
+    io::write_all(1, head);
+    io::print_decimal(1, x);
+}
+
+fn end() {
+    io::write_all(1, b"\n");
+}
+
+fn show_rank(words: &[u64], n: usize, m: usize) {
+    match encode::rank(words, n, m, 0) {
+        Ranking::Rank { rank } => field(b", rank ", rank),
+        Ranking::Refused(r) => field(b", refused ", parity::number(r)),
+    }
+}
+
+fn show_count(words: &[u64], n: usize, m: usize, k: usize) {
+    match cycles::count(words, n, m, k) {
+        Counting::Cycles(count) => field(b", count ", count),
+        Counting::Refused(r) => field(b", refused ", parity::number(r)),
+    }
+}
+
+// Orthogonalises, and answers k.
+fn show_orthogonalise(words: &mut [u64], n: usize, m: usize) -> usize {
+    match split::orthogonalise(words, n, m, 0) {
+        Orthogonalising::Finished { splits, sum, k } => {
+            field(b", splits ", splits);
+            field(b", sum ", sum);
+            field(b", k ", k as u64);
+            k
+        }
+        Orthogonalising::Refused(r) => {
+            field(b", refused ", parity::number(r));
+            0
+        }
+    }
+}
+
+fn show_matrix(words: &mut [u64], n: usize, m: usize) {
+    field(b"n ", n as u64);
+    field(b", m ", m as u64);
+    show_rank(words, n, m);
+    show_count(words, n, m, 0);
+    let k = show_orthogonalise(words, n, m);
+    show_count(words, n, m, k);
+}
+
+// Copies the code of a name, and shows it or why it was refused.
+fn show_code(name: usize, words: &mut [u64]) {
+    field(b"name ", name as u64);
+    field(b", words ", words.len() as u64);
+    io::write_all(1, b": ");
+    match house::copy(name, words) {
+        Copying::Copied { n, m } => show_matrix(words, n, m),
+        Copying::Refused(r) => field(b"refused ", parity::number(r)),
+    }
+}
+
+// Whether all words are ones, as they were.
+fn are_ones(words: &[u64]) -> bool {
+    let mut acc: u64 = 0;
+    for i in 0..words.len() {
+        acc = acc | !words[i];
+    }
+    acc == 0
+}
+
+fn show(name: usize, words: &mut [u64]) {
+    show_code(name, words);
+    if are_ones(words) {
+        io::write_all(1, b", words as they were");
+    }
+    end();
+}
+
+fn ones() -> [u64; 4097]
+    ensures { λ r. ⌜ 4097 ≡ length r ⌝ }
+{
+    [0xffff_ffff_ffff_ffff; 4097]
+}
+
+// The name, with so many words that are all ones.
+fn show_with(name: usize, count: usize)
+    requires { ⌜ count ≤ 4097 ⌝ }
+{
+    let mut words = ones();
+    show(name, &mut words[..count]);
+}
+
+fn show_unknown() {
+    show_with(5, 4096);
+    show_with(255, 4096);
+    show_with(256, 4096);
+    show_with(4294967296, 4096);
+    show_with(18446744073709551615, 4096);
+}
+
+fn show_lengths(name: usize) {
+    show_with(name, 0);
+    show_with(name, 4095);
+    show_with(name, 4097);
+}
+
+fn main() {
+    for name in 0..5 {
+        show_with(name, 4096);
+    }
+    show_unknown();
+    show_lengths(0);
+    show_lengths(4);
+    show_lengths(5);
+}

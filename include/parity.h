@@ -16,8 +16,8 @@
  * SLICES. A slice is a pointer to its first element and then its number of
  * elements. A pointer is never NULL and is aligned for its elements, also when
  * the number is 0. A slice that a call may write (no `const`) overlaps no other
- * slice of the same call. A slice may have any length and n, m, k, u and v any
- * value: what does not fit is refused.
+ * slice of the same call. A slice may have any length and n, m, k, u, v and name
+ * any value: what does not fit is refused.
  *
  * RESULTS. Every call returns 0 for an answer, or the number of the refusal. The
  * values that the answer or the refusal carries fill the first elements of
@@ -94,6 +94,16 @@ extern "C" {
 #define PARITY_NOTHING_TO_TAKE_BACK 15
 /* The matrix with the newest added bit taken back would break rule A. */
 #define PARITY_CANNOT_TAKE_BACK 16
+/* No house code has the name. */
+#define PARITY_UNKNOWN_NAME 17
+
+/* The names of the house codes: the circulant of 23 bits, and the Hamming checks
+ * for lengths 3, 7, 15 and 31. */
+#define PARITY_HOUSE_CIRCULANT 0
+#define PARITY_HOUSE_HAMMING_3 1
+#define PARITY_HOUSE_HAMMING_7 2
+#define PARITY_HOUSE_HAMMING_15 3
+#define PARITY_HOUSE_HAMMING_31 4
 
 /* Loads a record of either form into a matrix with k = 0.
  *
@@ -279,6 +289,19 @@ uint32_t parity_encode(const uint64_t *words, size_t words_len,
                        const uint8_t *message, size_t message_len,
                        uint8_t *word, size_t word_len,
                        uint64_t *values, size_t values_len);
+
+/* Copies a house code into a matrix with k = 0. PARITY_HOUSE_CIRCULANT: check c
+ * contains (c+e) mod 23 for e in 0, 1, 2, 3, 4, 7, 10, 12. The others, the
+ * Hamming checks: check c contains bit b exactly when bit c of b+1 is one.
+ *
+ * name: the number of the code, one of PARITY_HOUSE_.. above.
+ * words: all PARITY_WORDS are written.
+ * Values of the answer, 2: n, m.
+ * Refusals: 1; 17 for any other name.
+ */
+uint32_t parity_house_code(size_t name,
+                           uint64_t *words, size_t words_len,
+                           uint64_t *values, size_t values_len);
 
 #ifdef __cplusplus
 }

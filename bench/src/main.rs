@@ -28,6 +28,7 @@ enum Call {
     Peel,
     Rank,
     Encode,
+    HouseCode,
 }
 
 /// All that a call is lent and passed.
@@ -40,6 +41,7 @@ struct Job {
     k: usize,
     u: usize,
     v: usize,
+    name: usize,
     record: Vec<u32>,
     input: Vec<u8>,
     word: Vec<u8>,
@@ -62,6 +64,7 @@ fn in_plain(job: &mut Job) -> u32 {
         Call::Peel => plain::peel(&job.words, n, m, k, &mut job.word, values),
         Call::Rank => plain::rank(&job.words, n, m, k, values),
         Call::Encode => plain::encode(&job.words, n, m, k, &job.input, &mut job.word, values),
+        Call::HouseCode => plain::house_code(job.name, &mut job.words, values),
     }
 }
 
@@ -94,6 +97,7 @@ fn in_library(job: &mut Job) -> u32 {
             Call::Encode => {
                 ffi::parity_encode(words, words_len, n, m, k, input, input_len, word, word_len, values, values_len)
             }
+            Call::HouseCode => ffi::parity_house_code(job.name, words, words_len, values, values_len),
         }
     }
 }
@@ -218,6 +222,7 @@ impl Case {
             k: self.k,
             u: 0,
             v: 1,
+            name: 0,
             record: Vec::new(),
             input: Vec::new(),
             word: Vec::new(),
@@ -337,6 +342,8 @@ fn jobs(r: &mut Random, given: &Case, case: &Case) -> Vec<(String, Job)> {
         job.input = message;
         job.word = vec![0; case.n];
         row("encode", job);
+        // The circulant over the words of the matrix: what it takes does not depend on these.
+        row("house_code", case.job(Call::HouseCode));
     }
     rows
 }

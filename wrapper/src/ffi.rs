@@ -91,4 +91,10 @@ extern "C" {
         word: *mut u8, word_len: usize,
         values: *mut u64, values_len: usize,
     ) -> u32;
+
+    pub fn parity_house_code(
+        name: usize,
+        words: *mut u64, words_len: usize,
+        values: *mut u64, values_len: usize,
+    ) -> u32;
 }

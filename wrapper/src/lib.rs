@@ -20,6 +20,13 @@ pub const VALUES_MOST: usize = 4;
 /// The most bytes of stack that a call needs.
 pub const STACK_MOST: usize = 65_536;
 
+/// The names of the house codes: the circulant of 23 bits, and the Hamming checks for lengths 3, 7, 15 and 31.
+pub const HOUSE_CIRCULANT: usize = 0;
+pub const HOUSE_HAMMING_3: usize = 1;
+pub const HOUSE_HAMMING_7: usize = 2;
+pub const HOUSE_HAMMING_15: usize = 3;
+pub const HOUSE_HAMMING_31: usize = 4;
+
 /// Why a call was refused, with the values that the refusal carries.
 #[derive(Clone, Copy, PartialEq, Eq, Debug)]
 pub enum Refusal {
@@ -55,6 +62,8 @@ pub enum Refusal {
     NothingToTakeBack,
     /// 16: the matrix with the newest added bit taken back would break rule A.
     CannotTakeBack,
+    /// 17: no house code has this name.
+    UnknownName,
 }
 
 impl Refusal {
@@ -76,6 +85,7 @@ impl Refusal {
             Refusal::Extended => 13,
             Refusal::NothingToTakeBack => 15,
             Refusal::CannotTakeBack => 16,
+            Refusal::UnknownName => 17,
         }
     }
 }
@@ -102,6 +112,7 @@ impl std::fmt::Display for Refusal {
             Refusal::Extended => write!(f, "k is above 0"),
             Refusal::NothingToTakeBack => write!(f, "k is 0, there is nothing to take back"),
             Refusal::CannotTakeBack => write!(f, "with the newest added bit taken back rule A would be broken"),
+            Refusal::UnknownName => write!(f, "no house code has this name"),
         }
     }
 }
@@ -111,6 +122,13 @@ impl std::error::Error for Refusal {}
 /// The answer of [`load`].
 #[derive(Clone, Copy, PartialEq, Eq, Debug)]
 pub struct Loaded {
+    pub n: usize,
+    pub m: usize,
+}
+
+/// The answer of [`house_code`].
+#[derive(Clone, Copy, PartialEq, Eq, Debug)]
+pub struct HouseCode {
     pub n: usize,
     pub m: usize,
 }
@@ -169,6 +187,7 @@ fn reply(number: u32, values: Values) -> Result<Values, Refusal> {
         13 => Refusal::Extended,
         15 => Refusal::NothingToTakeBack,
         16 => Refusal::CannotTakeBack,
+        17 => Refusal::UnknownName,
         other => panic!("the library returned {other}, which is no refusal"),
     })
 }
@@ -365,4 +384,13 @@ pub fn encode(words: &[u64], n: usize, m: usize, k: usize, message: &[u8], word:
         )
     };
     reply(number, values).map(|_| ())
+}
+
+/// Copies the house code of a name ([`HOUSE_CIRCULANT`] to [`HOUSE_HAMMING_31`], or any other number, which is refused) into
+/// `words`, all of which are written; it is a matrix with k = 0.
+pub fn house_code(name: usize, words: &mut [u64]) -> Result<HouseCode, Refusal> {
+    let mut values: Values = [0; VALUES_MOST];
+    let number =
+        unsafe { ffi::parity_house_code(name, words.as_mut_ptr(), words.len(), values.as_mut_ptr(), values.len()) };
+    reply(number, values).map(|v| HouseCode { n: v[0] as usize, m: v[1] as usize })
 }

@@ -1,6 +1,6 @@
-//! Cases A to K of document 01 and cases of taking back (document 02), through the wrapper.
+//! Cases A to K of document 01, cases of taking back and the house codes (document 02), through the wrapper.
 
-use parity::{Loaded, Orthogonalised, Peeled, Refusal, Split, TakenBack, WORDS};
+use parity::{HouseCode, Loaded, Orthogonalised, Peeled, Refusal, Split, TakenBack, WORDS};
 
 fn matrix(checks: &[&[usize]]) -> Vec<u64> {
     let mut words = vec![0; WORDS];
@@ -125,6 +125,57 @@ fn taken_back_without_splits() {
     let mut words = matrix(&[&[0, 3], &[1, 2, 3]]);
     assert_eq!(parity::take_back(&mut words, 3, 1, 1), Ok(TakenBack { share: 1, k: 0 }));
     assert_eq!(words, matrix(&[&[0, 1, 2]]));
+}
+
+/// Each house code, on words that held ones before: its checks, its rank, its cycle count and its orthogonalising.
+#[test]
+fn house_codes() {
+    let names = [
+        parity::HOUSE_CIRCULANT,
+        parity::HOUSE_HAMMING_3,
+        parity::HOUSE_HAMMING_7,
+        parity::HOUSE_HAMMING_15,
+        parity::HOUSE_HAMMING_31,
+    ];
+    let known = [
+        (23, 23, 11, 598, 35, 92),
+        (3, 2, 2, 0, 0, 0),
+        (7, 3, 3, 3, 1, 1),
+        (15, 4, 4, 36, 5, 7),
+        (31, 5, 5, 280, 16, 31),
+    ];
+    for (name, (n, m, rank, count, splits, sum)) in names.into_iter().zip(known) {
+        let mut words = vec![u64::MAX; WORDS];
+        assert_eq!(parity::house_code(name, &mut words), Ok(HouseCode { n, m }));
+        let checks: Vec<Vec<usize>> = (0..m)
+            .map(|c| match name {
+                0 => [0, 1, 2, 3, 4, 7, 10, 12].iter().map(|e| (c + e) % 23).collect(),
+                _ => (0..n).filter(|b| (b + 1) >> c & 1 == 1).collect(),
+            })
+            .collect();
+        assert_eq!(words, matrix(&checks.iter().map(Vec::as_slice).collect::<Vec<_>>()));
+        assert_eq!(parity::rank(&words, n, m, 0), Ok(rank));
+        assert_eq!(parity::count(&words, n, m, 0), Ok(count));
+        let k = splits as usize;
+        assert_eq!(parity::orthogonalise(&mut words, n, m, 0), Ok(Orthogonalised { splits, sum, k }));
+    }
+}
+
+#[test]
+fn unknown_names() {
+    for name in [5, 255, 256, 1 << 32, usize::MAX] {
+        let mut words = vec![7; WORDS];
+        assert_eq!(parity::house_code(name, &mut words), Err(Refusal::UnknownName));
+        assert_eq!(words, vec![7; WORDS]);
+    }
+    for length in [0, WORDS - 1, WORDS + 1] {
+        for name in [0, 5] {
+            let mut words = vec![7; length];
+            assert_eq!(parity::house_code(name, &mut words), Err(Refusal::MatrixLength));
+            assert_eq!(words, vec![7; length]);
+        }
+    }
+    assert_eq!(Refusal::UnknownName.number(), 17);
 }
 
 #[test]

@@ -104,10 +104,10 @@ fn read(path: &str) -> String {
 #[test]
 fn header_wrapper_and_crate_agree() {
     let header = of_header(&read("../include/parity.h"));
-    assert_eq!(header.len(), 13);
+    assert_eq!(header.len(), 14);
     assert_eq!(header, of_wrapper(&read("src/ffi.rs")));
     let text = read("../crates/capi/src/lib.rt");
-    assert_eq!(text.matches("extern \"C\"").count(), 13);
+    assert_eq!(text.matches("extern \"C\"").count(), 14);
     assert_eq!(header, of_crate(&text));
 }
 
@@ -135,6 +135,7 @@ fn header_has_the_numbers_of_the_wrapper() {
         ("EXTENDED", Refusal::Extended),
         ("NOTHING_TO_TAKE_BACK", Refusal::NothingToTakeBack),
         ("CANNOT_TAKE_BACK", Refusal::CannotTakeBack),
+        ("UNKNOWN_NAME", Refusal::UnknownName),
     ];
     let mut due = vec![
         ("WORDS", parity::WORDS),
@@ -147,5 +148,12 @@ fn header_has_the_numbers_of_the_wrapper() {
         ("ANSWER", 0),
     ];
     due.extend(refusals.map(|(name, refusal)| (name, refusal.number() as usize)));
+    due.extend([
+        ("HOUSE_CIRCULANT", parity::HOUSE_CIRCULANT),
+        ("HOUSE_HAMMING_3", parity::HOUSE_HAMMING_3),
+        ("HOUSE_HAMMING_7", parity::HOUSE_HAMMING_7),
+        ("HOUSE_HAMMING_15", parity::HOUSE_HAMMING_15),
+        ("HOUSE_HAMMING_31", parity::HOUSE_HAMMING_31),
+    ]);
     assert_eq!(defined, due);
 }

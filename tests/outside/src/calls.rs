@@ -250,6 +250,11 @@ fn good(r: &mut Random, kind: Kind, sample: &Sample) -> Lent {
             lent.input = r.bits(matrix.n - matrix.rank());
             lent.word = r.bytes(matrix.n);
         }
+        Kind::HouseCode => {
+            lent.name = r.below(5);
+            lent.words = (0..WORDS).map(|_| r.next()).collect();
+            (lent.n, lent.m, lent.k) = (0, 0, 0);
+        }
     }
     lent
 }
@@ -273,6 +278,7 @@ enum Damage {
     RecordFault,
     Nothing,
     NotBack,
+    Name,
 }
 
 fn damages(kind: Kind) -> Vec<Damage> {
@@ -280,9 +286,12 @@ fn damages(kind: Kind) -> Vec<Damage> {
     if kind == Kind::Load {
         return vec![WordsLength, RecordFault, RecordFault, RecordFault, RecordFault, RecordFault];
     }
+    if kind == Kind::HouseCode {
+        return vec![WordsLength, Name, Name];
+    }
     let mut list = vec![WordsLength, Numbers, Near, Outside, RuleA, RuleA];
     list.extend_from_slice(match kind {
-        Kind::Load | Kind::Count => &[],
+        Kind::Load | Kind::Count | Kind::HouseCode => &[],
         Kind::Write => &[Extended, RecordShort, RecordShort],
         Kind::Share => &[Pair, Pair],
         Kind::Split => &[Pair, LowShare, LowShare, Full],
@@ -320,6 +329,13 @@ fn out_of_range(r: &mut Random, now: usize, low: usize, high: usize) -> usize {
         from.extend([0, 0, 0]);
     }
     r.pick(&from)
+}
+
+/// A number that is no name of a house code.
+fn unknown_name(r: &mut Random) -> usize {
+    let (known, low, any) = (r.below(5), r.between(5, 300), r.next() as usize | 1 << 40);
+    let high = [known + 256, known | 1 << 32, known | 1 << 63, usize::MAX - known];
+    r.pick(&[5, 5, 6, 255, 256, 1 << 32, usize::MAX, low, any, high[0], high[1], high[2], high[3]])
 }
 
 fn flip(words: &mut [u64], check: usize, bit: usize, to: Option<bool>) {
@@ -552,6 +568,7 @@ fn apply(r: &mut Random, damage: Damage, matrix: &Matrix, lent: &mut Lent) {
             lent.record.resize(r.pick(&[needed - 1, needed - 1, 0, 1, any]), 7);
         }
         Damage::RecordFault => damage_record(r, &mut lent.record, matrix.n),
+        Damage::Name => lent.name = unknown_name(r),
         // These choose the matrix.
         Damage::Extended | Damage::Full | Damage::Nothing | Damage::NotBack => {}
     }
@@ -681,6 +698,22 @@ fn every_record(r: &mut Random) -> Result<usize, String> {
     Ok(done)
 }
 
+/// Names and slice lengths at the edges, on words that are all ones.
+fn every_name(r: &mut Random) -> Result<usize, String> {
+    let mut done = 0;
+    for name in [0, 1, 2, 3, 4, 5, 6, 255, 256, 257, 1 << 32, 1 << 63, usize::MAX - 4, usize::MAX] {
+        for length in [0, 1, 8, 960, 4095, 4096, 4097, 8192] {
+            let mut lent = cases::lend(Kind::HouseCode, &Matrix::zero(1, 0, 0));
+            lent.name = name;
+            lent.words = vec![u64::MAX; length];
+            (lent.n, lent.m) = (0, 0);
+            compare(&lent, r)?;
+            done += 1;
+        }
+    }
+    Ok(done)
+}
+
 const THREADS: u64 = 4;
 
 /// Calls of every kind from several threads at once, each on words of its own; gives the number of comparisons.
@@ -709,7 +742,7 @@ pub fn at_once() -> Result<usize, String> {
 #[derive(Default)]
 struct Tally {
     answers: usize,
-    refusals: [usize; 17],
+    refusals: [usize; 18],
     /// Answers whose first value is 1, and those whose first value is 0.
     yes: usize,
     no: usize,
@@ -761,6 +794,9 @@ pub fn run(named: &[Kind]) -> Result<usize, String> {
         }
         if kind == Kind::Load {
             done += every_record(r)?;
+        }
+        if kind == Kind::HouseCode {
+            done += every_name(r)?;
         }
         let refused: Vec<String> =
             kind.refusals().iter().map(|&no| format!("{no}: {}", tally.refusals[no as usize])).collect();

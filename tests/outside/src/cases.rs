@@ -1,5 +1,5 @@
-//! The model by itself: document 01's bench cases, known cases of document 02's taking back, and the model's quick methods
-//! against the definitions tried out in full.
+//! The model by itself: document 01's bench cases, known cases of document 02's taking back, its house codes, and the
+//! model's quick methods against the definitions tried out in full.
 
 use crate::elimination;
 use crate::generate;
@@ -54,6 +54,7 @@ pub fn lend(kind: Kind, matrix: &Matrix) -> Lent {
         k: matrix.k,
         u: 0,
         v: 0,
+        name: 0,
         record: Vec::new(),
         input: Vec::new(),
         word: Vec::new(),
@@ -269,6 +270,32 @@ fn bench(t: &mut Tally) -> Result<(), String> {
     t.same("mend, word too long", model::mend(&input), b"REFUSED 10\n".to_vec())
 }
 
+/// The house codes: rank, cycle count, and the splits, sum and k of orthogonalising.
+fn house_codes(t: &mut Tally) -> Result<(), String> {
+    t.same("house code 0 is case L", model::house(0), Some(l(23)))?;
+    let due = [
+        (0, 23, 23, 11, 598, [35, 92, 35]),
+        (1, 3, 2, 2, 0, [0, 0, 0]),
+        (2, 7, 3, 3, 3, [1, 1, 1]),
+        (3, 15, 4, 4, 36, [5, 7, 5]),
+        (4, 31, 5, 5, 280, [16, 31, 16]),
+    ];
+    for (name, n, m, rank, count, orthogonalised) in due {
+        let mut lent = lend(Kind::HouseCode, &Matrix::zero(1, 0, 0));
+        lent.name = name;
+        lent.words = vec![u64::MAX; WORDS];
+        t.same("a house code, n and m", call(&mut lent), reply(0, &[n as u64, m as u64]))?;
+        let mut given = Matrix::read(&lent.words, n, m, 0);
+        t.same("a house code, rank", given.rank(), rank)?;
+        t.same("a house code, count", given.cycles(), count)?;
+        lent = lend(Kind::Orthogonalise, &given);
+        t.same("a house code, orthogonalised", call(&mut lent), reply(0, &orthogonalised))?;
+        given.orthogonalise();
+        t.same("a house code, orthogonalised, count", given.cycles(), 0)?;
+    }
+    Ok(())
+}
+
 /// The residue and peeling by their definitions, against the methods that serve for many erased bits.
 fn peelings(t: &mut Tally, matrix: &Matrix, word: &[u8]) -> Result<(), String> {
     let erased = model::twos(word);
@@ -384,6 +411,7 @@ fn methods(t: &mut Tally) -> Result<(), String> {
 pub fn run() -> Result<usize, String> {
     let mut tally = Tally(0);
     bench(&mut tally)?;
+    house_codes(&mut tally)?;
     methods(&mut tally)?;
     larger(&mut tally)?;
     Ok(tally.0)

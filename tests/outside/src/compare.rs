@@ -11,7 +11,7 @@ use std::sync::OnceLock;
 /// The whole input of a call, so that it can be made again.
 pub fn describe(lent: &Lent) -> String {
     let mut text = format!("call {}\n", lent.kind.name());
-    text += &format!("n {} m {} k {} u {} v {}\n", lent.n, lent.m, lent.k, lent.u, lent.v);
+    text += &format!("n {} m {} k {} u {} v {} name {}\n", lent.n, lent.m, lent.k, lent.u, lent.v, lent.name);
     text += &format!("matrix slice of {} words; those that are not 0, by place:\n", lent.words.len());
     for (place, word) in lent.words.iter().enumerate().filter(|(_, word)| **word != 0) {
         text += &format!("  {place}: {word:#018x}\n");

@@ -47,7 +47,7 @@ pub fn call(lent: &mut Lent, values: &mut [u64]) -> Result<u32, String> {
     let mut input = Guarded::new(&lent.input, guard as u8);
     let mut word = Guarded::new(&lent.word, guard as u8);
     let mut carried = Guarded::new(values, guard);
-    let (n, m, k, u, v) = (lent.n, lent.m, lent.k, lent.u, lent.v);
+    let (n, m, k, u, v, name) = (lent.n, lent.m, lent.k, lent.u, lent.v, lent.name);
     let (words_ptr, words_len) = (words.content_mut(), words.len());
     let (record_ptr, record_len) = (record.content_mut(), record.len());
     let (input_ptr, input_len) = (input.content_mut() as *const u8, input.len());
@@ -83,6 +83,7 @@ pub fn call(lent: &mut Lent, values: &mut [u64]) -> Result<u32, String> {
                 Kind::Encode => ffi::parity_encode(
                     words_ptr, words_len, n, m, k, input_ptr, input_len, word_ptr, word_len, values_ptr, values_len,
                 ),
+                Kind::HouseCode => ffi::parity_house_code(name, words_ptr, words_len, values_ptr, values_len),
             }
         }
     });

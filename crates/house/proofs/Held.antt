@@ -15,18 +15,11 @@ use Rattle.parity.specs.House.{tableWord}
 use Rattle.parity.proofs.Finite.Sums.{sum-cong, sum-zero, sum-end, below-next}
 use Rattle.parity.proofs.Matrix.Packing.{pack-length, pack-at}
 use Rattle.parity.proofs.Matrix.Clean.{Clean}
-use Rattle.house.specs.Holding.{Zeroed, Holding}
+use Rattle.rows.specs.Zeros.{Zeroed}
+use Rattle.house.specs.Holding.{Holding}
 use Rattle.house.proofs.Generated.{no-term}
 
 -- words that are all 0 hold no check
-pub zeroed-next : (words : List ℕ) (i : ℕ) → i < length words → Zeroed words i → Zeroed (set words i 0) (i + 1)
-zeroed-next words i k Z = record {
-  none = λ j l. elim (ℕ-discrete j i) [
-    | yes e ↦ rw e (getD-set-same words i 0 0 k)
-    | no d ↦ getD-set-other words i j 0 0 d ∙ Z .none j (omega arith)
-  ];
-}
-
 pub holding-none : (W : ℕ) (h : Matrix) (words : List ℕ) → Zeroed words (512 * W) → Holding W h 0 words
 holding-none W h words Z = record { held = λ j l. rw (le-ltb (j / W) 0 (omega arith)) (Z .none j l) }
 

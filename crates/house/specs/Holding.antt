@@ -7,10 +7,6 @@ use lib.Dec.{ltb}
 use lib.ListN.{getD}
 use Rattle.parity.specs.Matrix.{Matrix, wordOf}
 
--- the first i words are 0
-pub record Zeroed (words : List ℕ) (i : ℕ) : Type 0 where
-  pub none : (j : ℕ) → j < i → getD words j 0 ≡ 0
-
 -- the words, W for each check, hold the checks of h below c, and no others
 pub record Holding (W : ℕ) (h : Matrix) (c : ℕ) (words : List ℕ) : Type 0 where
   pub held : (j : ℕ) → j < 512 * W → getD words j 0 ≡ cond (ltb (j / W) c) (wordOf W h j) 0

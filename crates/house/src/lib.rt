@@ -7,13 +7,15 @@ use crate::rule::checks;
 use crate::tables::word;
 use parity::Check;
 use parity::Refusal;
+use rows::clear;
 ghost use mathlib.Core.Path.{_≡_};
-ghost use Prim.Native.Nat.{_≤_, _<_};
+ghost use Prim.Native.Nat.{_<_};
 ghost use lib.ListN.{length};
 ghost use Rattle.parity.specs.House.{houseCode};
 ghost use Rattle.parity.specs.Calls.{houseOutcome};
 ghost use Rattle.house.specs.Answers.{copyingReply};
-ghost use Rattle.house.specs.Holding.{Zeroed, Holding};
+ghost use Rattle.rows.specs.Zeros.{Zeroed};
+ghost use Rattle.house.specs.Holding.{Holding};
 
 // What copying answers.
 pub enum Copying {
@@ -26,16 +28,6 @@ fn wide(x: u32) -> u64
     ensures { λ r. ⌜ r ≡ x ⌝ }
 {
     x as u64
-}
-
-// The first `count` words are 0.
-fn clear(words: &mut [u64], count: usize)
-    requires { ⌜ count ≤ length (now words) ⌝ }
-    ensures { λ r. ⌜ Zeroed (now (words .exit)) count ⌝ }
-{
-    for i in 0..count {
-        words[i] = 0;
-    }
 }
 
 // Puts the checks of the code of a name into words that are all 0: each is one word of the table, the first of its row.

@@ -17,20 +17,13 @@ use Rattle.parity.proofs.Matrix.Digits.{bit-zero}
 use Rattle.parity.proofs.Matrix.Lent.{lent-in, lent-out, raised-put}
 use Rattle.parity.proofs.Record.Reading.{readingAt, bits, opens, read-open, read-bit, loads-more, loads-open, loads-bit, loads-end}
 use Rattle.reading.specs.Read.{puts}
-use Rattle.record.specs.Fill.{Zeroed, Payloads, Checks, Filled}
+use Rattle.rows.specs.Zeros.{Zeroed}
+use Rattle.record.specs.Fill.{Payloads, Checks, Filled}
 
 abbrev none : Matrix
 none c b = false
 
 -- words that are all 0
-pub zeroed-next : (ws : List ℕ) (i : ℕ) → i < length ws → Zeroed ws i → Zeroed (set ws i 0) (i + 1)
-zeroed-next ws i k Z = record {
-  none = λ j l. elim (ℕ-discrete j i) [
-    | yes e ↦ rw e (getD-set-same ws i 0 0 k)
-    | no d ↦ getD-set-other ws i j 0 0 d ∙ Z .none j (omega arith)
-  ];
-}
-
 pub zeroed-none : (W : ℕ) (ws : List ℕ) → Zeroed ws (length ws) → lent W ws ≡ none
 zeroed-none W ws Z = fun-ext (λ c. fun-ext (λ b. at c b))
   where

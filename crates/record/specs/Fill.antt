@@ -7,10 +7,6 @@ use Rattle.parity.specs.Matrix.{Matrix, lent}
 use Rattle.parity.specs.Record.{payload, loaded, loading}
 use Rattle.reading.specs.Judge.{Loads}
 
--- the first i words are 0
-pub record Zeroed (words : List ℕ) (i : ℕ) : Type 0 where
-  pub none : (j : ℕ) → j < i → getD words j 0 ≡ 0
-
 -- the payloads of `count` words from place `from` on rise, and are below N
 pub record Payloads (source : List ℕ) (from count N : ℕ) : Type 0 where
   pub inside : from + count ≤ length source

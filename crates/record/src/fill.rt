@@ -1,20 +1,12 @@
 // Filling the matrix's words from a record that was judged right.
 use reading::words::payload;
+use rows::clear;
 ghost use mathlib.Core.Path.{_≡_};
 ghost use Prim.Native.Nat.{_+_, _*_, _≤_, _<_};
 ghost use lib.ListN.{length};
 ghost use Rattle.parity.specs.Matrix.{lent};
 ghost use Rattle.reading.specs.Read.{puts};
-ghost use Rattle.record.specs.Fill.{Zeroed, Payloads, Checks, Filled};
-
-// No check contains a bit.
-fn clear(words: &mut [u64])
-    ensures { λ r. ⌜ Zeroed (now (words .exit)) (length (now (words .entry))) ⌝ }
-{
-    for i in 0..words.len() {
-        words[i] = 0;
-    }
-}
+ghost use Rattle.record.specs.Fill.{Payloads, Checks, Filled};
 
 // Puts the rising bits of `count` words from place `from` on into row `c`. The word in hand, whose bits are below `top`, is stored when a
 // bit of a later one comes.
@@ -44,7 +36,7 @@ pub fn fill(source: &[u32], words: &mut [u64], m: usize)
     requires { ⌜ (length (now words) ≡ 4096) × Checks m (now source) ⌝ }
     ensures { λ r. ⌜ Filled (now (source .entry)) (now (words .exit)) ⌝ }
 {
-    clear(words);
+    clear(words, 4096);
     let mut p = 1;
     for c in 0..m {
         let count = payload(source[p]) % 256;

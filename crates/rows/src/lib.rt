@@ -13,13 +13,23 @@ ghost use Rattle.parity.specs.Finite.{count};
 ghost use Rattle.parity.specs.Matrix.{lent, put};
 ghost use Rattle.parity.specs.Words.{inside, odd};
 ghost use Rattle.rows.specs.Rows.{NextOne};
-ghost use Rattle.rows.specs.Zeros.{Zeros, both};
+ghost use Rattle.rows.specs.Zeros.{Zeros, both, Zeroed};
 
 // A count of bits, as a number of a bit.
 pub fn wide(x: u32) -> usize
     ensures { λ r. ⌜ r ≡ x ⌝ }
 {
     x as usize
+}
+
+// The first `count` words become 0.
+pub fn clear(words: &mut [u64], count: usize)
+    requires { ⌜ count ≤ length (now words) ⌝ }
+    ensures { λ r. ⌜ Zeroed (now (words .exit)) count ⌝ }
+{
+    for i in 0..count {
+        words[i] = 0;
+    }
 }
 
 // How many words of a row the first `bits` bits take.

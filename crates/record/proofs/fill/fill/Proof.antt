@@ -21,7 +21,7 @@ loop-holds : tie.Need-loop-holds Inv-loop μ-loop
 loop-holds c =
     let s = c .before .before .before .before .before .before in
     let e = c .before .before .clear .kept .0 in
-    (omega arith, e ∙ s .pre .0, filling-none _ _ _ (s .pre .1) (rw e (c .before .before .clear .ensures)))
+    (omega arith, e ∙ s .pre .0, filling-none _ _ _ (s .pre .1) (rw (e, s .pre .0) (c .before .before .clear .ensures)))
 
 mul-payload : tie.Need-mul-payload Inv-loop μ-loop
 mul-payload c = let k = filling-more _ _ _ _ _ (c .before .loop .inv .2) (omega arith) in omega arith

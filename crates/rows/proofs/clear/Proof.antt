@@ -1,22 +1,22 @@
--- `fill::clear` meets its contract. Assumes nothing.
+-- `clear` meets its contract. Assumes nothing.
 use mathlib.Core.Path.{_≡_, refl, _∙_}
 use Prim.Native.Nat.{_-_, _≤_}
 use native.Mathlib.Omega.{arith}
-use borrow.Author.Needs.{needs}
 use lib.ListN.{length, length-set}
-use Rattle.record.specs.Fill.{Zeroed}
-use Rattle.record.proofs.Filling.{zeroed-next}
-use Rattle.record.proofs.fill.clear.Statement.{statement}
-use Rattle.record.proofs.fill.clear.Tie as tie
+use Rattle.rows.specs.Zeros.{Zeroed}
+use borrow.Author.Needs.{needs}
+use Rattle.rows.proofs.Zeros.{zeroed-next}
+use Rattle.rows.proofs.clear.Statement.{statement}
+use Rattle.rows.proofs.clear.Tie as tie
 
 abbrev Inv-loop : tie.InvT-loop
-Inv-loop words₀ i₀ i-end words i = (i ≤ i-end) × (i-end ≡ length words₀) × (length words ≡ length words₀) × Zeroed words i
+Inv-loop words₀ count i₀ words i = (i ≤ count) × (count ≤ length words₀) × (length words ≡ length words₀) × Zeroed words i
 
 abbrev μ-loop : tie.MeasureT-loop
-μ-loop words₀ i₀ i-end words i = i-end - i
+μ-loop words₀ count i₀ words i = count - i
 
 loop-holds : tie.Need-loop-holds Inv-loop μ-loop
-loop-holds c = (omega arith, refl, refl, record { none = λ j k. absurd (omega arith) })
+loop-holds c = (omega arith, c .pre, refl, record { none = λ j k. absurd (omega arith) })
 
 mul-words : tie.Need-mul-words Inv-loop μ-loop
 mul-words c = omega arith
@@ -41,7 +41,7 @@ same-length c = search needs
 returns : tie.Need-returns Inv-loop μ-loop
 returns c =
     let l = c .before .loop in
-    let e : l .i ≡ length (c .before .before .args .words .now) = omega arith in
+    let e : l .i ≡ c .before .before .args .count = omega arith in
     rw e at (l .inv .3)
 
 pub clear-spec : {M : Type 1} → statement M

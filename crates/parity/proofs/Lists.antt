@@ -2,4 +2,5 @@
 pub mod Built
 pub mod Chain
 pub mod Demand3
+pub mod Determined
 pub mod Theorems

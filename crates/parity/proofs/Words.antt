@@ -4,6 +4,8 @@ pub mod Extend
 pub mod Residue
 pub mod Peel
 pub mod Steps
+pub mod Agreeing
 pub mod Bytes
 pub mod Verifying
 pub mod Peeling
+pub mod Determining

@@ -9,6 +9,7 @@ use Rattle.parity.specs.Finite.{one, any, least, listFrom}
 use Rattle.parity.specs.Matrix.{lent, pack, ruleA, cause}
 use Rattle.parity.specs.Cycles.{share, cycles, splitOf, takenBack, others, Orthogonalised, orthogonal}
 use Rattle.parity.specs.Words.{isOne, codeword, extended, stopping, peels, peeled, losses}
+use Rattle.parity.specs.Determining.{someAgrees, determined}
 use Rattle.parity.specs.Record.{Loaded, faulty, loaded, loading, written}
 use Rattle.parity.specs.Encoding.{rankOf, encoded}
 use Rattle.parity.specs.House.{houseCode, known}
@@ -139,6 +140,17 @@ peelReply ws n m k w =
 
 unfoldable pub peelOutcome : List ℕ → ℕ → ℕ → ℕ → List ℕ → Outcome
 peelOutcome ws n m k w = leaving w (peelReply ws n m k w) (listFrom 0 (n + k) (peeled (lent 8 ws) (n + k) (m + k) (byteOf w)))
+
+-- determine: answers how many sent bits and how many added bits were recovered, peeled and eliminated ones together, and how many of each are left
+unfoldable pub determineReply : List ℕ → ℕ → ℕ → ℕ → List ℕ → Reply
+determineReply ws n m k w =
+    accepting ws n m k
+    (checkingBytes (n + k) 2 w
+    (refuse (not (someAgrees (lent 8 ws) (n + k) (m + k) (byteOf w))) (refusal 12 [])
+    (answer (losses n k (byteOf w) (determined (lent 8 ws) (n + k) (m + k) (byteOf w))))))
+
+unfoldable pub determineOutcome : List ℕ → ℕ → ℕ → ℕ → List ℕ → Outcome
+determineOutcome ws n m k w = leaving w (determineReply ws n m k w) (listFrom 0 (n + k) (determined (lent 8 ws) (n + k) (m + k) (byteOf w)))
 
 -- rank: answers the rank
 unfoldable pub rankReply : List ℕ → ℕ → ℕ → ℕ → Reply

@@ -2,6 +2,7 @@ pub mod Finite
 pub mod Matrix
 pub mod Cycles
 pub mod Words
+pub mod Determining
 pub mod Demand3
 pub mod Record
 pub mod Encoding

@@ -7,8 +7,8 @@ use Prim.Native.Nat.{ℕ, _+_, _-_, _≤_, _<_}
 use native.Mathlib.Nat.{add-zero, zero-add}
 use native.Mathlib.Omega.{arith}
 use native.Mathlib.Decide.{decLt}
-use lib.ListN.{length, take, replicate, length-append, length-replicate, getD-replicate, List·getD-append}
-use lib.Seq.{getD-take, getD-append-add, ext-getD, length-take-le}
+use lib.ListN.{length, take, replicate, length-replicate}
+use lib.Seq.{getD-take, ext-getD, length-take-le}
 use borrow.Author.Tests.{eq-eqb, eqb-true}
 use Rattle.parity.specs.Finite.{one, listFrom}
 use Rattle.parity.specs.Matrix.{Matrix, lent, cause}
@@ -23,7 +23,7 @@ use Rattle.parity.proofs.Splits.Split.{Even}
 use Rattle.parity.proofs.Matrix.Accept.{Accepted, accepts, other-k}
 use Rattle.parity.proofs.Words.Extend.{inside-cong, extend-base, extend-added}
 use Rattle.parity.proofs.Words.Residue.{residue-of, residue-at}
-use Rattle.parity.proofs.Words.Bytes.{Word, Codeword, take-word, take-even}
+use Rattle.parity.proofs.Words.Bytes.{Word, Codeword, take-word, take-even, longer-sent, longer-added, longer-size}
 use Rattle.parity.proofs.Splits.Splitting.{counts}
 use Rattle.parity.proofs.Words.Verifying.{verified, verifies, extends, completes}
 use Rattle.parity.proofs.Words.Peeling.{Answered, left-is, erased-answered, recovers}
@@ -45,22 +45,6 @@ module _ (n : ℕ) (x : List ℕ) (X : Word n 1 x) (e : ℕ → Bool) where
   erased-size : length (erasing e x) ≡ n
   unfolding erasing
   erased-size = length-listFrom 0 (length x) (λ b. cond (e b) 2 (byteOf x b)) ∙ X .size
-
-  -- with k bytes of 2 behind it
-  module _ (k : ℕ) where
-    abbrev longer : List ℕ
-    longer = erasing e x ++ replicate k 2
-
-    longer-sent : (b : ℕ) → b < n → byteOf longer b ≡ byteOf (erasing e x) b
-    longer-sent b l = List·getD-append (erasing e x) (replicate k 2) 0 b (omega (arith, erased-size))
-
-    longer-added : (b : ℕ) → n ≤ b → b < n + k → byteOf longer b ≡ 2
-    longer-added b l q =
-        let j : b ≡ length (erasing e x) + (b - n) = omega (arith, erased-size) in
-        rw j (getD-append-add (erasing e x) (replicate k 2) (b - n) 0 ∙ getD-replicate k (b - n) 2 0 (omega arith))
-
-    longer-size : length longer ≡ n + k
-    longer-size = length-append (erasing e x) (replicate k 2) ∙ rw (erased-size, length-replicate {A = ℕ} k 2)
 
 module _ (given : List ℕ) (n m : ℕ) (A₀ : Accepted given n m 0) (s : Stand) (S : Stands given n m s) where
   abbrev g : Matrix
@@ -138,8 +122,8 @@ module _ (given : List ℕ) (n m : ℕ) (A₀ : Accepted given n m 0) (s : Stand
       more-got : (b : ℕ) → b < N → (byteOf more b ≡ 2) ⊎ (byteOf more b ≡ byteOf y b)
       more-got b l =
           elim (decLt b n) [
-            | yes q ↦ rw (longer-sent n x (C .word) e k b q, y-sent b q) (before-got b q)
-            | no q ↦ inl (longer-added n x (C .word) e k b (omega arith) l)
+            | yes q ↦ rw (longer-sent n (erasing e x) (erased-size n x (C .word) e) k b q, y-sent b q) (before-got b q)
+            | no q ↦ inl (longer-added n (erasing e x) (erased-size n x (C .word) e) k b (omega arith) l)
           ]
 
       module _ (v : Verifies given n m 0 x) where
@@ -147,13 +131,13 @@ module _ (given : List ℕ) (n m : ℕ) (A₀ : Accepted given n m 0) (s : Stand
         by-given = erased-answered given n m 0 x v before (rw (add-zero n) (erased-size n x (C .word) e)) (λ b l. before-got b (omega arith))
 
         by-extended : Answered (s .words) n m k more
-        by-extended = erased-answered (s .words) n m k y y-verified more (longer-size n x (C .word) e k) more-got
+        by-extended = erased-answered (s .words) n m k y y-verified more (longer-size n (erasing e x) (erased-size n x (C .word) e) k) more-got
 
         sent-left : (b : ℕ) → b < n → residue h N M (erased (byteOf more)) b ≡ true → residue g n m (erased (byteOf before)) b ≡ true
         sent-left b l q =
             let (t, st, wi, p) = residue-at h N M (erased (byteOf more)) b q in
             residue-of g n m (erased (byteOf before)) t (G .stops t st)
-            (λ b l p. rw (longer-sent n x (C .word) e k b l) at (wi b (omega arith) p)) b l p
+            (λ b l p. rw (longer-sent n (erasing e x) (erased-size n x (C .word) e) k b l) at (wi b (omega arith) p)) b l p
 
         no-less : (b : ℕ) → b < n → Left (peelOutcome (s .words) n m k more .after) b → Left (peelOutcome given n m 0 before .after) b
         no-less b l q =
@@ -168,7 +152,7 @@ module _ (given : List ℕ) (n m : ℕ) (A₀ : Accepted given n m 0) (s : Stand
           given-right = λ b l r.
               recovers given n m 0 x v before (rw (add-zero n) (erased-size n x (C .word) e)) (λ b l. before-got b (omega arith)) b (omega arith) (r .1)
               ∙ sym (y-sent b l);
-          extended-right = λ b l r. recovers (s .words) n m k y y-verified more (longer-size n x (C .word) e k) more-got b l (r .1);
+          extended-right = λ b l r. recovers (s .words) n m k y y-verified more (longer-size n (erasing e x) (erased-size n x (C .word) e) k) more-got b l (r .1);
         }
 
     begin : (v : Verifies given n m 0 x) (held : List ℕ) → length held ≡ N → BeginsOne given n m (s .words) k x (extendOutcome (s .words) n m k x held)

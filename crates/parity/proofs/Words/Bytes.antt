@@ -3,12 +3,12 @@
 use mathlib.Core.Path.{_≡_, sym, _∙_}
 use mathlib.Core.Logic.{_↔_}
 use mathlib.Core.Bool.{false, true≢false}
-use mathlib.Core.List.{List}
-use Prim.Native.Nat.{ℕ, _≤_, _<_}
+use mathlib.Core.List.{List, _++_}
+use Prim.Native.Nat.{ℕ, _+_, _-_, _≤_, _<_}
 use native.Mathlib.Omega.{arith}
 use lib.Dec.{eqb, ltb}
-use lib.ListN.{length, take}
-use lib.Seq.{getD-take, length-take-le}
+use lib.ListN.{length, take, replicate, length-append, length-replicate, getD-replicate, List·getD-append}
+use lib.Seq.{getD-take, getD-append-add, length-take-le}
 use borrow.Author.Tests.{eqb-true, ltb-true, ltb-false}
 use Rattle.parity.specs.Finite.{any}
 use Rattle.parity.specs.Matrix.{Matrix}
@@ -76,3 +76,16 @@ module _ (N L top : ℕ) (w : List ℕ) (W : Word L top w) (l : N ≤ L) where
 
   pub take-stops : (h : Matrix) (M : ℕ) → Stops h N M (isOne (byteOf w)) → Stops h N M (isOne (byteOf (take N w)))
   take-stops h M t c k e = t c k (sym (take-inside h c) ∙ e)
+
+-- a word of n bytes with k bytes of 2 behind it
+module _ (n : ℕ) (w : List ℕ) (size : length w ≡ n) (k : ℕ) where
+  pub longer-sent : (b : ℕ) → b < n → byteOf (w ++ replicate k 2) b ≡ byteOf w b
+  longer-sent b l = List·getD-append w (replicate k 2) 0 b (omega arith)
+
+  pub longer-added : (b : ℕ) → n ≤ b → b < n + k → byteOf (w ++ replicate k 2) b ≡ 2
+  longer-added b l q =
+      let j : b ≡ length w + (b - n) = omega arith in
+      rw j (getD-append-add w (replicate k 2) (b - n) 0 ∙ getD-replicate k (b - n) 2 0 (omega arith))
+
+  pub longer-size : length (w ++ replicate k 2) ≡ n + k
+  longer-size = length-append w (replicate k 2) ∙ rw (size, length-replicate {A = ℕ} k 2)

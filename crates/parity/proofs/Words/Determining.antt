@@ -1,0 +1,337 @@
+-- What determining promises of the lists that it is lent and leaves (M-105). Assumes nothing.
+use mathlib.Core.Path.{_≡_, refl, sym, ap, _∙_}
+use mathlib.Core.Logic.{_↔_}
+use mathlib.Core.Bool.{Bool, true, false, not, cond, _&&_, and-not-self}
+use mathlib.Core.List.{List, [], _∷_}
+use Prim.Native.Nat.{ℕ, _+_, _≤_, _<_}
+use native.Mathlib.Nat.{zero-add}
+use native.Mathlib.Omega.{arith}
+use native.Mathlib.Decide.{ℕ-discrete}
+use lib.Dec.{eqb}
+use lib.ListN.{length, getD}
+use lib.Seq.{ext-getD}
+use borrow.Author.Tests.{eq-eqb, ne-eqb, eqb-true, eqb-false}
+use Rattle.parity.specs.Finite.{one, count, listFrom}
+use Rattle.parity.specs.Matrix.{Matrix, lent, inRange, clean, ruleA, cause}
+use Rattle.parity.specs.Words.{erased, isOne, peeled, recovered, losses}
+use Rattle.parity.specs.Determining.{someAgrees, determined}
+use Rattle.parity.specs.Causes.{Reply, answer, refusal, accepting, Outcome}
+use Rattle.parity.specs.Calls.{byteOf, wrongByte, checkingBytes, verifyReply, peelReply, peelOutcome, determineReply, determineOutcome}
+use Rattle.parity.specs.Demand3.{Verifies, erasing, Left}
+use Rattle.parity.specs.Promises.{Agreeing, Determines, WritesOneValue, RefusedIfNone, PeeledIsDetermined, RefusedWithPeeling, ErasedCodeword, DeterminedTwice, NothingErased}
+use Rattle.parity.proofs.Finite.Sums.{is-true, is-false, is, one≤1, sum-zero, byte-one, eqb-one}
+use Rattle.parity.proofs.Matrix.Packing.{length-listFrom, at-listFrom}
+use Rattle.parity.proofs.Matrix.Accept.{Accepted, accepts, accepting-answers, accepting-refuses, passes}
+use Rattle.parity.proofs.Causes.Admit.{accepted-number}
+use Rattle.parity.proofs.Words.Extend.{inside-cong}
+use Rattle.parity.proofs.Words.Agreeing.{Agree, some-of, some-at, none-of, open-at, written-value, known-value, determined-byte, agrees-peels, peeled-determined, some-same, determined-same}
+use Rattle.parity.proofs.Words.Bytes.{Word, right-bytes, read-word, word-right}
+use Rattle.parity.proofs.Words.Verifying.{verifies, verified}
+
+-- the matrix and the word of a call that is not refused before 12
+pub record Taken (ws : List ℕ) (n m k : ℕ) (w : List ℕ) : Type 0 where
+  pub accepted : Accepted ws n m k
+  pub word : Word (n + k) 2 w
+
+module _ (ws : List ℕ) (n m k : ℕ) (w : List ℕ) where
+  abbrev h : Matrix
+  h = lent 8 ws
+
+  abbrev N : ℕ
+  N = n + k
+
+  abbrev M : ℕ
+  M = m + k
+
+  abbrev o : Outcome
+  o = determineOutcome ws n m k w
+
+  pub verify-taken : verifyReply ws n m k w .number ≡ 0 → Taken ws n m k w
+  unfolding verifyReply
+  verify-taken e =
+      let A = accepted-number ws n m k _ e in
+      record { accepted = A; word = read-word N 2 w _ (sym (ap (λ r. r .number) (passes ws n m k A _)) ∙ e) .0 }
+
+  -- a codeword that agrees, as a list and as a set
+  pub agreeing-at : Accepted ws n m k → (x : List ℕ) → Agreeing ws n m k w x → Agree h N M (byteOf w) (isOne (byteOf x))
+  agreeing-at A x a = record {
+    even = verifies ws n m k A x (a .codeword) .even;
+    known = λ b l q. ap (λ (v : ℕ). eqb v 1) (a .known b l (eqb-false (byteOf w b) 2 q));
+  }
+
+  pub agreeing-bytes : Accepted ws n m k → (x : List ℕ) → Agreeing ws n m k w x → (b : ℕ) → b < N → one (isOne (byteOf x) b) ≡ byteOf x b
+  agreeing-bytes A x a b l = byte-one (byteOf x b) (verifies ws n m k A x (a .codeword) .word .bytes b l)
+
+  pub listed : (ℕ → Bool) → List ℕ
+  listed y = listFrom 0 N (λ b. one (y b))
+
+  pub listed-at : (y : ℕ → Bool) (b : ℕ) → b < N → byteOf (listed y) b ≡ one (y b)
+  unfolding listed
+  listed-at y b l = at-listFrom 0 N (λ b. one (y b)) b l ∙ ap (λ (a : ℕ). one (y a)) (zero-add b)
+
+  -- the value of a byte that is not erased
+  pub byte-value : Word N 2 w → (b : ℕ) → b < N → (byteOf w b ≡ 2 → ⊥) → one (isOne (byteOf w) b) ≡ byteOf w b
+  byte-value W b l d = byte-one (byteOf w b) (below-two (byteOf w b) (W .bytes b l) d)
+    where
+      below-two : (a : ℕ) → a ≤ 2 → (a ≡ 2 → ⊥) → a ≤ 1
+      below-two a i j = omega arith
+
+  pub agreeing-of : Taken ws n m k w → (y : ℕ → Bool) → Agree h N M (byteOf w) y → Agreeing ws n m k w (listed y)
+  agreeing-of T y a = record {
+    codeword = verified ws n m k (T .accepted) (listed y) record {
+      word = record { size = unfold listed in length-listFrom 0 N (λ b. one (y b)); bytes = λ b l. rw (listed-at y b l) (one≤1 (y b)) };
+      even = λ c l. rw (inside-cong h N c {w = isOne (byteOf (listed y))} {x = y} (λ b q. rw (listed-at y b q) (eqb-one (y b)))) (a .even c l);
+    };
+    known = λ b l d. listed-at y b l ∙ ap one (a .known b l (ne-eqb (byteOf w b) 2 d)) ∙ byte-value (T .word) b l d;
+  }
+
+  -- A codeword that agrees with a word of n + k bytes: no cause before 12 refuses.
+  pub agreeing-taken : length w ≡ N → (x : List ℕ) → Agreeing ws n m k w x → Taken ws n m k w
+  unfolding verifyReply
+  agreeing-taken size x a =
+      let A = accepted-number ws n m k _ (ap (λ (r : Reply). r .number) (a .codeword)) in
+      record {
+        accepted = A;
+        word = record {
+          size = size;
+          bytes = λ b l. elim (ℕ-discrete (byteOf w b) 2) [
+            | yes q ↦ omega arith
+            | no d ↦ rw (← a .known b l d) (omega (arith, verifies ws n m k A x (a .codeword) .word .bytes b l))
+          ];
+        };
+      }
+
+  module _ (T : Taken ws n m k w) where
+    pub determine-made : someAgrees h N M (byteOf w) ≡ true
+        → o ≡ record { reply = answer (losses n k (byteOf w) (determined h N M (byteOf w))); after = listFrom 0 N (determined h N M (byteOf w)) }
+    unfolding determineOutcome determineReply
+    determine-made e = rw (passes ws n m k (T .accepted), eq-eqb (length w) N (T .word .size), word-right N 2 w (T .word), e)
+
+    pub determine-refused : someAgrees h N M (byteOf w) ≡ false → o ≡ record { reply = refusal 12 []; after = w }
+    unfolding determineOutcome determineReply
+    determine-refused e = rw (passes ws n m k (T .accepted), eq-eqb (length w) N (T .word .size), word-right N 2 w (T .word), e)
+
+  -- a call that is not refused
+  pub answered : o .reply .number ≡ 0 → Taken ws n m k w × (someAgrees h N M (byteOf w) ≡ true)
+  unfolding determineOutcome determineReply
+  answered e =
+      let A = accepted-number ws n m k _ e in
+      let (W, f) = read-word N 2 w _ (sym (ap (λ r. r .number) (passes ws n m k A _)) ∙ e) in
+      let T : Taken ws n m k w = record { accepted = A; word = W } in
+      elim (is (someAgrees h N M (byteOf w))) [
+        | is-true p ↦ (T, p)
+        | is-false p ↦ absurd (omega (arith, rw (passes ws n m k A _, f, p) at e))
+      ]
+
+  -- Some codeword agrees: what is written.
+  module _ (T : Taken ws n m k w) (s : someAgrees h N M (byteOf w) ≡ true) where
+    after-is : o .after ≡ listFrom 0 N (determined h N M (byteOf w))
+    after-is = ap (λ (o : Outcome). o .after) (determine-made T s)
+
+    pub after-size : length (o .after) ≡ N
+    after-size = ap length after-is ∙ length-listFrom 0 N (determined h N M (byteOf w))
+
+    pub after-at : (b : ℕ) → b < N → byteOf (o .after) b ≡ determined h N M (byteOf w) b
+    after-at b l =
+        ap (λ (v : List ℕ). byteOf v b) after-is ∙ at-listFrom 0 N (determined h N M (byteOf w)) b l ∙ ap (determined h N M (byteOf w)) (zero-add b)
+
+    value : (b : ℕ) → b < N → (Left (o .after) b → ⊥) → (x : List ℕ) → Agreeing ws n m k w x → byteOf (o .after) b ≡ byteOf x b
+    value b l d x a =
+        after-at b l ∙ written-value h N M (byteOf w) b l (isOne (byteOf x)) (agreeing-at (T .accepted) x a) (λ q. d (after-at b l ∙ q))
+        ∙ agreeing-bytes (T .accepted) x a b l
+
+    differ : (b : ℕ) → b < N → Left (o .after) b
+        → (x : List ℕ) × (y : List ℕ) × Agreeing ws n m k w x × Agreeing ws n m k w y × (byteOf x b ≡ byteOf y b → ⊥)
+    differ b l q =
+        let (y, z, a, d, p, r) = open-at h N M (byteOf w) b (sym (after-at b l) ∙ q) in
+        (listed y, listed z, agreeing-of T y a, agreeing-of T z d, λ e. apart (y b) (z b) p r (sym (listed-at y b l) ∙ e ∙ listed-at z b l))
+      where
+        apart : (u v : Bool) → u ≡ true → not v ≡ true → one u ≡ one v → ⊥
+        apart true false p r e = omega arith
+        apart true true p r e = omega (arith, ap one r)
+        apart false v p r e = omega (arith, ap one p)
+
+    pub determines : Determines ws n m k w o
+    determines = record {
+      exactly = λ b l. (
+        λ d x y a e. sym (value b l d x a) ∙ value b l d y e,
+        λ f q. let (x, y, a, e, d) = differ b l q in d (f x y a e),
+      );
+      value = value;
+      differ = differ;
+    }
+
+    pub kept : (b : ℕ) → b < N → (byteOf w b ≡ 2 → ⊥) → byteOf (o .after) b ≡ byteOf w b
+    kept b l d = after-at b l ∙ known-value h N M (byteOf w) s b l (ne-eqb (byteOf w b) 2 d) ∙ byte-value (T .word) b l d
+
+    after-taken : Taken ws n m k (o .after)
+    after-taken = record {
+      accepted = T .accepted;
+      word = record { size = after-size; bytes = λ b l. rw (after-at b l) (determined-byte h N M (byteOf w) b) };
+    }
+
+    -- the same codewords agree with what is written
+    after-agrees : (y : ℕ → Bool) → Agree h N M (byteOf (o .after)) y ↔ Agree h N M (byteOf w) y
+    after-agrees y = (
+      λ a. record {
+        even = a .even;
+        known = λ b l q.
+            let e = kept b l (eqb-false (byteOf w b) 2 q) in
+            a .known b l (ap (λ (v : ℕ). eqb v 2) e ∙ q) ∙ ap (λ (v : ℕ). eqb v 1) e;
+      },
+      λ a. record {
+        even = a .even;
+        known = λ b l q.
+            sym (ap (λ (v : ℕ). eqb v 1) (after-at b l ∙ written-value h N M (byteOf w) b l y a (λ z. eqb-false (byteOf (o .after) b) 2 q (after-at b l ∙ z)))
+            ∙ eqb-one (y b));
+      },
+    )
+
+    again : determineOutcome ws n m k (o .after)
+        ≡ record { reply = answer (0 ∷ 0 ∷ count n (erased (determined h N M (byteOf w))) ∷ count k (λ j. erased (determined h N M (byteOf w)) (n + j)) ∷ []); after = o .after }
+    unfolding determineOutcome determineReply losses recovered
+    again =
+        let z : someAgrees h N M (byteOf (o .after)) ≡ true = some-same h h N M M (byteOf (o .after)) (byteOf w) after-agrees ∙ s in
+        let d : determined h N M (byteOf (o .after)) ≡ determined h N M (byteOf w) = determined-same h h N M M (byteOf (o .after)) (byteOf w) after-agrees in
+        let p = nothing n (λ b. b) (λ b l. after-at b (omega arith)) in
+        let q = nothing k (λ j. n + j) (λ j l. after-at (n + j) (omega arith)) in
+        rw (passes ws n m k (T .accepted), eq-eqb (length (o .after)) N after-size, word-right N 2 (o .after) (after-taken .word), z, d, p, q, after-is)
+      where
+        nothing : (i : ℕ) (at : ℕ → ℕ) → ((b : ℕ) → b < i → byteOf (o .after) (at b) ≡ determined h N M (byteOf w) (at b))
+            → count i (λ b. erased (byteOf (o .after)) (at b) && not (erased (determined h N M (byteOf w)) (at b))) ≡ 0
+        nothing i at f = unfold count in sum-zero i (λ b l. rw (f b l, and-not-self (erased (determined h N M (byteOf w)) (at b))))
+
+-- causes 1 to 4
+cause-low : (ws : List ℕ) (n m k : ℕ) → cause ws n m k ≤ 4
+unfolding cause
+cause-low ws n m k = low (eqb (length ws) 4096) (inRange n m k) (clean 8 (n + k) (m + k) 0 ws) (ruleA (lent 8 ws) n m k)
+  where
+    low : (a b c d : Bool) → cond (not a) 1 (cond (not b) 2 (cond (not c) 3 (cond (not d) 4 0))) ≤ 4
+    low true true true true = omega arith
+    low true true true false = omega arith
+    low true true false d = omega arith
+    low true false c d = omega arith
+    low false b c d = omega arith
+
+-- a refusal 12 comes behind them, and behind causes 10 and 11
+taken-twelve : (ws : List ℕ) (n m k : ℕ) (w : List ℕ) (after : Reply) → accepting ws n m k (checkingBytes (n + k) 2 w after) ≡ refusal 12 [] → Taken ws n m k w
+taken-twelve ws n m k w after e =
+    elim (ℕ-discrete (cause ws n m k) 0) [
+      | no d ↦ absurd (omega (arith, cause-low ws n m k, ap (λ (r : Reply). r .number) (sym (accepting-refuses ws n m k (checkingBytes (n + k) 2 w after) d) ∙ e)))
+      | yes q ↦
+          let f = sym (accepting-answers ws n m k (checkingBytes (n + k) 2 w after) q) ∙ e in
+          elim (is (eqb (length w) (n + k))) [
+            | is-false p ↦ absurd (omega (arith, ap (λ (r : Reply). r .number) (rw p at f)))
+            | is-true p ↦ elim (is (wrongByte 2 w)) [
+              | is-true r ↦ absurd (omega (arith, ap (λ (r : Reply). r .number) (rw (p, r) at f)))
+              | is-false r ↦ record {
+                accepted = accepts ws n m k .0 q;
+                word = record { size = eqb-true (length w) (n + k) p; bytes = λ b l. right-bytes 2 w .0 r b (omega (arith, eqb-true (length w) (n + k) p)) };
+              }
+            ]
+          ]
+    ]
+
+-- peeling, of the same word
+module _ (ws : List ℕ) (n m k : ℕ) (w : List ℕ) where
+  -- where some codeword agrees, it answers,
+  peel-answers : Taken ws n m k w → someAgrees (lent 8 ws) (n + k) (m + k) (byteOf w) ≡ true → peelOutcome ws n m k w ≡ record {
+    reply = answer (losses n k (byteOf w) (peeled (lent 8 ws) (n + k) (m + k) (byteOf w)));
+    after = listFrom 0 (n + k) (peeled (lent 8 ws) (n + k) (m + k) (byteOf w));
+  }
+  unfolding peelOutcome peelReply
+  peel-answers T s =
+      rw (passes ws n m k (T .accepted), eq-eqb (length w) (n + k) (T .word .size), word-right (n + k) 2 w (T .word), agrees-peels (lent 8 ws) (n + k) (m + k) (byteOf w) s)
+
+  peel-after : Taken ws n m k w → someAgrees (lent 8 ws) (n + k) (m + k) (byteOf w) ≡ true
+      → (b : ℕ) → b < n + k → byteOf (peelOutcome ws n m k w .after) b ≡ peeled (lent 8 ws) (n + k) (m + k) (byteOf w) b
+  peel-after T s b l =
+      ap (λ (o : Outcome). byteOf (o .after) b) (peel-answers T s) ∙ at-listFrom 0 (n + k) (peeled (lent 8 ws) (n + k) (m + k) (byteOf w)) b l
+      ∙ ap (peeled (lent 8 ws) (n + k) (m + k) (byteOf w)) (zero-add b)
+
+  -- and a refusal 12 comes behind the causes before it
+  peel-taken : peelOutcome ws n m k w .reply ≡ refusal 12 [] → Taken ws n m k w
+  unfolding peelOutcome peelReply
+  peel-taken e = taken-twelve ws n m k w _ e
+
+pub writes-one-value : WritesOneValue
+writes-one-value ws n m k w e = let (T, s) = answered ws n m k w e in determines ws n m k w T s
+
+pub refused-if-none : RefusedIfNone
+refused-if-none ws n m k w e =
+    let T = verify-taken ws n m k w e in (
+      λ q x a. absurd (omega (
+        arith,
+        ap (λ (r : Reply). r .number) (sym (ap (λ (o : Outcome). o .reply) (determine-made ws n m k w T
+            (some-of (lent 8 ws) (n + k) (m + k) (byteOf w) _ (agreeing-at ws n m k w (T .accepted) x a)))) ∙ q),
+      )),
+      λ f. ap (λ (o : Outcome). o .reply) (determine-refused ws n m k w T
+          (none-of (lent 8 ws) (n + k) (m + k) (byteOf w) (λ y a. f (listed ws n m k w y) (agreeing-of ws n m k w T y a)))),
+    )
+
+pub peeled-is-determined : PeeledIsDetermined
+peeled-is-determined ws n m k w x size a b l r =
+    let T = agreeing-taken ws n m k w size x a in
+    let s = some-of (lent 8 ws) (n + k) (m + k) (byteOf w) _ (agreeing-at ws n m k w (T .accepted) x a) in
+    let p = peel-after ws n m k w T s b l in
+    let e = after-at ws n m k w T s b l ∙ peeled-determined (lent 8 ws) (n + k) (m + k) (byteOf w) s b l (λ q. r .1 (p ∙ q)) ∙ sym p in
+    ((r .0, λ q. r .1 (sym e ∙ q)), e)
+
+-- peeling that is refused 12
+pub refused-with-peeling : RefusedWithPeeling
+refused-with-peeling ws n m k w e =
+    let T = peel-taken ws n m k w e in
+    elim (is (someAgrees (lent 8 ws) (n + k) (m + k) (byteOf w))) [
+      | is-false q ↦ ap (λ (o : Outcome). o .reply) (determine-refused ws n m k w T q)
+      | is-true q ↦ absurd (omega (arith, ap (λ (r : Reply). r .number) (sym e ∙ ap (λ (o : Outcome). o .reply) (peel-answers ws n m k w T q))))
+    ]
+
+pub erased-codeword : ErasedCodeword
+unfolding erasing verifyReply
+erased-codeword ws n m k x v e =
+    let A = accepted-number ws n m k _ (ap (λ (r : Reply). r .number) v) in
+    let C = verifies ws n m k A x v in
+    let w = erasing e x in
+    let at : (b : ℕ) → b < n + k → byteOf w b ≡ cond (e b) 2 (byteOf x b) = λ b l. at-listFrom 0 (length x) (λ b. cond (e b) 2 (byteOf x b)) b (omega (arith, C .word .size)) ∙ rw (zero-add b) in
+    let a : Agreeing ws n m k w x = record {
+      codeword = v;
+      known = λ b l d. elim (is (e b)) [
+        | is-true q ↦ absurd (d (at b l ∙ rw q))
+        | is-false q ↦ sym (at b l ∙ rw q)
+      ];
+    } in
+    let T = agreeing-taken ws n m k w (length-listFrom 0 (length x) (λ b. cond (e b) 2 (byteOf x b)) ∙ C .word .size) x a in
+    let s = some-of (lent 8 ws) (n + k) (m + k) (byteOf w) _ (agreeing-at ws n m k w A x a) in
+    (ap (λ (o : Outcome). o .reply .number) (determine-made ws n m k w T s), λ b l d. determines ws n m k w T s .value b l d x a)
+
+-- what is left, in the four numbers
+losses-left : (n k : ℕ) (before after : ℕ → ℕ) (rs ra ls la : ℕ) → answer (losses n k before after) ≡ answer (rs ∷ ra ∷ ls ∷ la ∷ [])
+    → (count n (erased after) ≡ ls) × (count k (λ j. erased after (n + j)) ≡ la)
+unfolding losses
+losses-left n k before after rs ra ls la e = (ap (λ (r : Reply). getD (r .values) 2 0) e, ap (λ (r : Reply). getD (r .values) 3 0) e)
+
+pub determined-twice : DeterminedTwice
+determined-twice ws n m k w rs ra ls la e =
+    let (T, s) = answered ws n m k w (ap (λ (r : Reply). r .number) e) in
+    let (p, q) = losses-left n k (byteOf w) (determined (lent 8 ws) (n + k) (m + k) (byteOf w)) rs ra ls la
+    (sym (ap (λ (o : Outcome). o .reply) (determine-made ws n m k w T s)) ∙ e) in
+    again ws n m k w T s ∙ rw (p, q)
+
+pub nothing-erased : NothingErased
+nothing-erased ws n m k w none = (
+  λ e.
+      let (T, s) = answered ws n m k w e in
+      let (y, a) = some-at (lent 8 ws) (n + k) (m + k) (byteOf w) s in
+      let g = agreeing-of ws n m k w T y a in
+      let x = listed ws n m k w y in
+      let C = verifies ws n m k (T .accepted) x (g .codeword) in
+      rw (ext-getD 0 w x (T .word .size ∙ sym (C .word .size)) (λ b l. sym (g .known b (omega (arith, T .word .size)) (none b (omega (arith, T .word .size)))))) (g .codeword),
+  λ v.
+      let A = verifying v in
+      let g : Agreeing ws n m k w w = record { codeword = v; known = λ b l d. refl } in
+      let T = agreeing-taken ws n m k w (verifies ws n m k A w v .word .size) w g in
+      ap (λ (o : Outcome). o .reply .number) (determine-made ws n m k w T (some-of (lent 8 ws) (n + k) (m + k) (byteOf w) _ (agreeing-at ws n m k w A w g))),
+)
+  where
+    verifying : Verifies ws n m k w → Accepted ws n m k
+    verifying v = unfold verifyReply in accepted-number ws n m k _ (ap (λ (r : Reply). r .number) v)

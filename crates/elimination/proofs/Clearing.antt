@@ -1,17 +1,21 @@
 -- Adding a check to others keeps the codewords; and how bit b becomes the pivot of check r. Assumes nothing.
-use mathlib.Core.Path.{_≡_, refl, sym, _∙_, fun-ext}
+use mathlib.Core.Path.{_≡_, refl, sym, ap, _∙_, fun-ext}
 use mathlib.Core.Logic.{_↔_}
 use mathlib.Core.Bool.{Bool, true, false, _&&_, xor, and-false}
 use Prim.Native.Nat.{ℕ, _+_, _*_, _%_, _≤_, _<_}
 use native.Mathlib.Omega.{arith}
 use native.Mathlib.Decide.{ℕ-discrete, decLt}
+use lib.Dec.{eqb}
 use borrow.Author.Tests.{lt-ltb, le-ltb, le-leb, lt-leb}
 use Rattle.parity.specs.Finite.{one, count}
 use Rattle.parity.specs.Matrix.{Matrix}
 use Rattle.parity.specs.Words.{inside, evenChecks}
 use Rattle.parity.proofs.Finite.Bools.{same-test}
 use Rattle.parity.proofs.Finite.Sums.{sum-add, sum-cong, count-cong}
+use Rattle.parity.proofs.Finite.Firsts.{all-cong}
 use Rattle.parity.proofs.Splits.Split.{Even, evens}
+use Rattle.parity.proofs.Words.Residue.{below}
+use Rattle.parity.proofs.Words.Sets.{inside-below}
 use Rattle.elimination.specs.Reduction.{plus, when, cleared, Same, Pivoted}
 use Rattle.elimination.proofs.Adding.{plus-at, plus-else}
 
@@ -35,6 +39,13 @@ same-at h g n m s x = (λ t. evens g n m x .0 (sym (s x) ∙ evens h n m x .1 t)
 
 pub same-trans : (f g h : Matrix) (n m : ℕ) → Same f g n m → Same g h n m → Same f h n m
 same-trans f g h n m s t x = s x ∙ t x
+
+-- in fewer bits
+pub same-below : (h g : Matrix) (n b m : ℕ) → b ≤ n → Same h g n m → Same h g b m
+same-below h g n b m l s x = sym (even-below h) ∙ s (below b x) ∙ even-below g
+  where
+    even-below : (f : Matrix) → evenChecks f n m (below b x) ≡ evenChecks f b m x
+    even-below f = unfold evenChecks in all-cong m (λ c k. ap (λ a. eqb (a % 2) 0) (inside-below f n b c (below b x) x l (λ j. refl)))
 
 -- the ones of two rows and of their sum
 both : (n : ℕ) (p q x : ℕ → Bool)

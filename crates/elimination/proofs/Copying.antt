@@ -11,7 +11,7 @@ use lib.ListN.{getD, length, set, replicate, length-set, length-replicate}
 use lib.Seq.{getD-set-same, getD-set-other}
 use Rattle.parity.specs.Matrix.{lent}
 use Rattle.parity.proofs.Matrix.Lent.{lent-in, lent-out, lent-empty}
-use Rattle.elimination.specs.Rows.{RowOf, SameRows}
+use Rattle.elimination.specs.Rows.{RowOf, CheckAt, SameRows}
 use Rattle.elimination.proofs.Adding.{word-in}
 
 -- The first i words from place `base` on are f 0, f 1, ..; the words before them are as they were.
@@ -51,19 +51,23 @@ row-written W ws u c A = record {
     ]
 
 -- check c is copied
-pub check-written : (U W : ℕ) (ws w u : List ℕ) (c : ℕ) → Writing w u (c * W) (λ a. getD ws (c * U + a) 0) W → SameRows U W ws w u c (c + 1)
-check-written U W ws w u c A = record {
-  copied = λ d i k l m. let e : d ≡ c = omega arith in rw e (A .done i m);
-  kept = A .kept;
-}
+pub check-written : (U W : ℕ) (ws w u : List ℕ) (c d : ℕ) → Writing w u (d * W) (λ a. getD ws (c * U + a) 0) W → CheckAt U W ws w u c d
+check-written U W ws w u c d A = record { copied = λ i m. A .done i m; kept = A .kept }
+
+-- and its row has its bits, and those before it theirs
+pub check-lent : (U W : ℕ) → W ≤ U → (ws w u : List ℕ) (c d : ℕ) → CheckAt U W ws w u c d → (b : ℕ) → b < W * 64 → lent W u d b ≡ lent U ws c b
+check-lent U W k ws w u c d A b i = rw (lent-in W u d b i, lent-in U ws c b (omega arith), A .copied (b / 64) (word-in W b i))
+
+pub check-kept : (U W : ℕ) (ws w u : List ℕ) (c d : ℕ) → CheckAt U W ws w u c d → (r b : ℕ) → r < d → b < W * 64 → lent W u r b ≡ lent W w r b
+check-kept U W ws w u c d A r b l i = rw (lent-in W u r b i, lent-in W w r b i, A .kept (r * W + b / 64) (digits-lt l (word-in W b i)))
 
 pub rows-none : (U W : ℕ) (ws w : List ℕ) → SameRows U W ws w w 0 0
 rows-none U W ws w = record { copied = λ c i k l. absurd (omega arith); kept = λ a k. refl }
 
-pub rows-more : (U W : ℕ) (ws w u v : List ℕ) (c : ℕ) → SameRows U W ws w u 0 c → SameRows U W ws u v c (c + 1) → SameRows U W ws w v 0 (c + 1)
+pub rows-more : (U W : ℕ) (ws w u v : List ℕ) (c : ℕ) → SameRows U W ws w u 0 c → CheckAt U W ws u v c c → SameRows U W ws w v 0 (c + 1)
 rows-more U W ws w u v c A B = record {
   copied = λ d i k l m. elim (ℕ-discrete d c) [
-    | yes s ↦ rw s (B .copied c i (omega arith) (omega arith) m)
+    | yes s ↦ rw s (B .copied i m)
     | no s ↦ let d<c : d < c = omega arith in B .kept (d * W + i) (digits-lt d<c m) ∙ A .copied d i k d<c m
   ];
   kept = λ a k. absurd (omega (arith, zero-mul W));

@@ -1,15 +1,15 @@
 -- The turn of the elimination at bit b: what it makes of the reduced matrix. Assumes nothing.
 use mathlib.Core.Path.{_≡_, refl, sym, _∙_}
-use mathlib.Core.Bool.{Bool, true, false}
+use mathlib.Core.Bool.{Bool, true, false, true≢false}
 use mathlib.Core.List.{List}
 use Prim.Native.Nat.{ℕ, _+_, _≤_, _<_}
 use native.Mathlib.Omega.{arith}
-use native.Mathlib.Decide.{ℕ-discrete}
-use lib.ListN.{length, set}
+use native.Mathlib.Decide.{ℕ-discrete, decLt}
+use lib.ListN.{getD, length, set}
 use lib.Seq.{getD-set-same, getD-set-other}
 use Rattle.parity.specs.Matrix.{Matrix}
-use Rattle.elimination.specs.Reduction.{Pivoted, Reduced, Reduction}
-use Rattle.elimination.proofs.Clearing.{same-trans}
+use Rattle.elimination.specs.Reduction.{Pivoted, Reduced, Reduction, Turned}
+use Rattle.elimination.proofs.Clearing.{same-trans, same-below}
 
 -- The turn at bit b. `to` has the pivots with b put at r.
 module _ (g : Matrix) (m : ℕ) (e : ℕ → Bool) (b r : ℕ) (at : ℕ → ℕ) (R : Reduced g m e b r at) where
@@ -69,15 +69,66 @@ turn-start g m e at = record {
   rest = λ c j k l i. absurd (omega arith);
 }
 
-module _ (h g : Matrix) (n m : ℕ) (e : ℕ → Bool) (b r : ℕ) (at : List ℕ) (R : Reduction h g n m e b r at) where
-  pub reduction-none : ((c : ℕ) → r ≤ c → c < m → e b ≡ true → g c b ≡ false) → Reduction h g n m e (b + 1) r at
-  reduction-none f = record { same = R .same; form = turn-none g m e b r _ (R .form) f }
+module _ (g : Matrix) (m b r : ℕ) (at : List ℕ) where
+  -- no check from r on contains bit b
+  pub turned-none : ((c : ℕ) → r ≤ c → c < m → g c b ≡ false) → Turned g g m b r at r at
+  turned-none f = record { turned = λ h n e t R. record { same = R .same; form = turn-none g m e b r _ (R .form) (λ c k l q. f c k l) } }
 
-  pub reduction-pivot : (k : Matrix) (p : ℕ) → e b ≡ true → r ≤ p → p < m → r < length at → Pivoted g k m p r b → Reduction h k n m e (b + 1) (r + 1) (set at r b)
-  reduction-pivot k p t rp pm fit P = record {
-    same = same-trans h g k n m (R .same) (P .same n);
-    form = turn-pivot g m e b r _ (R .form) k p _ t rp pm P (getD-set-same at r b 0 fit) (λ c d. getD-set-other at r c b 0 d);
+  -- bit b is the pivot of check r now
+  pub turned-pivot : (k : Matrix) (p : ℕ) → r ≤ p → p < m → r < length at → Pivoted g k m p r b → Turned g k m b r at (r + 1) (set at r b)
+  turned-pivot k p rp pm fit P = record {
+    turned = λ h n e t R. record {
+      same = same-trans h g k n m (R .same) (P .same n);
+      form = turn-pivot g m e b r _ (R .form) k p _ t rp pm P (getD-set-same at r b 0 fit) (λ c d. getD-set-other at r c b 0 d);
+    };
   }
+
+-- the bits from b up to d are not to be reduced
+pub reduction-over : (h g : Matrix) (n m : ℕ) (e : ℕ → Bool) (b d r : ℕ) (at : List ℕ) → b ≤ d → ((j : ℕ) → b ≤ j → j < d → e j ≡ false)
+    → Reduction h g n m e b r at → Reduction h g n m e d r at
+reduction-over h g n m e b d r at l f R = record {
+  same = R .same;
+  form = record {
+    few = R .form .few;
+    low = λ c k. omega (arith, R .form .low c k);
+    among = R .form .among;
+    rise = R .form .rise;
+    own = R .form .own;
+    alone = R .form .alone;
+    first = R .form .first;
+    rest = λ c j k i q t. elim (decLt j b) [ yes s ↦ R .form .rest c j k i s t | no s ↦ absurd (true≢false (sym t ∙ f j (omega arith) q)) ];
+  };
+}
 
 pub reduction-start : (h : Matrix) (n m : ℕ) (e : ℕ → Bool) (at : List ℕ) → Reduction h h n m e 0 0 at
 reduction-start h n m e at = record { same = λ x. refl; form = turn-start h m e _ }
+
+-- the set to reduce in counts by its bits below b
+pub reduced-in : (g : Matrix) (m : ℕ) (e f : ℕ → Bool) (b r : ℕ) (at : ℕ → ℕ) → ((j : ℕ) → j < b → e j ≡ f j) → Reduced g m e b r at → Reduced g m f b r at
+reduced-in g m e f b r at s R = record {
+  few = R .few;
+  low = R .low;
+  among = λ c k. sym (s (at c) (R .low c k)) ∙ R .among c k;
+  rise = R .rise;
+  own = R .own;
+  alone = R .alone;
+  first = λ c j k l q. R .first c j k l (s j (omega (arith, R .low c k)) ∙ q);
+  rest = λ c j k l i q. R .rest c j k l i (s j i ∙ q);
+}
+
+-- where it has no bit from b on, the rows are reduced in b bits, and have the same codewords in them
+pub reduction-below : (h g : Matrix) (n m : ℕ) (e : ℕ → Bool) (b r : ℕ) (at : List ℕ) → b ≤ n → ((j : ℕ) → b ≤ j → e j ≡ false)
+    → Reduction h g n m e n r at → Reduction h g b m e b r at
+reduction-below h g n m e b r at l f R = record {
+  same = same-below h g n b m l (R .same);
+  form = record {
+    few = R .form .few;
+    low = λ c k. elim (decLt (getD at c 0) b) [ yes q ↦ q | no q ↦ absurd (true≢false (sym (R .form .among c k) ∙ f (getD at c 0) (omega arith))) ];
+    among = R .form .among;
+    rise = R .form .rise;
+    own = R .form .own;
+    alone = R .form .alone;
+    first = R .form .first;
+    rest = λ c j k i q t. R .form .rest c j k i (omega arith) t;
+  };
+}

@@ -1,5 +1,5 @@
 -- Elimination: adding checks to others, and the form that a reduced matrix has. Assumes nothing.
-use Prim.Native.Nat.{ℕ, _≤_, _<_}
+use Prim.Native.Nat.{ℕ, _+_, _≤_, _<_}
 use mathlib.Core.Path.{_≡_}
 use mathlib.Core.Bool.{Bool, true, false, cond, _&&_, xor}
 use mathlib.Core.List.{List}
@@ -59,3 +59,7 @@ pivot r at b = any r (λ c. eqb (at c) b)
 pub record Reduction (h g : Matrix) (n m : ℕ) (e : ℕ → Bool) (b r : ℕ) (at : List ℕ) : Type 0 where
   pub same : Same h g n m
   pub form : Reduced g m e b r (λ c. getD at c 0)
+
+-- The turn of bit b, one of those to reduce in: what was reduced in the bits below b is afterwards reduced in b too.
+pub record Turned (g k : Matrix) (m b r : ℕ) (at : List ℕ) (s : ℕ) (to : List ℕ) : Type 0 where
+  pub turned : (h : Matrix) (n : ℕ) (e : ℕ → Bool) → e b ≡ true → Reduction h g n m e b r at → Reduction h k n m e (b + 1) s to

@@ -5,7 +5,7 @@ ghost use Prim.Native.Nat.{_+_, _*_, _/_, _<_, _≤_};
 ghost use lib.ListN.{length};
 ghost use Rattle.parity.specs.Matrix.{lent};
 ghost use Rattle.elimination.specs.Reduction.{plus, when, cleared, FirstIn};
-ghost use Rattle.elimination.specs.Rows.{Blank, RowOf, SameRows};
+ghost use Rattle.elimination.specs.Rows.{Blank, RowOf, CheckAt, SameRows};
 
 // Two rows: an empty one, and that of check `c`.
 pub fn row_of(rows: &[u64], width: usize, c: usize) -> [u64; 16]
@@ -73,13 +73,13 @@ pub fn first_with(rows: &[u64], width: usize, checks: usize, first: usize, b: us
     c
 }
 
-// The first `width` of the `wide` words of check `c` become check `c` of the rows.
-fn copy_check(words: &[u64], wide: usize, width: usize, c: usize, rows: &mut [u64])
-    requires { ⌜ (c * wide + width ≤ length (now words)) × (c * width + width ≤ length (now rows)) ⌝ }
-    ensures { λ _. ⌜ SameRows wide width (now (words .entry)) (now (rows .entry)) (now (rows .exit)) c (c + 1) ⌝ }
+// The first `width` of the `wide` words of check `c` become row `d`.
+pub fn copy_check(words: &[u64], wide: usize, width: usize, c: usize, rows: &mut [u64], d: usize)
+    requires { ⌜ (c * wide + width ≤ length (now words)) × (d * width + width ≤ length (now rows)) ⌝ }
+    ensures { λ _. ⌜ CheckAt wide width (now (words .entry)) (now (rows .entry)) (now (rows .exit)) c d ⌝ }
 {
     for i in 0..width {
-        rows[c * width + i] = words[c * wide + i];
+        rows[d * width + i] = words[c * wide + i];
     }
 }
 
@@ -89,6 +89,6 @@ pub fn copy(words: &[u64], wide: usize, width: usize, checks: usize, rows: &mut 
     ensures { λ _. ⌜ SameRows wide width (now (words .entry)) (now (rows .entry)) (now (rows .exit)) 0 checks ⌝ }
 {
     for c in 0..checks {
-        copy_check(words, wide, width, c, rows);
+        copy_check(words, wide, width, c, rows, c);
     }
 }

@@ -1,6 +1,6 @@
 -- What is read off the reduced rows, and what rank and encoding answer. Assumes nothing.
 use mathlib.Core.Path.{_≡_, refl, sym, ap, _∙_}
-use mathlib.Core.Bool.{Bool, true, false, not}
+use mathlib.Core.Bool.{true, false, not}
 use mathlib.Core.List.{List, [], _∷_}
 use Prim.Native.Nat.{ℕ, zero, suc, _+_, _-_, _%_, _≤_, _<_}
 use native.Mathlib.Omega.{arith}
@@ -25,10 +25,11 @@ use Rattle.parity.proofs.Causes.Refused.{refused-number, refused-same}
 use Rattle.parity.proofs.Words.Bytes.{right-bytes}
 use Rattle.parity.proofs.Encoding.Messages.{ranks}
 use Rattle.parity.proofs.Matrix.Packing.{at-listFrom}
-use Rattle.elimination.specs.Reduction.{Same, Reduced, Reduction, pivot}
+use Rattle.elimination.specs.Reduction.{Same, Reduction, pivot}
 use Rattle.elimination.specs.Rows.{SameRows}
 use Rattle.elimination.proofs.Clearing.{same-trans}
 use Rattle.elimination.proofs.Copying.{rows-lent}
+use Rattle.elimination.proofs.Turns.{reduced-in}
 use Rattle.elimination.proofs.Reduced.{pivot-at, pivot-of, solved-at, solved-else}
 use Rattle.encode.specs.Answers.{givenOutcome}
 use Rattle.encode.specs.Filling.{everyBit, pivotAt, Rising, placed, Filled}
@@ -48,26 +49,13 @@ unfolding evenChecks inside
 copy-same ws w u n m k C x = all-cong m (λ c l. ap (λ a. eqb (a % 2) 0)
     (count-cong n (λ b i. rw (rows-lent 8 2 (omega arith) ws w u m C c b l (omega arith)))))
 
--- reduced in all bits below n
-every-reduced : (g : Matrix) (n m : ℕ) (e : ℕ → Bool) (r : ℕ) (at : ℕ → ℕ) → ((b : ℕ) → b < n → e b ≡ true) → Reduced g m e n r at → Reduced g m everyBit n r at
-every-reduced g n m e r at f R = record {
-  few = R .few;
-  low = R .low;
-  among = λ c k. refl;
-  rise = R .rise;
-  own = R .own;
-  alone = R .alone;
-  first = λ c j k l q. R .first c j k l (f j (omega (arith, R .low c k)));
-  rest = λ c j k l i q. R .rest c j k l i (f j i);
-}
-
 pub eliminated : (ws w u : List ℕ) (g : Matrix) (l : List ℕ) (n m r : ℕ) (at : List ℕ) → n ≤ 120 → l ≡ replicate 120 2 → SameRows 8 2 ws w u 0 m
     → Reduction (lent 2 u) g (length (take n l)) m (erased (byteOf (take n l))) (length (take n l)) r at → Reduction (lent 8 ws) g n m everyBit n r at
 eliminated ws w u g l n m r at k e C R =
     let S : Reduction (lent 2 u) g n m (erased (byteOf (take n l))) n r at = rw (unknown-length l n e k) at R in
     record {
       same = same-trans (lent 8 ws) (lent 2 u) g n m (copy-same ws w u n m k C) (S .same);
-      form = every-reduced g n m (erased (byteOf (take n l))) r (pivotAt at) (unknown-at l n e k) (S .form);
+      form = reduced-in g m (erased (byteOf (take n l))) everyBit n r (pivotAt at) (unknown-at l n e k) (S .form);
     }
 
 module _ (h g : Matrix) (n m r : ℕ) (at : List ℕ) (R : Reduction h g n m everyBit n r at) where

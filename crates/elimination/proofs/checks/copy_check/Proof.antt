@@ -9,10 +9,10 @@ use Rattle.elimination.proofs.checks.copy_check.Statement.{statement}
 use Rattle.elimination.proofs.checks.copy_check.Tie as tie
 
 abbrev Inv-loop : tie.InvT-loop
-Inv-loop words wide width c rows₀ i₀ rows i = (i ≤ width) × Writing rows₀ rows (c * width) (λ a. getD words (c * wide + a) 0) i
+Inv-loop words wide width c rows₀ d i₀ rows i = (i ≤ width) × Writing rows₀ rows (d * width) (λ a. getD words (c * wide + a) 0) i
 
 abbrev μ-loop : tie.MeasureT-loop
-μ-loop words wide width c rows₀ i₀ rows i = width - i
+μ-loop words wide width c rows₀ d i₀ rows i = width - i
 
 loop-holds : tie.Need-loop-holds Inv-loop μ-loop
 loop-holds c = (omega arith, writing-none _ _ _)
@@ -60,7 +60,7 @@ returns c =
     let l = c .before .loop in
     let s = c .before .before in
     let e : l .i ≡ s .args .width = omega arith in
-    check-written _ _ _ _ _ _ (rw e at (l .inv .1))
+    check-written _ _ _ _ _ _ _ (rw e at (l .inv .1))
 
 pub copy-check-spec : {M : Type 1} → statement M
 copy-check-spec =

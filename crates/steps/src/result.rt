@@ -13,7 +13,7 @@ ghost use Rattle.parity.specs.Calls.{byteOf};
 ghost use Rattle.steps.specs.Steps.{agreeing, filled, Short, Reaching, WordWritten, Finished};
 
 // Whether each of the first `checks` checks without an erased bit is even.
-fn agree(words: &[u64], checks: usize, erased: &[u64], ones: &[u64]) -> bool
+pub fn agree(words: &[u64], checks: usize, erased: &[u64], ones: &[u64]) -> bool
     requires { ⌜ (length (now words) ≡ 4096) × (checks ≤ 512) × (length (now erased) ≡ 8) × (length (now ones) ≡ 8) ⌝ }
     ensures { λ r. ⌜ r ≡ agreeing (lent 8 (now (words .entry))) 512 checks (lent 8 (now (erased .entry)) 0) (lent 8 (now (ones .entry)) 0) ⌝ }
 {
@@ -52,7 +52,7 @@ fn write_ones(word: &mut [u8], i: usize, x: u64, ones: &[u64], width: usize)
 }
 
 // Each bit that was lost and is not erased gets its byte. The sets have `width` words.
-fn write(word: &mut [u8], lost: &[u64], erased: &[u64], ones: &[u64], width: usize)
+pub fn write(word: &mut [u8], lost: &[u64], erased: &[u64], ones: &[u64], width: usize)
     requires { ⌜ (width ≤ 8) × (length (now lost) ≡ width) × (length (now erased) ≡ width) × (length (now ones) ≡ width) × Short (length (now word)) (lent width (now lost) 0) ⌝ }
     ensures { λ r. ⌜ now (word .exit) ≡ listFrom 0 (length (now (word .entry))) (filled (lent width (now (lost .entry)) 0) (lent width (now (erased .entry)) 0) (lent width (now (ones .entry)) 0) (byteOf (now (word .entry)))) ⌝ }
 {

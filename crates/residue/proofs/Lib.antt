@@ -1,0 +1,4 @@
+pub mod Gathering
+pub mod Writing
+pub mod Reading
+pub mod Solving

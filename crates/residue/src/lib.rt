@@ -1,0 +1,69 @@
+// What the checks determine of the bits that peeling leaves, by elimination in these bits alone.
+mod gather;
+mod pivots;
+
+use crate::gather::gather;
+use crate::pivots::even_from;
+use crate::pivots::write_pivots;
+use elimination::reduce_in;
+use rows::words_of;
+use steps::result::agree;
+use word::sets::size;
+ghost use mathlib.Core.Path.{_≡_};
+ghost use mathlib.Core.Bool.{true};
+ghost use Prim.Native.Nat.{_≤_};
+ghost use lib.ListN.{length};
+ghost use Rattle.parity.specs.Matrix.{lent};
+ghost use Rattle.steps.specs.Steps.{agreeing};
+ghost use Rattle.residue.specs.Sets.{Apart, Determined};
+
+// Elimination in the bits of the residue, with the checks that touch it. Whether some codeword agrees with the known bits; if so, each bit
+// that is determined leaves `left`, and enters `values` if it is a one.
+fn eliminate(
+    words: &[u64],
+    bits: usize,
+    checks: usize,
+    residue: &[u64],
+    known: &[u64],
+    left: &mut [u64],
+    values: &mut [u64],
+) -> bool
+    requires { ⌜ (length (now words) ≡ 4096) × (bits ≤ 512) × (checks ≤ 512) × (length (now residue) ≡ 8) × (length (now known) ≡ 8) × (now left ≡ now residue) × (now values ≡ now known) ⌝ }
+    requires { ⌜ Apart bits (lent 8 (now residue) 0) (lent 8 (now known) 0) × (agreeing (lent 8 (now words)) 512 checks (lent 8 (now residue) 0) (lent 8 (now known) 0) ≡ true) ⌝ }
+    ensures { λ r. ⌜ Determined (lent 8 (now (words .entry))) bits checks (lent 8 (now (residue .entry)) 0) (lent 8 (now (known .entry)) 0) r (lent 8 (now (left .exit)) 0) (lent 8 (now (values .exit)) 0) ⌝ }
+{
+    let mut rows = [0u64; 4096];
+    let mut pivots = [0usize; 512];
+    let width = words_of(bits);
+    let count = gather(words, width, checks, residue, &mut rows);
+    let r = reduce_in(&mut rows, width, count, residue, &mut pivots);
+    if !even_from(&rows, width, r, count, known) {
+        return false;
+    }
+    write_pivots(&rows, width, &pivots, r, residue, known, left, values);
+    true
+}
+
+// What the checks determine of a word that is peeled, with the sets `residue` of its erased bits and `known` of its ones. Whether some codeword
+// agrees with it; if so, each bit that is determined leaves `left`, and enters `values` if it is a one.
+pub fn solve(
+    words: &[u64],
+    bits: usize,
+    checks: usize,
+    residue: &[u64],
+    known: &[u64],
+    left: &mut [u64],
+    values: &mut [u64],
+) -> bool
+    requires { ⌜ (length (now words) ≡ 4096) × (bits ≤ 512) × (checks ≤ 512) × (length (now residue) ≡ 8) × (length (now known) ≡ 8) × (now left ≡ now residue) × (now values ≡ now known) ⌝ }
+    requires { ⌜ Apart bits (lent 8 (now residue) 0) (lent 8 (now known) 0) ⌝ }
+    ensures { λ r. ⌜ Determined (lent 8 (now (words .entry))) bits checks (lent 8 (now (residue .entry)) 0) (lent 8 (now (known .entry)) 0) r (lent 8 (now (left .exit)) 0) (lent 8 (now (values .exit)) 0) ⌝ }
+{
+    if !agree(words, checks, residue, known) {
+        return false;
+    }
+    if size(residue) == 0 {
+        return true;
+    }
+    eliminate(words, bits, checks, residue, known, left, values)
+}

@@ -101,14 +101,15 @@ module _ (W : ℕ) (h : Matrix) (n k M : ℕ) (w es os : List ℕ) (size : lengt
   }
 
   module _ (e o : ℕ → Bool) (S : Settled h (W * 64) M (lent W es 0) (lent W os 0) e o) where
-    H : Held h (length w) M (byteOf w) e o
-    H = held-reached h (W * 64) (length w) M few (byteOf w) (lent W es 0) (lent W os 0) e o (S .reached) held-start
+    -- they lead to sets that hold a stage of peeling
+    pub settled-held : Held h (length w) M (byteOf w) e o
+    settled-held = held-reached h (W * 64) (length w) M few (byteOf w) (lent W es 0) (lent W os 0) e o (S .reached) held-start
 
     D : Ended h (n + k) M (byteOf w) (held e o)
-    D = rw size at (held-ended h (W * 64) (length w) M few (byteOf w) e o H (S .over))
+    D = rw size at (held-ended h (W * 64) (length w) M few (byteOf w) e o settled-held (S .over))
 
     decides : peels h (n + k) M (byteOf w) ≡ agreeing h (W * 64) M e o
-    decides = D .answers ∙ rw size at (held-agrees h (W * 64) (length w) M few (byteOf w) e o H)
+    decides = D .answers ∙ rw size at (held-agrees h (W * 64) (length w) M few (byteOf w) e o settled-held)
 
     pub word-refused : agreeing h (W * 64) M e o ≡ false → wordOutcome h n k M w ≡ record { reply = refusal 12 []; after = w }
     unfolding wordOutcome wordReply
@@ -123,11 +124,11 @@ module _ (W : ℕ) (h : Matrix) (n k M : ℕ) (w es os : List ℕ) (size : lengt
       held-at b = ap (λ (f : ℕ → Bool). f b) (erased-held e o)
 
       within : (b : ℕ) → b < n + k → e b ≡ true → lent W es 0 b ≡ true
-      within b l q = sym (is-erased b l) ∙ H .stage .shrinks b (omega arith) (held-at b ∙ q)
+      within b l q = sym (is-erased b l) ∙ settled-held .stage .shrinks b (omega arith) (held-at b ∙ q)
 
       pub word-fewer : (ls ≤ bs) × (la ≤ ba)
       word-fewer =
-          fewer-left (W * 64) n k (byteOf w) (held e o) (lent W es 0) e (omega arith) (λ b l. held-start .short-e b (omega arith)) (λ b l. H .short-e b (omega arith))
+          fewer-left (W * 64) n k (byteOf w) (held e o) (lent W es 0) e (omega arith) (λ b l. held-start .short-e b (omega arith)) (λ b l. settled-held .short-e b (omega arith))
           is-erased held-at within bs ba ls la B L
 
       -- filling the lost bits makes the word that the sets hold
@@ -135,7 +136,7 @@ module _ (W : ℕ) (h : Matrix) (n k M : ℕ) (w es os : List ℕ) (size : lengt
       filled-held b l =
           elim (is (e b)) [
             | is-true p ↦ rw (p, and-false) (sym (eqb-true (byteOf w b) 2 (is-erased b l ∙ within b l p)))
-            | is-false p ↦ elim (is (lent W es 0 b)) [ is-true q ↦ rw (p, q) | is-false q ↦ rw q (H .stage .known b (omega arith) (is-erased b l ∙ q)) ]
+            | is-false p ↦ elim (is (lent W es 0 b)) [ is-true q ↦ rw (p, q) | is-false q ↦ rw q (settled-held .stage .known b (omega arith) (is-erased b l ∙ q)) ]
           ]
 
       pub word-made : agreeing h (W * 64) M e o ≡ true
@@ -145,7 +146,7 @@ module _ (W : ℕ) (h : Matrix) (n k M : ℕ) (w es os : List ℕ) (size : lengt
           let a : peels h (n + k) M (byteOf w) ≡ true = decides ∙ f in
           let u : listFrom 0 (n + k) (peeled h (n + k) M (byteOf w)) ≡ listFrom 0 (n + k) (filled (lent W es 0) e o (byteOf w)) = listFrom-cong 0 (n + k) (peeled h (n + k) M (byteOf w)) (filled (lent W es 0) e o (byteOf w)) (λ j l. D .word a (0 + j) (omega arith) ∙ filled-held (0 + j) (omega arith)) in
           let v = losses-same n k (byteOf w) (peeled h (n + k) M (byteOf w)) (held e o) (D .word a) in
-          let t = losses-sizes (W * 64) n k (byteOf w) (held e o) (lent W es 0) e (omega arith) (λ b l. held-start .short-e b (omega arith)) (λ b l. H .short-e b (omega arith))
+          let t = losses-sizes (W * 64) n k (byteOf w) (held e o) (lent W es 0) e (omega arith) (λ b l. held-start .short-e b (omega arith)) (λ b l. settled-held .short-e b (omega arith))
           is-erased held-at within bs ba ls la B L in
           rw (a, v ∙ t, u, size)
 

@@ -1,5 +1,5 @@
 // Peeling: what the checks with exactly one erased bit recover of a word.
-mod losses;
+pub mod losses;
 
 use crate::losses::Sizes;
 use crate::losses::sizes_of;

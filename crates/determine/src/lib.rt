@@ -1,0 +1,86 @@
+// Everything the checks determine: each bit at which all codewords that agree with a word have one value.
+use parity::Refusal;
+use peel::losses::Sizes;
+use peel::losses::sizes_of;
+use residue::solve;
+use rows::words_of;
+use steps::result::write;
+use steps::solving::settle;
+use word::Admission;
+use word::admit;
+use word::sets::set_of;
+ghost use mathlib.Core.Path.{_≡_};
+ghost use mathlib.Core.Bool.{false};
+ghost use mathlib.Core.List.{[], _∷_};
+ghost use Prim.Native.Nat.{_+_, _-_, _≤_, _<_};
+ghost use lib.ListN.{length};
+ghost use Rattle.parity.specs.Matrix.{lent};
+ghost use Rattle.parity.specs.Causes.{answer};
+ghost use Rattle.parity.specs.Calls.{wrongByte, determineOutcome};
+ghost use Rattle.determine.specs.Answers.{determiningReply, wordOutcome};
+
+// What determining answers: how many sent bits and how many added bits were recovered, peeled and eliminated ones together, and how many of
+// each are left.
+pub enum Determining {
+    Made {
+        recovered_sent: u64,
+        recovered_added: u64,
+        left_sent: u64,
+        left_added: u64,
+    },
+    Refused(Refusal),
+}
+
+// The answer, from the sizes of the set of erased bits before and after.
+fn made(before: Sizes, left: Sizes) -> Determining
+    requires { ⌜ (left .sent ≤ before .sent) × (left .added ≤ before .added) ⌝ }
+    ensures { λ r. ⌜ determiningReply r ≡ answer ((before .sent - left .sent) ∷ (before .added - left .added) ∷ left .sent ∷ left .added ∷ []) ⌝ }
+{
+    Determining::Made {
+        recovered_sent: before.sent - left.sent,
+        recovered_added: before.added - left.added,
+        left_sent: left.sent,
+        left_added: left.added,
+    }
+}
+
+// Determines a word of bytes up to 2, of `n` sent and `k` added bits: it is peeled, and what peeling leaves is solved by elimination.
+fn determine_word(words: &[u64], n: usize, k: usize, checks: usize, word: &mut [u8]) -> Determining
+    requires { ⌜ (length (now words) ≡ 4096) × (checks ≤ 512) × (length (now word) ≡ n + k) × (n + k ≤ 512) × (n < 512) × (wrongByte 2 (now word) ≡ false) ⌝ }
+    ensures { λ r. ⌜ determiningReply r ≡ wordOutcome (lent 8 (now (words .entry))) n k checks (now (word .entry)) .reply ⌝ }
+    ensures { λ r. ⌜ now (word .exit) ≡ wordOutcome (lent 8 (now (words .entry))) n k checks (now (word .entry)) .after ⌝ }
+{
+    let lost = set_of(word, 2);
+    let mut erased = lost;
+    let mut ones = set_of(word, 1);
+    let before = sizes_of(&lost, n);
+    settle(words, words_of(n + k), checks, &mut erased, &mut ones);
+    let residue = erased;
+    let known = ones;
+    if !solve(
+        words,
+        n + k,
+        checks,
+        &residue,
+        &known,
+        &mut erased,
+        &mut ones,
+    ) {
+        return Determining::Refused(Refusal::Contradiction);
+    }
+    write(word, &lost, &erased, &ones, 8);
+    let left = sizes_of(&erased, n);
+    made(before, left)
+}
+
+// Determines a word: each bit at which all codewords that agree with it have one value gets this value, and the others keep 2.
+pub fn determine(words: &[u64], n: usize, m: usize, k: usize, word: &mut [u8]) -> Determining
+    ensures { λ r. ⌜ determiningReply r ≡ determineOutcome (now (words .entry)) n m k (now (word .entry)) .reply ⌝ }
+    ensures { λ r. ⌜ now (word .exit) ≡ determineOutcome (now (words .entry)) n m k (now (word .entry)) .after ⌝ }
+{
+    let admission = admit(words, n, m, k, word, 2);
+    match admission {
+        Admission::Refused(r) => Determining::Refused(r),
+        Admission::Admitted => determine_word(words, n, k, m + k, word),
+    }
+}

@@ -2,7 +2,7 @@
 // that it carries at the front of `values`, as far as it reaches.
 use parity::Bit;
 ghost use mathlib.Core.Path.{_≡_};
-ghost use Rattle.parity.specs.Calls.{loadOutcome, writeOutcome, shareReply, countReply, splitOutcome, takeBackOutcome, orthogonaliseOutcome, verifyReply, extendOutcome, isStoppingReply, peelOutcome, rankReply, encodeOutcome, houseOutcome};
+ghost use Rattle.parity.specs.Calls.{loadOutcome, writeOutcome, shareReply, countReply, splitOutcome, takeBackOutcome, orthogonaliseOutcome, verifyReply, extendOutcome, isStoppingReply, peelOutcome, rankReply, encodeOutcome, houseOutcome, determineOutcome};
 ghost use Rattle.reply.specs.Passed.{Passed};
 
 // Carries n and m.
@@ -189,6 +189,24 @@ pub extern "C" fn parity_peel(
 {
     let peeling = peel::peel(words, n, m, k, word);
     let numbered = reply::peeling(peeling);
+    reply::pass(numbered, values)
+}
+
+// Carries how many sent bits and how many added bits were recovered, and how many of each are left.
+#[no_mangle]
+pub extern "C" fn parity_determine(
+    words: &[u64],
+    n: usize,
+    m: usize,
+    k: usize,
+    word: &mut [u8],
+    values: &mut [u64],
+) -> u32
+    ensures { λ r. ⌜ Passed (determineOutcome (now (words .entry)) n m k (now (word .entry)) .reply) (now (values .entry)) (now (values .exit)) r ⌝ }
+    ensures { λ r. ⌜ now (word .exit) ≡ determineOutcome (now (words .entry)) n m k (now (word .entry)) .after ⌝ }
+{
+    let determining = determine::determine(words, n, m, k, word);
+    let numbered = reply::determining(determining);
     reply::pass(numbered, values)
 }
 

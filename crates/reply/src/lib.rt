@@ -1,6 +1,7 @@
 // Each call's answer, or its refusal, as document 01's number and values, and passing these to a caller in C.
 use cycles::Counting;
 use cycles::Sharing;
+use determine::Determining;
 use encode::Encoding;
 use encode::Ranking;
 use house::Copying;
@@ -23,6 +24,7 @@ ghost use Rattle.split.specs.Answers.{splittingReply, takingBackReply, orthogon
 ghost use Rattle.word.specs.Answers.{verifyingReply, stoppingReply};
 ghost use Rattle.word.specs.Answers.{extendingReply};
 ghost use Rattle.peel.specs.Answers.{peelingReply};
+ghost use Rattle.determine.specs.Answers.{determiningReply};
 ghost use Rattle.encode.specs.Answers.{rankingReply, encodingReply};
 ghost use Rattle.house.specs.Answers.{copyingReply};
 ghost use Rattle.reply.specs.Passed.{numberedReply, Passed};
@@ -176,6 +178,21 @@ pub fn peeling(answer: Peeling) -> Numbered
             left_added,
         } => Numbered::Four(0, recovered_sent, recovered_added, left_sent, left_added),
         Peeling::Refused(why) => refused(why),
+    }
+}
+
+// What determining answers.
+pub fn determining(answer: Determining) -> Numbered
+    ensures { λ r. ⌜ numberedReply r ≡ determiningReply answer ⌝ }
+{
+    match answer {
+        Determining::Made {
+            recovered_sent: sent,
+            recovered_added: added,
+            left_sent,
+            left_added,
+        } => Numbered::Four(0, sent, added, left_sent, left_added),
+        Determining::Refused(why) => refused(why),
     }
 }
 

@@ -2,9 +2,8 @@
 use parity::Refusal;
 use peel::losses::Sizes;
 use peel::losses::sizes_of;
-use residue::solve;
+use residue::finish;
 use rows::words_of;
-use steps::result::write;
 use steps::solving::settle;
 use word::Admission;
 use word::admit;
@@ -54,13 +53,16 @@ fn determine_word(words: &[u64], n: usize, k: usize, checks: usize, word: &mut [
     let mut erased = lost;
     let mut ones = set_of(word, 1);
     let before = sizes_of(&lost, n);
-    settle(words, words_of(n + k), checks, &mut erased, &mut ones);
+    let bits = n + k;
+    settle(words, words_of(bits), checks, &mut erased, &mut ones);
     let residue = erased;
     let known = ones;
-    if !solve(
+    if !finish(
         words,
-        n + k,
+        bits,
         checks,
+        word,
+        &lost,
         &residue,
         &known,
         &mut erased,
@@ -68,7 +70,6 @@ fn determine_word(words: &[u64], n: usize, k: usize, checks: usize, word: &mut [
     ) {
         return Determining::Refused(Refusal::Contradiction);
     }
-    write(word, &lost, &erased, &ones, 8);
     let left = sizes_of(&erased, n);
     made(before, left)
 }

@@ -8,19 +8,21 @@ use crate::pivots::write_pivots;
 use elimination::reduce_in;
 use rows::words_of;
 use steps::result::agree;
+use steps::result::write;
 use word::sets::size;
 ghost use mathlib.Core.Path.{_≡_};
 ghost use mathlib.Core.Bool.{true};
-ghost use Prim.Native.Nat.{_≤_};
+ghost use Prim.Native.Nat.{_*_, _≤_};
 ghost use lib.ListN.{length};
 ghost use Rattle.parity.specs.Matrix.{lent};
-ghost use Rattle.steps.specs.Steps.{agreeing};
-ghost use Rattle.residue.specs.Sets.{Apart, Determined};
+ghost use Rattle.steps.specs.Steps.{agreeing, Short};
+ghost use Rattle.residue.specs.Sets.{Apart, Determined, Finished};
 
-// Elimination in the bits of the residue, with the checks that touch it. Whether some codeword agrees with the known bits; if so, each bit
-// that is determined leaves `left`, and enters `values` if it is a one.
+// Elimination in the bits of the residue, with the checks that touch it, in rows of `width` words. Whether some codeword agrees with the known
+// bits; if so, each bit that is determined leaves `left`, and enters `values` if it is a one.
 fn eliminate(
     words: &[u64],
+    width: usize,
     bits: usize,
     checks: usize,
     residue: &[u64],
@@ -28,13 +30,12 @@ fn eliminate(
     left: &mut [u64],
     values: &mut [u64],
 ) -> bool
-    requires { ⌜ (length (now words) ≡ 4096) × (bits ≤ 512) × (checks ≤ 512) × (length (now residue) ≡ 8) × (length (now known) ≡ 8) × (now left ≡ now residue) × (now values ≡ now known) ⌝ }
+    requires { ⌜ (length (now words) ≡ 4096) × (bits ≤ 512) × (checks ≤ 512) × (length (now residue) ≡ 8) × (length (now known) ≡ 8) × (now left ≡ now residue) × (now values ≡ now known) × (width ≤ 8) × (bits ≤ width * 64) ⌝ }
     requires { ⌜ Apart bits (lent 8 (now residue) 0) (lent 8 (now known) 0) × (agreeing (lent 8 (now words)) 512 checks (lent 8 (now residue) 0) (lent 8 (now known) 0) ≡ true) ⌝ }
     ensures { λ r. ⌜ Determined (lent 8 (now (words .entry))) bits checks (lent 8 (now (residue .entry)) 0) (lent 8 (now (known .entry)) 0) r (lent 8 (now (left .exit)) 0) (lent 8 (now (values .exit)) 0) ⌝ }
 {
     let mut rows = [0u64; 4096];
     let mut pivots = [0usize; 512];
-    let width = words_of(bits);
     let count = gather(words, width, checks, residue, &mut rows);
     let r = reduce_in(&mut rows, width, count, residue, &mut pivots);
     if !even_from(&rows, width, r, count, known) {
@@ -44,26 +45,71 @@ fn eliminate(
     true
 }
 
-// What the checks determine of a word that is peeled, with the sets `residue` of its erased bits and `known` of its ones. Whether some codeword
-// agrees with it; if so, each bit that is determined leaves `left`, and enters `values` if it is a one.
-pub fn solve(
+// Elimination in rows of as many words as the bits take, and writing. It is called at two places, so that the compiler leaves it a function of its
+// own: its rows are then on the stack while they are used, and not while the matrix is accepted.
+fn finish_left(
     words: &[u64],
     bits: usize,
     checks: usize,
+    word: &mut [u8],
+    lost: &[u64],
     residue: &[u64],
     known: &[u64],
     left: &mut [u64],
     values: &mut [u64],
 ) -> bool
-    requires { ⌜ (length (now words) ≡ 4096) × (bits ≤ 512) × (checks ≤ 512) × (length (now residue) ≡ 8) × (length (now known) ≡ 8) × (now left ≡ now residue) × (now values ≡ now known) ⌝ }
+    requires { ⌜ (length (now words) ≡ 4096) × (bits ≤ 512) × (checks ≤ 512) × (length (now residue) ≡ 8) × (length (now known) ≡ 8) × (now left ≡ now residue) × (now values ≡ now known) × (length (now lost) ≡ 8) × Short (length (now word)) (lent 8 (now lost) 0) ⌝ }
+    requires { ⌜ Apart bits (lent 8 (now residue) 0) (lent 8 (now known) 0) × (agreeing (lent 8 (now words)) 512 checks (lent 8 (now residue) 0) (lent 8 (now known) 0) ≡ true) ⌝ }
+    ensures { λ r. ⌜ Finished (lent 8 (now (words .entry))) bits checks (lent 8 (now (lost .entry)) 0) (lent 8 (now (residue .entry)) 0) (lent 8 (now (known .entry)) 0) (now (word .entry)) r (lent 8 (now (left .exit)) 0) (lent 8 (now (values .exit)) 0) (now (word .exit)) ⌝ }
+{
+    let width = words_of(bits);
+    if width == 8 {
+        if !eliminate(words, 8, bits, checks, residue, known, left, values) {
+            return false;
+        }
+        write(word, lost, left, values, 8);
+        return true;
+    }
+    if !eliminate(words, width, bits, checks, residue, known, left, values) {
+        return false;
+    }
+    write(word, lost, left, values, 8);
+    true
+}
+
+// What the checks determine of a word that is peeled, with the sets `residue` of its erased bits and `known` of its ones. Whether some codeword
+// agrees with it; if so, each bit that was lost and is determined gets its byte, and leaves `left`.
+pub fn finish(
+    words: &[u64],
+    bits: usize,
+    checks: usize,
+    word: &mut [u8],
+    lost: &[u64],
+    residue: &[u64],
+    known: &[u64],
+    left: &mut [u64],
+    values: &mut [u64],
+) -> bool
+    requires { ⌜ (length (now words) ≡ 4096) × (bits ≤ 512) × (checks ≤ 512) × (length (now residue) ≡ 8) × (length (now known) ≡ 8) × (now left ≡ now residue) × (now values ≡ now known) × (length (now lost) ≡ 8) × Short (length (now word)) (lent 8 (now lost) 0) ⌝ }
     requires { ⌜ Apart bits (lent 8 (now residue) 0) (lent 8 (now known) 0) ⌝ }
-    ensures { λ r. ⌜ Determined (lent 8 (now (words .entry))) bits checks (lent 8 (now (residue .entry)) 0) (lent 8 (now (known .entry)) 0) r (lent 8 (now (left .exit)) 0) (lent 8 (now (values .exit)) 0) ⌝ }
+    ensures { λ r. ⌜ Finished (lent 8 (now (words .entry))) bits checks (lent 8 (now (lost .entry)) 0) (lent 8 (now (residue .entry)) 0) (lent 8 (now (known .entry)) 0) (now (word .entry)) r (lent 8 (now (left .exit)) 0) (lent 8 (now (values .exit)) 0) (now (word .exit)) ⌝ }
 {
     if !agree(words, checks, residue, known) {
         return false;
     }
     if size(residue) == 0 {
+        write(word, lost, left, values, 8);
         return true;
     }
-    eliminate(words, bits, checks, residue, known, left, values)
+    finish_left(
+        words,
+        bits,
+        checks,
+        word,
+        lost,
+        residue,
+        known,
+        left,
+        values,
+    )
 }

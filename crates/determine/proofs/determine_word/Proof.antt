@@ -22,8 +22,8 @@ slice-aggregate-sizes-of c = search needs
 sizes-of-requires : tie.Need-sizes-of-requires
 sizes-of-requires c κs = search needs
 
-add-words-of : tie.Need-add-words-of
-add-words-of c = search needs
+add-bits : tie.Need-add-bits
+add-bits c = search needs
 
 words-of-requires : tie.Need-words-of-requires
 words-of-requires c κs = search needs
@@ -39,109 +39,89 @@ settle-requires c κs =
     let u = c .before .before .words-of .ensures in
     let z = c .before .before .before in
     let s = z .before .before .before .before .before .before .before .before in
-    let S = set-short 8 (s .args .word .now) 2 _ (z .before .before .before .before .set-of .ensures) in
-    (s .pre .0, omega (arith, s .pre .1), search needs, search needs, omega (arith, u .1, s .pre .3), record { none = λ b l. S .none b (omega (arith, u .0, s .pre .2)) })
+    let E = z .before .before .before .before .set-of .ensures in
+    let S = set-short 8 (s .args .word .now) 2 _ E in
+    (s .pre .0, omega (arith, s .pre .1), E .size, z .before .before .set-of2 .ensures .size, omega (arith, u .1, s .pre .3), record { none = λ b l. S .none b (omega (arith, u .0, s .pre .2)) })
 
-add-solve : tie.Need-add-solve
-add-solve c = search needs
+slice-aggregate-finish : tie.Need-slice-aggregate-finish
+slice-aggregate-finish c = search needs
 
-slice-aggregate-solve : tie.Need-slice-aggregate-solve
-slice-aggregate-solve c = search needs
+slice-aggregate-finish-2 : tie.Need-slice-aggregate-finish-2
+slice-aggregate-finish-2 c = search needs
 
-slice-aggregate-solve-2 : tie.Need-slice-aggregate-solve-2
-slice-aggregate-solve-2 c = search needs
+slice-aggregate-finish-3 : tie.Need-slice-aggregate-finish-3
+slice-aggregate-finish-3 c = search needs
 
-slice-aggregate-solve-3 : tie.Need-slice-aggregate-solve-3
-slice-aggregate-solve-3 c = search needs
+slice-aggregate-finish-4 : tie.Need-slice-aggregate-finish-4
+slice-aggregate-finish-4 c = search needs
 
-slice-aggregate-solve-4 : tie.Need-slice-aggregate-solve-4
-slice-aggregate-solve-4 c = search needs
+slice-aggregate-finish-5 : tie.Need-slice-aggregate-finish-5
+slice-aggregate-finish-5 c = search needs
 
-solve-requires : tie.Need-solve-requires
-solve-requires c κs =
-    let t = c .before .before .before .before .before .before in
+finish-requires : tie.Need-finish-requires
+finish-requires c κs =
+    let t = c .before .before .before .before .before .before .before .before in
     let z = t .before .before .before .before in
     let s = z .before .before .before .before .before .before .before .before in
     let E = z .before .before .before .before .set-of .ensures in
     let O = z .before .before .set-of2 .ensures in
     let e = t .settle .kept .1 .1 .1 .0 ∙ E .size in
     let o = t .settle .kept .1 .1 .1 .1 .0 ∙ O .size in
-    ((s .pre .0, s .pre .3, s .pre .1, e, o, refl, refl), word-apart 8 (lent 8 (s .args .words .now)) (s .args .n) (s .args .k) (s .args .checks) (s .args .word .now) _ _ (s .pre .2) (omega (arith, s .pre .2, s .pre .3)) (s .pre .5) E O _ _ (t .settle .ensures))
+    ((s .pre .0, s .pre .3, s .pre .1, e, o, refl, refl, E .size, set-short 8 (s .args .word .now) 2 _ E), word-apart 8 (lent 8 (s .args .words .now)) (s .args .n) (s .args .k) (s .args .checks) (s .args .word .now) _ _ (s .pre .2) (omega (arith, s .pre .2, s .pre .3)) (s .pre .5) E O _ _ (t .settle .ensures))
 
 same-length : tie.Need-same-length
 same-length c = search needs
 
 returns : tie.Need-returns
 returns c =
-    let v = c .before .before .before in
-    let t = v .before .before .before .before .before .before .before in
+    let v = c .before .before .before .before .before in
+    let t = v .before .before .before .before .before .before .before .before .before in
     let z = t .before .before .before .before in
     let s = z .before .before .before .before .before .before .before .before in
     let E = z .before .before .before .before .set-of .ensures in
     let O = z .before .before .set-of2 .ensures in
-    let f = not-true (v .solve .result) (c .if1 .taken) in
-    let r = word-refused 8 (lent 8 (s .args .words .now)) (s .args .n) (s .args .k) (s .args .checks) (s .args .word .now) _ _ (s .pre .2) (omega (arith, s .pre .2, s .pre .3)) (s .pre .5) E O _ _ (t .settle .ensures) _ _ _ (v .solve .ensures) f in
-    (sym (ap (λ (o : Outcome). o .reply) r), sym (ap (λ (o : Outcome). o .after) r))
-
-slice-aggregate-write : tie.Need-slice-aggregate-write
-slice-aggregate-write c = search needs
-
-slice-aggregate-write-2 : tie.Need-slice-aggregate-write-2
-slice-aggregate-write-2 c = search needs
-
-slice-aggregate-write-3 : tie.Need-slice-aggregate-write-3
-slice-aggregate-write-3 c = search needs
-
-write-requires : tie.Need-write-requires
-write-requires c κs =
-    let v = c .before .before .before .before .before .before .before in
-    let t = v .before .before .before .before .before .before .before in
-    let z = t .before .before .before .before in
-    let s = z .before .before .before .before .before .before .before .before in
-    let E = z .before .before .before .before .set-of .ensures in
-    let O = z .before .before .set-of2 .ensures in
-    let e = v .solve .kept .1 .1 .1 .1 .1 .0 ∙ t .settle .kept .1 .1 .1 .0 ∙ E .size in
-    let o = v .solve .kept .1 .1 .1 .1 .1 .1 .0 ∙ t .settle .kept .1 .1 .1 .1 .0 ∙ O .size in
-    (omega arith, E .size, e, o, set-short 8 (s .args .word .now) 2 _ E)
+    let f = not-true (v .finish .result) (c .if1 .taken) in
+    let r = word-refused 8 (lent 8 (s .args .words .now)) (s .args .n) (s .args .k) (s .args .checks) (s .args .word .now) _ _ (s .pre .2) (omega (arith, s .pre .2, s .pre .3)) (s .pre .5) E O _ _ (t .settle .ensures) _ _ _ (v .finish .ensures .sets) f in
+    (sym (ap (λ (o : Outcome). o .reply) r), (rw f at (v .finish .ensures .word)) ∙ sym (ap (λ (o : Outcome). o .after) r))
 
 slice-aggregate-sizes-of-2 : tie.Need-slice-aggregate-sizes-of-2
 slice-aggregate-sizes-of-2 c = search needs
 
 sizes-of-requires-2 : tie.Need-sizes-of-requires-2
 sizes-of-requires-2 c κs =
-    let v = c .before .before .before .before .before .before .before .before .before .before .before in
-    let t = v .before .before .before .before .before .before .before in
+    let v = c .before .before .before .before .before .before in
+    let t = v .before .before .before .before .before .before .before .before .before in
     let z = t .before .before .before .before in
     let s = z .before .before .before .before .before .before .before .before in
     let E = z .before .before .before .before .set-of .ensures in
     let O = z .before .before .set-of2 .ensures in
-    (v .solve .kept .1 .1 .1 .1 .1 .0 ∙ t .settle .kept .1 .1 .1 .0 ∙ E .size, s .pre .4)
+    (v .finish .kept .1 .1 .1 .1 .1 .1 .1 .0 ∙ t .settle .kept .1 .1 .1 .0 ∙ E .size, s .pre .4)
 
 made-requires : tie.Need-made-requires
 made-requires c κs =
-    let v = c .before .before .before .before .before .before .before .before .before .before .before .before in
-    let t = v .before .before .before .before .before .before .before in
+    let v = c .before .before .before .before .before .before .before in
+    let t = v .before .before .before .before .before .before .before .before .before in
     let z = t .before .before .before .before in
     let s = z .before .before .before .before .before .before .before .before in
     let E = z .before .before .before .before .set-of .ensures in
     let O = z .before .before .set-of2 .ensures in
-    let f = not-false (v .solve .result) (c .before .before .before .before .before .before .before .before .before .if1 .left) in
-    word-fewer 8 (lent 8 (s .args .words .now)) (s .args .n) (s .args .k) (s .args .checks) (s .args .word .now) _ _ (s .pre .2) (omega (arith, s .pre .2, s .pre .3)) (s .pre .5) E O _ _ (t .settle .ensures) _ _ _ (v .solve .ensures) f _ _ _ _ (z .sizes-of .ensures) (c .sizes-of2 .ensures)
+    let f = not-false (v .finish .result) (c .before .before .if1 .left) in
+    word-fewer 8 (lent 8 (s .args .words .now)) (s .args .n) (s .args .k) (s .args .checks) (s .args .word .now) _ _ (s .pre .2) (omega (arith, s .pre .2, s .pre .3)) (s .pre .5) E O _ _ (t .settle .ensures) _ _ _ (v .finish .ensures .sets) f _ _ _ _ (z .sizes-of .ensures) (c .sizes-of2 .ensures)
 
 same-length-2 : tie.Need-same-length-2
 same-length-2 c = search needs
 
 returns-2 : tie.Need-returns-2
 returns-2 c =
-    let v = c .before .before .before .before .before .before .before .before .before .before .before .before .before in
-    let t = v .before .before .before .before .before .before .before in
+    let v = c .before .before .before .before .before .before .before .before in
+    let t = v .before .before .before .before .before .before .before .before .before in
     let z = t .before .before .before .before in
     let s = z .before .before .before .before .before .before .before .before in
     let E = z .before .before .before .before .set-of .ensures in
     let O = z .before .before .set-of2 .ensures in
-    let f = not-false (v .solve .result) (c .before .before .before .before .before .before .before .before .before .before .if1 .left) in
-    let r = word-made 8 (lent 8 (s .args .words .now)) (s .args .n) (s .args .k) (s .args .checks) (s .args .word .now) _ _ (s .pre .2) (omega (arith, s .pre .2, s .pre .3)) (s .pre .5) E O _ _ (t .settle .ensures) _ _ _ (v .solve .ensures) f _ _ _ _ (z .sizes-of .ensures) (c .before .sizes-of2 .ensures) in
-    (c .made .ensures ∙ sym (ap (λ (o : Outcome). o .reply) r), c .before .before .before .before .before .write .ensures ∙ sym (ap (λ (o : Outcome). o .after) r))
+    let f = not-false (v .finish .result) (c .before .before .before .if1 .left) in
+    let r = word-made 8 (lent 8 (s .args .words .now)) (s .args .n) (s .args .k) (s .args .checks) (s .args .word .now) _ _ (s .pre .2) (omega (arith, s .pre .2, s .pre .3)) (s .pre .5) E O _ _ (t .settle .ensures) _ _ _ (v .finish .ensures .sets) f _ _ _ _ (z .sizes-of .ensures) (c .before .sizes-of2 .ensures) in
+    (c .made .ensures ∙ sym (ap (λ (o : Outcome). o .reply) r), (rw f at (v .finish .ensures .word)) ∙ sym (ap (λ (o : Outcome). o .after) r))
 
 pub determine-word-spec : {M : Type 1} → statement M
 determine-word-spec =
@@ -151,23 +131,19 @@ determine-word-spec =
     set-of-requires-2
     slice-aggregate-sizes-of
     sizes-of-requires
-    add-words-of
+    add-bits
     words-of-requires
     slice-aggregate-settle
     slice-aggregate-settle-2
     settle-requires
-    add-solve
-    slice-aggregate-solve
-    slice-aggregate-solve-2
-    slice-aggregate-solve-3
-    slice-aggregate-solve-4
-    solve-requires
+    slice-aggregate-finish
+    slice-aggregate-finish-2
+    slice-aggregate-finish-3
+    slice-aggregate-finish-4
+    slice-aggregate-finish-5
+    finish-requires
     same-length
     returns
-    slice-aggregate-write
-    slice-aggregate-write-2
-    slice-aggregate-write-3
-    write-requires
     slice-aggregate-sizes-of-2
     sizes-of-requires-2
     made-requires

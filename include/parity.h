@@ -86,7 +86,7 @@ extern "C" {
 #define PARITY_LENGTH 10
 /* A byte outside the values named; values: its lowest place from 0. */
 #define PARITY_BYTE 11
-/* Contradiction in peeling. */
+/* Contradiction: checks that cannot be made even. */
 #define PARITY_CONTRADICTION 12
 /* k is above 0 in writing, rank or encoding. */
 #define PARITY_EXTENDED 13
@@ -263,6 +263,24 @@ uint32_t parity_peel(const uint64_t *words, size_t words_len,
                      size_t n, size_t m, size_t k,
                      uint8_t *word, size_t word_len,
                      uint64_t *values, size_t values_len);
+
+/* Everything the checks determine. A codeword agrees with the word if it has the
+ * word's value at every bit that is not erased. Each erased bit at which all
+ * codewords that agree have one value is written, and the others keep 2: no
+ * decoder can recover more. What parity_peel recovers is among it.
+ *
+ * words: read.
+ * word: n+k bytes of 0, 1 or 2 (erased). An answer writes the bits that are
+ *   determined.
+ * Values of the answer, 4: as parity_peel's, peeled and eliminated bits together.
+ * Refusals: 1, 2, 3, 4, 10; 11 with the place in `word`; 12 exactly when no
+ *   codeword agrees. That may be so where parity_peel answers, and is so wherever
+ *   parity_peel is refused 12.
+ */
+uint32_t parity_determine(const uint64_t *words, size_t words_len,
+                          size_t n, size_t m, size_t k,
+                          uint8_t *word, size_t word_len,
+                          uint64_t *values, size_t values_len);
 
 /* The rank r of a matrix with k = 0: the number of its parity bits. A bit is a
  * parity bit if its column is not a sum modulo 2 of some columns of lower bits.

@@ -54,7 +54,7 @@ pub enum Refusal {
     Length,
     /// 11: a byte outside the values named.
     Byte { place: usize },
-    /// 12: contradiction in peeling.
+    /// 12: contradiction: checks that cannot be made even.
     Contradiction,
     /// 13: k is above 0.
     Extended,
@@ -108,7 +108,7 @@ impl std::fmt::Display for Refusal {
             }
             Refusal::Length => write!(f, "a word, message or set of wrong length"),
             Refusal::Byte { place } => write!(f, "a byte outside the values named at place {place}"),
-            Refusal::Contradiction => write!(f, "contradiction in peeling"),
+            Refusal::Contradiction => write!(f, "contradiction: the checks cannot be made even"),
             Refusal::Extended => write!(f, "k is above 0"),
             Refusal::NothingToTakeBack => write!(f, "k is 0, there is nothing to take back"),
             Refusal::CannotTakeBack => write!(f, "with the newest added bit taken back rule A would be broken"),
@@ -159,6 +159,16 @@ pub struct Orthogonalised {
 /// many of each are left (2 afterwards).
 #[derive(Clone, Copy, PartialEq, Eq, Debug)]
 pub struct Peeled {
+    pub recovered_sent: usize,
+    pub recovered_added: usize,
+    pub left_sent: usize,
+    pub left_added: usize,
+}
+
+/// The answer of [`determine`]: how many sent and how many added bits were recovered, peeled and eliminated ones together,
+/// and how many of each are left.
+#[derive(Clone, Copy, PartialEq, Eq, Debug)]
+pub struct Determined {
     pub recovered_sent: usize,
     pub recovered_added: usize,
     pub left_sent: usize,
@@ -351,6 +361,31 @@ pub fn peel(words: &[u64], n: usize, m: usize, k: usize, word: &mut [u8]) -> Res
         )
     };
     reply(number, values).map(|v| Peeled {
+        recovered_sent: v[0] as usize,
+        recovered_added: v[1] as usize,
+        left_sent: v[2] as usize,
+        left_added: v[3] as usize,
+    })
+}
+
+/// Writes each erased bit (2) of the word of n+k bytes at which all codewords that agree with it have one value. Refused with
+/// [`Refusal::Contradiction`] exactly when no codeword agrees.
+pub fn determine(words: &[u64], n: usize, m: usize, k: usize, word: &mut [u8]) -> Result<Determined, Refusal> {
+    let mut values: Values = [0; VALUES_MOST];
+    let number = unsafe {
+        ffi::parity_determine(
+            words.as_ptr(),
+            words.len(),
+            n,
+            m,
+            k,
+            word.as_mut_ptr(),
+            word.len(),
+            values.as_mut_ptr(),
+            values.len(),
+        )
+    };
+    reply(number, values).map(|v| Determined {
         recovered_sent: v[0] as usize,
         recovered_added: v[1] as usize,
         left_sent: v[2] as usize,

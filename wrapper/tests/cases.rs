@@ -2,6 +2,10 @@
 
 use parity::{HouseCode, Loaded, Orthogonalised, Peeled, Refusal, Split, TakenBack, WORDS};
 
+//! Cases A to K of document 01 and cases of taking back and determining (document 02), through the wrapper.
+
+use parity::{Determined, Loaded, Orthogonalised, Peeled, Refusal, Split, TakenBack, WORDS};
+
 fn matrix(checks: &[&[usize]]) -> Vec<u64> {
     let mut words = vec![0; WORDS];
     for (c, bits) in checks.iter().enumerate() {
@@ -194,6 +198,47 @@ fn sent_and_added() {
     assert_eq!(word, [1, 1, 1, 1, 2, 2, 2, 2, 0, 0, 2, 2]);
 }
 
+fn determined(recovered_sent: usize, recovered_added: usize, left_sent: usize, left_added: usize) -> Determined {
+    Determined { recovered_sent, recovered_added, left_sent, left_added }
+}
+
+/// What peeling leaves of C's word, its three checks determine together.
+#[test]
+fn c_determined() {
+    let mut word = [2, 2, 2, 1, 1, 1, 1];
+    assert_eq!(parity::peel(&c(), 7, 3, 0, &mut word), Ok(peeled(0, 0, 3, 0)));
+    assert_eq!(parity::determine(&c(), 7, 3, 0, &mut word), Ok(determined(3, 0, 0, 0)));
+    assert_eq!(word, [0, 0, 1, 1, 1, 1, 1]);
+    assert_eq!(parity::determine(&c(), 7, 3, 0, &mut word), Ok(determined(0, 0, 0, 0)));
+    assert_eq!(word, [0, 0, 1, 1, 1, 1, 1]);
+}
+
+/// Peeled and eliminated bits are counted together, and what no check fixes is left.
+#[test]
+fn peeled_and_eliminated() {
+    let words = matrix(&[&[0, 1], &[1, 2, 3], &[2, 3, 4], &[2, 3, 4, 5], &[3, 4, 6], &[6, 7, 8]]);
+    let mut word = [1, 2, 2, 2, 2, 0, 1, 2, 2];
+    assert_eq!(parity::peel(&words, 8, 5, 1, &mut word.clone()), Ok(peeled(1, 0, 4, 1)));
+    assert_eq!(parity::determine(&words, 8, 5, 1, &mut word), Ok(determined(4, 0, 1, 1)));
+    assert_eq!(word, [1, 1, 1, 0, 1, 0, 1, 2, 2]);
+}
+
+/// Peeling answers though no codeword agrees; with no erased bit it is refused too; the words are left as they were.
+#[test]
+fn no_codeword_agrees() {
+    let words = matrix(&[&[0, 1], &[0, 1, 2]]);
+    let mut word = [2, 2, 1];
+    assert_eq!(parity::peel(&words, 3, 2, 0, &mut word), Ok(peeled(0, 0, 2, 0)));
+    assert_eq!(parity::determine(&words, 3, 2, 0, &mut word), Err(Refusal::Contradiction));
+    assert_eq!(word, [2, 2, 1]);
+    let mut word = [1, 0, 1];
+    assert_eq!(parity::determine(&words, 3, 2, 0, &mut word), Err(Refusal::Contradiction));
+    assert_eq!(word, [1, 0, 1]);
+    let mut word = [2, 2];
+    assert_eq!(parity::determine(&matrix(&[]), 2, 0, 0, &mut word), Ok(determined(0, 0, 2, 0)));
+    assert_eq!(word, [2, 2]);
+}
+
 #[test]
 fn g_and_h() {
     let mut words = c();
@@ -255,6 +300,11 @@ fn refusals() {
     assert_eq!(parity::verify(&words, 7, 3, 0, &[0; 6]), Err(Refusal::Length));
     assert_eq!(parity::verify(&words, 7, 3, 0, &[0, 0, 0, 4, 0, 3, 0]), Err(Refusal::Byte { place: 3 }));
     assert_eq!(Refusal::Byte { place: 3 }.number(), 11);
+    let mut word = [2, 0, 0, 4, 0, 3, 0];
+    assert_eq!(parity::determine(&words, 7, 3, 0, &mut word[1..]), Err(Refusal::Length));
+    assert_eq!(parity::determine(&words, 7, 3, 0, &mut word), Err(Refusal::Byte { place: 3 }));
+    assert_eq!(parity::determine(&words, 7, 3, 1, &mut word), Err(Refusal::RuleA));
+    assert_eq!(word, [2, 0, 0, 4, 0, 3, 0]);
     let mut words = c();
     assert_eq!(parity::take_back(&mut words[1..], 7, 3, 1), Err(Refusal::MatrixLength));
     assert_eq!(parity::take_back(&mut words, 7, 3, 393), Err(Refusal::Range));

@@ -148,7 +148,7 @@ impl Pools {
         } else {
             generate::small_given(r)
         };
-        if matches!(kind, Kind::Verify | Kind::Peel) {
+        if matches!(kind, Kind::Verify | Kind::Peel | Kind::Determine) {
             Sample::new(matrix)
         } else {
             Sample { matrix, basis: Vec::new() }
@@ -242,7 +242,7 @@ fn good(r: &mut Random, kind: Kind, sample: &Sample) -> Lent {
             }
             lent.input = set.into_iter().map(|one| one as u8).collect();
         }
-        Kind::Peel => {
+        Kind::Peel | Kind::Determine => {
             lent.word = elimination::combine(&sample.basis, bits, || r.chance(500));
             erase(r, &mut lent.word, matrix.n);
         }
@@ -298,7 +298,9 @@ fn damages(kind: Kind) -> Vec<Damage> {
         Kind::TakeBack => &[Nothing, Nothing, NotBack, NotBack, NotBack],
         Kind::Orthogonalise => &[Full],
         Kind::Verify | Kind::Extend | Kind::IsStopping => &[Lengths, Lengths, Bytes, Bytes, Bytes],
-        Kind::Peel => &[Lengths, Lengths, Bytes, Bytes, Contradiction, Contradiction, Contradiction, Contradiction],
+        Kind::Peel | Kind::Determine => {
+            &[Lengths, Lengths, Bytes, Bytes, Contradiction, Contradiction, Contradiction, Contradiction]
+        }
         Kind::Rank => &[Extended, Extended],
         Kind::Encode => &[Extended, Lengths, Lengths, Bytes, Bytes],
     });
@@ -530,7 +532,7 @@ fn apply(r: &mut Random, damage: Damage, matrix: &Matrix, lent: &mut Lent) {
         Damage::LowShare => (lent.u, lent.v) = (r.below(matrix.bits()), r.below(matrix.bits())),
         Damage::Lengths => match lent.kind {
             Kind::Verify | Kind::IsStopping => resized(r, &mut lent.input, matrix),
-            Kind::Peel => resized(r, &mut lent.word, matrix),
+            Kind::Peel | Kind::Determine => resized(r, &mut lent.word, matrix),
             _ => {
                 let both = r.below(3);
                 if both != 1 {
@@ -542,7 +544,7 @@ fn apply(r: &mut Random, damage: Damage, matrix: &Matrix, lent: &mut Lent) {
             }
         },
         Damage::Bytes => match lent.kind {
-            Kind::Peel => bad_bytes(r, &mut lent.word, 2),
+            Kind::Peel | Kind::Determine => bad_bytes(r, &mut lent.word, 2),
             Kind::Verify => bad_bytes(r, &mut lent.input, 2),
             _ => bad_bytes(r, &mut lent.input, 1),
         },
@@ -746,7 +748,7 @@ struct Tally {
     /// Answers whose first value is 1, and those whose first value is 0.
     yes: usize,
     no: usize,
-    /// Peelings that recover some sent bits and leave others, and those that do so in the added bits.
+    /// Peelings and determinings that recover some sent bits and leave others, and those that do so in the added bits.
     partly: [usize; 2],
 }
 
@@ -772,7 +774,7 @@ pub fn run(named: &[Kind]) -> Result<usize, String> {
                     Some(1) => tally.yes += 1,
                     _ => {}
                 }
-                if kind == Kind::Peel {
+                if matches!(kind, Kind::Peel | Kind::Determine) {
                     for added in 0..2 {
                         tally.partly[added] += (reply.values[added] > 0 && reply.values[2 + added] > 0) as usize;
                     }
@@ -818,7 +820,7 @@ pub fn run(named: &[Kind]) -> Result<usize, String> {
             || tally.answers > CALLS * 3 / 5
             || yes_no && (tally.yes < 1000 || tally.no < 1000)
             || kind == Kind::TakeBack && (tally.yes < 200 || tally.no < 200 || tally.refusals[16] < 500)
-            || kind == Kind::Peel && (tally.partly[0] < 1000 || tally.partly[1] < 500);
+            || matches!(kind, Kind::Peel | Kind::Determine) && (tally.partly[0] < 1000 || tally.partly[1] < 500);
         if few {
             return Err(format!("the inputs of {} are too much alike: a fault of this program", kind.name()));
         }

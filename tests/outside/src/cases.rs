@@ -379,7 +379,8 @@ fn methods(t: &mut Tally) -> Result<(), String> {
                 (0..bits).filter(|&b| tried[b] != known[b]).collect::<Vec<_>>().iter().for_each(|&b| known[b] = 2);
             }
         }
-        t.same("elimination", elimination::decode(&matrix, &word), agreeing)?;
+        t.same("elimination", &elimination::decode(&matrix, &word), &agreeing)?;
+        t.same("determining", matrix.determine_by_values(&word), agreeing)?;
 
         let pairs = matrix.pairs();
         if !pairs.is_empty() && matrix.k < model::ADDED_MOST {

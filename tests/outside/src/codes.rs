@@ -9,9 +9,9 @@ use crate::random::Random;
 use parity::{Peeled, Refusal};
 
 /// A parity-check matrix with its name and, if it is known, the dimension of its code.
-struct Code {
-    name: String,
-    matrix: Matrix,
+pub struct Code {
+    pub name: String,
+    pub matrix: Matrix,
     dimension: Option<usize>,
 }
 
@@ -74,7 +74,7 @@ fn bch(d: usize, polynomial: usize, t: usize) -> Matrix {
     Matrix::given(n, &list)
 }
 
-fn published() -> Vec<Code> {
+pub fn published() -> Vec<Code> {
     let mut all = vec![
         code("Golay, 23 checks".to_string(), cases::l(23), 12),
         code("Golay, 11 checks".to_string(), cases::l(11), 12),
@@ -110,7 +110,7 @@ fn published() -> Vec<Code> {
     all
 }
 
-fn random_codes(r: &mut Random) -> Vec<Code> {
+pub fn random_codes(r: &mut Random) -> Vec<Code> {
     let mut all = Vec::new();
     let mut add = |name: &str, matrix: Matrix| all.push(Code { name: name.to_string(), matrix, dimension: None });
     for _ in 0..3 {

@@ -1,5 +1,7 @@
 //! Tests of the library from outside. `outside` runs all parts; `outside model`, `calls`, `losses`, `records`,
 //! `taking_back`, `stack`, `demand3`, `codes`, `mend` run the parts named, and the name of a call, as `outside peel`, runs that kind of
+//! Tests of the library from outside. `outside` runs all parts; `outside model`, `calls`, `losses`, `taking_back`,
+//! `determining`, `stack`, `demand3`, `codes`, `mend` run the parts named, and the name of a call, as `outside peel`, runs that kind of
 //! call alone. Ends with a status that is not 0 at the first difference, with the whole input that shows it.
 //! OUTSIDE_LAST=FILE keeps the input of the last call in FILE.
 
@@ -10,6 +12,7 @@ mod cases;
 mod codes;
 mod compare;
 mod demand3;
+mod determining;
 mod elimination;
 mod generate;
 mod library;
@@ -26,6 +29,8 @@ use std::process::ExitCode;
 use std::time::Instant;
 
 const PARTS: [&str; 9] = ["model", "calls", "losses", "records", "taking_back", "stack", "demand3", "codes", "mend"];
+const PARTS: [&str; 9] =
+    ["model", "calls", "losses", "taking_back", "determining", "stack", "demand3", "codes", "mend"];
 
 /// What became of a part: its number of comparisons and a note, or why it was skipped.
 enum Outcome {
@@ -58,6 +63,7 @@ fn run(part: &str, kinds: &[Kind]) -> Result<Outcome, String> {
         "losses" => same(losses::run()),
         "records" => noted(records::run()),
         "taking_back" => noted(taking_back::run()),
+        "determining" => noted(determining::run()),
         "stack" => noted(stack::run()),
         "demand3" => noted(demand3::run()),
         "codes" => noted(codes::run()),

@@ -26,6 +26,7 @@ enum Call {
     Extend,
     IsStopping,
     Peel,
+    Determine,
     Rank,
     Encode,
     HouseCode,
@@ -62,6 +63,7 @@ fn in_plain(job: &mut Job) -> u32 {
         Call::Extend => plain::extend(&job.words, n, m, k, &job.input, &mut job.word, values),
         Call::IsStopping => plain::is_stopping(&job.words, n, m, k, &job.input, values),
         Call::Peel => plain::peel(&job.words, n, m, k, &mut job.word, values),
+        Call::Determine => plain::determine(&job.words, n, m, k, &mut job.word, values),
         Call::Rank => plain::rank(&job.words, n, m, k, values),
         Call::Encode => plain::encode(&job.words, n, m, k, &job.input, &mut job.word, values),
         Call::HouseCode => plain::house_code(job.name, &mut job.words, values),
@@ -93,6 +95,7 @@ fn in_library(job: &mut Job) -> u32 {
                 ffi::parity_is_stopping(words, words_len, n, m, k, input, input_len, values, values_len)
             }
             Call::Peel => ffi::parity_peel(words, words_len, n, m, k, word, word_len, values, values_len),
+            Call::Determine => ffi::parity_determine(words, words_len, n, m, k, word, word_len, values, values_len),
             Call::Rank => ffi::parity_rank(words, words_len, n, m, k, values, values_len),
             Call::Encode => {
                 ffi::parity_encode(words, words_len, n, m, k, input, input_len, word, word_len, values, values_len)
@@ -122,7 +125,7 @@ fn timed(run: fn(&mut Job) -> u32, job: &Job, scratch: &mut Job, times: u64, clo
     }
     let start = Instant::now();
     for _ in 0..times {
-        if job.call == Call::Peel {
+        if matches!(job.call, Call::Peel | Call::Determine) {
             scratch.word.copy_from_slice(&job.word);
         }
         black_box(run(black_box(scratch)));
@@ -314,6 +317,7 @@ fn jobs(r: &mut Random, given: &Case, case: &Case) -> Vec<(String, Job)> {
     let mut job = case.job(Call::IsStopping);
     job.input = vec![1; case.n + case.k];
     row("is_stopping", job);
+    let mut eliminated = Vec::new();
     for part in [10, 30, 45] {
         let mut job = case.job(Call::Peel);
         job.word = word.clone();
@@ -326,7 +330,16 @@ fn jobs(r: &mut Random, given: &Case, case: &Case) -> Vec<(String, Job)> {
             }
             job.word[b] = 2;
         }
-        row(&format!("peel {part} %"), job);
+        row(&format!("peel {part} %"), job.clone());
+        eliminated.push((format!("determine {part} %"), job));
+    }
+    let mut job = case.job(Call::Peel);
+    job.word = word;
+    row("peel, nothing erased", job.clone());
+    eliminated.push(("determine, nothing erased".to_string(), job));
+    for (name, mut job) in eliminated {
+        job.call = Call::Determine;
+        row(&name, job);
     }
     if case.k == 0 {
         let mut values = [0; VALUES_MOST];

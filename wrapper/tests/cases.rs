@@ -1,10 +1,6 @@
-//! Cases A to K of document 01, cases of taking back and the house codes (document 02), through the wrapper.
+//! Cases A to K of document 01, cases of taking back, determining and the house codes (document 02), through the wrapper.
 
-use parity::{HouseCode, Loaded, Orthogonalised, Peeled, Refusal, Split, TakenBack, WORDS};
-
-//! Cases A to K of document 01 and cases of taking back and determining (document 02), through the wrapper.
-
-use parity::{Determined, Loaded, Orthogonalised, Peeled, Refusal, Split, TakenBack, WORDS};
+use parity::{Determined, HouseCode, Loaded, Orthogonalised, Peeled, Refusal, Split, TakenBack, WORDS};
 
 fn matrix(checks: &[&[usize]]) -> Vec<u64> {
     let mut words = vec![0; WORDS];

@@ -1,7 +1,5 @@
 //! Tests of the library from outside. `outside` runs all parts; `outside model`, `calls`, `losses`, `records`,
-//! `taking_back`, `stack`, `demand3`, `codes`, `mend` run the parts named, and the name of a call, as `outside peel`, runs that kind of
-//! Tests of the library from outside. `outside` runs all parts; `outside model`, `calls`, `losses`, `taking_back`,
-//! `determining`, `stack`, `demand3`, `codes`, `mend` run the parts named, and the name of a call, as `outside peel`, runs that kind of
+//! `taking_back`, `determining`, `stack`, `demand3`, `codes`, `mend` run the parts named, and the name of a call, as `outside peel`, runs that kind of
 //! call alone. Ends with a status that is not 0 at the first difference, with the whole input that shows it.
 //! OUTSIDE_LAST=FILE keeps the input of the last call in FILE.
 
@@ -28,9 +26,8 @@ use model::{Kind, KINDS};
 use std::process::ExitCode;
 use std::time::Instant;
 
-const PARTS: [&str; 9] = ["model", "calls", "losses", "records", "taking_back", "stack", "demand3", "codes", "mend"];
-const PARTS: [&str; 9] =
-    ["model", "calls", "losses", "taking_back", "determining", "stack", "demand3", "codes", "mend"];
+const PARTS: [&str; 10] =
+    ["model", "calls", "losses", "records", "taking_back", "determining", "stack", "demand3", "codes", "mend"];
 
 /// What became of a part: its number of comparisons and a note, or why it was skipped.
 enum Outcome {

@@ -28,7 +28,7 @@ reduce-in-requires c κs =
     let g = c .before .before .before in
     let s = g .before .before .before .before .before .before .before in
     let some : g .gather .result ≤ 512 = omega (arith, g .gather .ensures .few, s .pre .0 .2) in
-    (omega (arith, g .gather .kept .1 .1 .1 .1 .0, few-words (g .gather .result) (s .args .width) some (s .pre .0 .7)), s .pre .0 .7, omega (arith, s .pre .0 .3, s .pre .0 .7), some)
+    (omega (arith, g .gather .kept .1 .1 .1 .1 .0, s .pre .0 .7, few-words (g .gather .result) (s .args .width) some (s .pre .0 .7)), s .pre .0 .7, omega (arith, s .pre .0 .3, s .pre .0 .7), omega (arith, some))
 
 slice-aggregate-even-from : tie.Need-slice-aggregate-even-from
 slice-aggregate-even-from c = search needs

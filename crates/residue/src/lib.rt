@@ -45,8 +45,8 @@ fn eliminate(
     true
 }
 
-// Elimination in rows of as many words as the bits take, and writing. It is called at two places, so that the compiler leaves it a function of its
-// own: its rows are then on the stack while they are used, and not while the matrix is accepted.
+// Elimination in rows of as many words as the bits take, and writing. `eliminate` is called at two places, so that the compiler leaves it a
+// function of its own: its rows are then on the stack while they are used, and not while the matrix is accepted.
 fn finish_left(
     words: &[u64],
     bits: usize,

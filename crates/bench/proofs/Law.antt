@@ -38,17 +38,18 @@ is-word N top w e =
     }
 
 -- what orthogonalising came to, where its test is true
-came-to : (o : Orthogonalised) (n m splits total k : ℕ) (after : List (List ℕ)) → Sound (o .matrix) n m (o .k)
-    → orthogonalises o n m splits total k after ≡ true
-    → (orthogonalisedReply o ≡ answer (splits ∷ total ∷ k ∷ [])) × (pack 8 (o .matrix) ≡ wordsOf after)
+came-to : (o : Orthogonalised) (n m splits total k : ℕ) (named : List ℕ) (after : List (List ℕ)) → Sound (o .matrix) n m (o .k)
+    → orthogonalises o n m splits total k named after ≡ true
+    → (orthogonalisedReply o ≡ answer (splits ∷ total ∷ k ∷ named)) × (pack 8 (o .matrix) ≡ wordsOf after)
 unfolding orthogonalisedReply orthogonalises wordsOf
-came-to o n m splits total k after S e =
-    let (e₁, f) = and-eq-true-iff (o .finished && eqb (o .splits) splits && eqb (o .sum) total && eqb (o .k) k && agree (n + k) (m + k) (o .matrix) (listed after)) _ .0 e in
-    let (e₂, g) = and-eq-true-iff (o .finished && eqb (o .splits) splits && eqb (o .sum) total && eqb (o .k) k) _ .0 e₁ in
+came-to o n m splits total k named after S e =
+    let (e₁, f) = and-eq-true-iff (o .finished && eqb (o .splits) splits && eqb (o .sum) total && eqb (o .k) k && sameList (o .held) named && agree (n + k) (m + k) (o .matrix) (listed after)) _ .0 e in
+    let (e₅, g) = and-eq-true-iff (o .finished && eqb (o .splits) splits && eqb (o .sum) total && eqb (o .k) k && sameList (o .held) named) _ .0 e₁ in
+    let (e₂, a) = and-eq-true-iff (o .finished && eqb (o .splits) splits && eqb (o .sum) total && eqb (o .k) k) _ .0 e₅ in
     let (e₃, p) = and-eq-true-iff (o .finished && eqb (o .splits) splits && eqb (o .sum) total) _ .0 e₂ in
     let (e₄, q) = and-eq-true-iff (o .finished && eqb (o .splits) splits) _ .0 e₃ in
     let (r, s) = and-eq-true-iff (o .finished) _ .0 e₄ in (
-      rw (r, eqb-true (o .splits) splits s, eqb-true (o .sum) total q, eqb-true (o .k) k p),
+      rw (r, eqb-true (o .splits) splits s, eqb-true (o .sum) total q, eqb-true (o .k) k p, same-list (o .held) named a),
       ap (pack 8) (agreed (n + k) (m + k) (o .matrix) (listed after) (rw (eqb-true (o .k) k p) at (S .clean)) (listed-sound n m k after f .clean) g),
     )
 
@@ -74,12 +75,12 @@ module _ (g : Lent) (f : fits (g .n) (g .m) (g .k) (g .checks) ≡ true) where
   law-counting : (c : ℕ) → eqb (cycles h N M) c ≡ true → Holds (counting g c)
   law-counting c e = counts ws (g .n) (g .m) (g .k) A ∙ rw (same, eqb-true (cycles h N M) c e)
 
-  law-orthogonalising : (splits total k : ℕ) (after : List (List ℕ))
-      → orthogonalises (orthogonal (393 - g .k) h (g .n) (g .m) (g .k) 0 0) (g .n) (g .m) splits total k after ≡ true
-      → Holds (orthogonalising g splits total k after)
-  law-orthogonalising splits total k after e =
-      let S = orthogonal-sound (g .n) (g .m) (393 - g .k) h (g .k) 0 0 (listed-sound (g .n) (g .m) (g .k) (g .checks) f) in
-      let (p, q) = came-to (orthogonal (393 - g .k) h (g .n) (g .m) (g .k) 0 0) (g .n) (g .m) splits total k after S e in
+  law-orthogonalising : (splits total k : ℕ) (named : List ℕ) (after : List (List ℕ))
+      → orthogonalises (orthogonal (393 - g .k) h (g .n) (g .m) (g .k) 0 0 []) (g .n) (g .m) splits total k named after ≡ true
+      → Holds (orthogonalising g splits total k named after)
+  law-orthogonalising splits total k named after e =
+      let S = orthogonal-sound (g .n) (g .m) (393 - g .k) h (g .k) 0 0 [] (listed-sound (g .n) (g .m) (g .k) (g .checks) f) in
+      let (p, q) = came-to (orthogonal (393 - g .k) h (g .n) (g .m) (g .k) 0 0 []) (g .n) (g .m) splits total k named after S e in
       all-orthogonalises ws (g .n) (g .m) (g .k) A ∙ rw (same, p, q)
 
   law-no-pair : (u v : ℕ) → notPair N u v ≡ true → Holds (splitting-no-pair g u v)
@@ -136,8 +137,8 @@ law-loading source place e ws l = rw (eq-eqb _ _ l, refused (loading source) e)
 pub law : (c : Case) → test c ≡ true → Holds c
 unfolding test
 law (counting g c) e = let (f, q) = and-eq-true-iff (fits (g .n) (g .m) (g .k) (g .checks)) _ .0 e in law-counting g f c q
-law (orthogonalising g splits total k after) e =
-    let (f, q) = and-eq-true-iff (fits (g .n) (g .m) (g .k) (g .checks)) _ .0 e in law-orthogonalising g f splits total k after q
+law (orthogonalising g splits total k named after) e =
+    let (f, q) = and-eq-true-iff (fits (g .n) (g .m) (g .k) (g .checks)) _ .0 e in law-orthogonalising g f splits total k named after q
 law (splitting-no-pair g u v) e = let (f, q) = and-eq-true-iff (fits (g .n) (g .m) (g .k) (g .checks)) _ .0 e in law-no-pair g f u v q
 law (splitting-below-two g u v s) e =
     let (d, l) = and-eq-true-iff (fits (g .n) (g .m) (g .k) (g .checks) && not (notPair (g .n + g .k) u v) && eqb (share (listed (g .checks)) (g .m + g .k) u v) s) (ltb s 2) .0 e in

@@ -35,8 +35,8 @@ wordsOf checks = pack 8 (listed checks)
 pub data Case : Type 0 where
   -- counting answers the cycle count
   counting : Lent → ℕ → Case
-  -- orthogonalising answers splits, sum and k, and leaves these checks
-  orthogonalising : Lent → ℕ → ℕ → ℕ → List (List ℕ) → Case
+  -- orthogonalising answers splits, sum and k, and the lowest and the highest check that held the final pair, and leaves these checks
+  orthogonalising : Lent → ℕ → ℕ → ℕ → List ℕ → List (List ℕ) → Case
   -- splitting u and v is refused 7
   splitting-no-pair : Lent → ℕ → ℕ → Case
   -- splitting u and v is refused 8 with the share
@@ -55,8 +55,8 @@ pub data Case : Type 0 where
 -- What a case says, in the calls' own definitions. A refusal leaves what was lent as it was.
 abbrev pub Holds : Case → Type 0
 Holds (counting g cycles) = countReply (wordsOf (g .checks)) (g .n) (g .m) (g .k) ≡ answer (cycles ∷ [])
-Holds (orthogonalising g splits total k after) =
-    orthogonaliseOutcome (wordsOf (g .checks)) (g .n) (g .m) (g .k) ≡ record { reply = answer (splits ∷ total ∷ k ∷ []); after = wordsOf after }
+Holds (orthogonalising g splits total k held after) =
+    orthogonaliseOutcome (wordsOf (g .checks)) (g .n) (g .m) (g .k) ≡ record { reply = answer (splits ∷ total ∷ k ∷ held); after = wordsOf after }
 Holds (splitting-no-pair g u v) =
     splitOutcome (wordsOf (g .checks)) (g .n) (g .m) (g .k) u v ≡ record { reply = refusal 7 []; after = wordsOf (g .checks) }
 Holds (splitting-below-two g u v s) =

@@ -37,9 +37,9 @@ fits n m k checks = inRange n m k && allBelow (n + k) checks && leb (length chec
 unfoldable pub agree : ℕ → ℕ → Matrix → Matrix → Bool
 agree N M g h = all M (λ c. all N (λ b. Bool·beq (g c b) (h c b)))
 
-unfoldable pub orthogonalises : Orthogonalised → ℕ → ℕ → ℕ → ℕ → ℕ → List (List ℕ) → Bool
-orthogonalises o n m splits total k after =
-    o .finished && eqb (o .splits) splits && eqb (o .sum) total && eqb (o .k) k && agree (n + k) (m + k) (o .matrix) (listed after)
+unfoldable pub orthogonalises : Orthogonalised → ℕ → ℕ → ℕ → ℕ → ℕ → List ℕ → List (List ℕ) → Bool
+orthogonalises o n m splits total k held after =
+    o .finished && eqb (o .splits) splits && eqb (o .sum) total && eqb (o .k) k && sameList (o .held) held && agree (n + k) (m + k) (o .matrix) (listed after)
     && fits n m k after
 
 -- a word of N bytes up to top
@@ -57,9 +57,9 @@ faultyAt (loaded n m h) place = false
 
 unfoldable pub test : Case → Bool
 test (counting g c) = fits (g .n) (g .m) (g .k) (g .checks) && eqb (cycles (listed (g .checks)) (g .n + g .k) (g .m + g .k)) c
-test (orthogonalising g splits total k after) =
+test (orthogonalising g splits total k held after) =
     fits (g .n) (g .m) (g .k) (g .checks)
-    && orthogonalises (orthogonal (393 - g .k) (listed (g .checks)) (g .n) (g .m) (g .k) 0 0) (g .n) (g .m) splits total k after
+    && orthogonalises (orthogonal (393 - g .k) (listed (g .checks)) (g .n) (g .m) (g .k) 0 0 []) (g .n) (g .m) splits total k held after
 test (splitting-no-pair g u v) = fits (g .n) (g .m) (g .k) (g .checks) && notPair (g .n + g .k) u v
 test (splitting-below-two g u v s) =
     fits (g .n) (g .m) (g .k) (g .checks) && not (notPair (g .n + g .k) u v) && eqb (share (listed (g .checks)) (g .m + g .k) u v) s && ltb s 2

@@ -34,7 +34,7 @@ pub extern "C" fn parity_write(
     reply::pass(numbered, values)
 }
 
-// Carries the share.
+// Carries the share and, if it is above 0, the lowest and the highest check that contain both bits.
 #[no_mangle]
 pub extern "C" fn parity_share(
     words: &[u64],
@@ -68,7 +68,7 @@ pub extern "C" fn parity_count(
     reply::pass(numbered, values)
 }
 
-// Carries the share and the new k.
+// Carries the share, the new k, and the lowest and the highest check that contained both bits.
 #[no_mangle]
 pub extern "C" fn parity_split(
     words: &mut [u64],
@@ -104,7 +104,8 @@ pub extern "C" fn parity_take_back(
     reply::pass(numbered, values)
 }
 
-// Carries the number of splits, their sum and k, also when refused 9.
+// Carries the number of splits, their sum, k and, if it made a split, the lowest and the highest check that held the pair of the final one, also when
+// refused 9.
 #[no_mangle]
 pub extern "C" fn parity_orthogonalise(
     words: &mut [u64],

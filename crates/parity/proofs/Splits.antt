@@ -8,5 +8,6 @@ pub mod Undo
 pub mod Given
 pub mod Pick
 pub mod Orthogonal
+pub mod Holders
 pub mod Splitting
 pub mod MadeSplit

@@ -7,7 +7,7 @@ use lib.Dec.{eqb, ltb}
 use lib.ListN.{getD, length, drop}
 use Rattle.parity.specs.Finite.{one, any, least, listFrom}
 use Rattle.parity.specs.Matrix.{lent, pack, ruleA, cause}
-use Rattle.parity.specs.Cycles.{share, cycles, splitOf, takenBack, others, Orthogonalised, orthogonal}
+use Rattle.parity.specs.Cycles.{share, heldBy, cycles, splitOf, takenBack, others, Orthogonalised, orthogonal}
 use Rattle.parity.specs.Words.{isOne, codeword, extended, stopping, peels, peeled, losses}
 use Rattle.parity.specs.Determining.{someAgrees, determined}
 use Rattle.parity.specs.Record.{Loaded, faulty, loaded, loading, written}
@@ -67,23 +67,23 @@ writeOutcome ws n m k target =
     (answer (length out ∷ [])))))
     (out ++ drop (length out) target)
 
--- share: answers the share of two different bits
+-- share: answers the share of two different bits, and the lowest and the highest check that contain both
 unfoldable pub shareReply : List ℕ → ℕ → ℕ → ℕ → ℕ → ℕ → Reply
 shareReply ws n m k u v =
-    accepting ws n m k (refuse (notPair (n + k) u v) (refusal 7 []) (answer (share (lent 8 ws) (m + k) u v ∷ [])))
+    accepting ws n m k (refuse (notPair (n + k) u v) (refusal 7 []) (answer (share (lent 8 ws) (m + k) u v ∷ heldBy (lent 8 ws) (m + k) u v)))
 
 -- count: answers the cycle count
 unfoldable pub countReply : List ℕ → ℕ → ℕ → ℕ → Reply
 countReply ws n m k = accepting ws n m k (answer (cycles (lent 8 ws) (n + k) (m + k) ∷ []))
 
--- split: answers the share and the new k
+-- split: answers the share, the new k, and the lowest and the highest check that contained both bits
 unfoldable pub splitReply : List ℕ → ℕ → ℕ → ℕ → ℕ → ℕ → Reply
 splitReply ws n m k u v =
     accepting ws n m k
     (refuse (notPair (n + k) u v) (refusal 7 [])
     (refuse (ltb (share (lent 8 ws) (m + k) u v) 2) (refusal 8 (share (lent 8 ws) (m + k) u v ∷ []))
     (refuse (eqb k 392) (refusal 9 [])
-    (answer (share (lent 8 ws) (m + k) u v ∷ suc k ∷ [])))))
+    (answer (share (lent 8 ws) (m + k) u v ∷ suc k ∷ heldBy (lent 8 ws) (m + k) u v)))))
 
 unfoldable pub splitOutcome : List ℕ → ℕ → ℕ → ℕ → ℕ → ℕ → Outcome
 splitOutcome ws n m k u v = leaving ws (splitReply ws n m k u v) (pack 8 (splitOf (lent 8 ws) (n + k) (m + k) u v))
@@ -100,12 +100,13 @@ takeBackReply ws n m k =
 unfoldable pub takeBackOutcome : List ℕ → ℕ → ℕ → ℕ → Outcome
 takeBackOutcome ws n m k = leaving ws (takeBackReply ws n m k) (pack 8 (takenBack (lent 8 ws) (n + (k - 1)) (m + (k - 1))))
 
--- orthogonalise: answers the number of splits, their sum and k, or is refused 9 with them; either way the matrix stands after the splits made
+-- orthogonalise: answers the number of splits, their sum and k, and the lowest and the highest check that held the pair of the final split, or is
+-- refused 9 with them; either way the matrix stands after the splits made
 abbrev pub orthogonalising : List ℕ → ℕ → ℕ → ℕ → Orthogonalised
-orthogonalising ws n m k = orthogonal (393 - k) (lent 8 ws) n m k 0 0
+orthogonalising ws n m k = orthogonal (393 - k) (lent 8 ws) n m k 0 0 []
 
 unfoldable pub orthogonalisedReply : Orthogonalised → Reply
-orthogonalisedReply o = cond (o .finished) (answer (o .splits ∷ o .sum ∷ o .k ∷ [])) (refusal 9 (o .splits ∷ o .sum ∷ o .k ∷ []))
+orthogonalisedReply o = cond (o .finished) (answer (o .splits ∷ o .sum ∷ o .k ∷ o .held)) (refusal 9 (o .splits ∷ o .sum ∷ o .k ∷ o .held))
 
 unfoldable pub orthogonaliseOutcome : List ℕ → ℕ → ℕ → ℕ → Outcome
 orthogonaliseOutcome ws n m k =

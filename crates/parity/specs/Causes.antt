@@ -4,6 +4,8 @@ use mathlib.Core.Bool.{Bool, cond}
 use mathlib.Core.List.{List, [], _∷_}
 use lib.Dec.{eqb}
 use Rattle.parity.specs.Matrix.{cause}
+use Rattle.parity.specs.declared.Holders.{Holders}
+use Rattle.parity.specs.declared.Holders.the-variants.{None, Both}
 use Rattle.parity.specs.declared.Refusal.{Refusal}
 use Rattle.parity.specs.declared.Refusal.the-variants.{MatrixLength, OutOfRange, OneOutside, RuleABroken, FaultyWord, RecordTooShort, NotAPair, ShareBelowTwo, NoRoomToSplit, NoRoomLeft, WrongLength, WrongByte, Contradiction, AddedBits, ProgramInput, NothingToTakeBack, CannotTakeBack, UnknownName}
 
@@ -18,6 +20,11 @@ answer vs = record { number = 0; values = vs }
 abbrev pub refusal : ℕ → List ℕ → Reply
 refusal c vs = record { number = c; values = vs }
 
+-- the checks that hold a pair, as the values carried: none of either, or the lowest and the highest (M-106)
+abbrev pub heldValues : Holders → List ℕ
+heldValues None = []
+heldValues (Both lowest highest) = lowest .0 ∷ highest .0 ∷ []
+
 -- the table: the number and the values of each cause
 abbrev pub refusalOf : Refusal → Reply
 refusalOf MatrixLength = refusal 1 []
@@ -29,7 +36,7 @@ refusalOf (RecordTooShort needed) = refusal 6 (needed ∷ [])
 refusalOf NotAPair = refusal 7 []
 refusalOf (ShareBelowTwo s) = refusal 8 (s ∷ [])
 refusalOf NoRoomToSplit = refusal 9 []
-refusalOf (NoRoomLeft splits total k) = refusal 9 (splits ∷ total ∷ k ∷ [])
+refusalOf (NoRoomLeft splits total k held) = refusal 9 (splits ∷ total ∷ k ∷ heldValues held)
 refusalOf WrongLength = refusal 10 []
 refusalOf (WrongByte place) = refusal 11 (place ∷ [])
 refusalOf Contradiction = refusal 12 []

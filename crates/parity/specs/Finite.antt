@@ -39,6 +39,15 @@ unfoldable pub least : ℕ → (ℕ → Bool) → ℕ
 least zero p = 0
 least (suc n) p = cond (any n p) (least n p) (cond (p n) n (suc n))
 
+-- the largest of 0 .. n - 1 that passes the test, and 0 if none does
+unfoldable pub greatest : ℕ → (ℕ → Bool) → ℕ
+greatest zero p = 0
+greatest (suc n) p = cond (p n) n (greatest n p)
+
+-- the smallest and the largest of 0 .. n - 1 that pass the test, in a list, and none of either if none does
+unfoldable pub outermost : ℕ → (ℕ → Bool) → List ℕ
+outermost n p = cond (any n p) (least n p ∷ greatest n p ∷ []) []
+
 -- some set of the numbers below n, of all 2 ^ n, passes the test
 unfoldable pub anySet : ℕ → ((ℕ → Bool) → Bool) → Bool
 anySet zero p = p (λ i. false)

@@ -1,4 +1,4 @@
-// The types that the calls share: the numbers of bits and of checks, the forms of a record, and the refusals.
+// The types that the calls share: the numbers of bits and of checks, the checks that hold a pair, the forms of a record, and the refusals.
 ghost use mathlib.Core.Path.{_≡_};
 ghost use Rattle.parity.specs.Causes.{refusalOf};
 
@@ -7,6 +7,12 @@ pub struct Bit(pub usize);
 
 // A check's number: given checks first, then added ones.
 pub struct Check(pub usize);
+
+// The checks that hold a pair: none of either, or the lowest and the highest.
+pub enum Holders {
+    None,
+    Both(Check, Check),
+}
 
 // The form of a record: the second has the number of each check written out.
 pub enum Form {
@@ -25,21 +31,34 @@ pub enum Refusal {
     // 4: rule A is broken.
     RuleABroken,
     // 5: a faulty record word, at a place counted from 0.
-    FaultyWord { place: usize },
+    FaultyWord {
+        place: usize,
+    },
     // 6: the lent record is too short to write.
-    RecordTooShort { needed: usize },
+    RecordTooShort {
+        needed: usize,
+    },
     // 7: u = v, or either is at n+k or above.
     NotAPair,
     // 8: the share is below two.
-    ShareBelowTwo { share: u64 },
+    ShareBelowTwo {
+        share: u64,
+    },
     // 9: k = 392, and a split was asked for.
     NoRoomToSplit,
     // 9: k = 392, and a pair is left to be split after the splits made.
-    NoRoomLeft { splits: u64, sum: u64, k: usize },
+    NoRoomLeft {
+        splits: u64,
+        sum: u64,
+        k: usize,
+        held: Holders,
+    },
     // 10: a word, message or set of wrong length.
     WrongLength,
     // 11: a byte outside the values named, at the lowest place.
-    WrongByte { place: usize },
+    WrongByte {
+        place: usize,
+    },
     // 12: a contradiction in peeling.
     Contradiction,
     // 13: k is above 0 in writing, rank or encoding.
@@ -72,6 +91,7 @@ pub fn number(r: Refusal) -> u64
             splits: _,
             sum: _,
             k: _,
+            held: _,
         } => 9,
         Refusal::WrongLength => 10,
         Refusal::WrongByte { place: _ } => 11,

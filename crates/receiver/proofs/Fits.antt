@@ -102,9 +102,9 @@ record Few (k splits total : ℕ) : Type 0 where
   made : splits ≤ k
   carried : total ≤ 130816 * k
 
-split-few : (n m : ℕ) → m ≤ 120 → (h : Matrix) (k splits total : ℕ) → Few k splits total → 2 ≤ largestShare h (n + k) (m + k) → (k ≡ 392 → ⊥)
+split-few : (n m : ℕ) → m ≤ 120 → (h : Matrix) (k splits total : ℕ) (held : List ℕ) → Few k splits total → 2 ≤ largestShare h (n + k) (m + k) → (k ≡ 392 → ⊥)
     → Few (suc k) (suc splits) (total + pairs (largestShare h (n + k) (m + k)))
-split-few n m b h k splits total F l d =
+split-few n m b h k splits total held F l d =
     let s = largestShare h (n + k) (m + k) in
     let (i, j, e) = picked h (n + k) (m + k) (omega arith) in
     let most : s ≤ m + k = rw (← e) (unfold share in count-bound (m + k) _) in
@@ -117,7 +117,7 @@ split-few n m b h k splits total F l d =
 
 orthogonal-few : (ws : List ℕ) (n m : ℕ) → m ≤ 120 → let o = fromZero ws n m in Few (o .k) (o .splits) (o .sum)
 orthogonal-few ws n m b =
-    keeps n m (λ h k splits total. Few k splits total) (split-few n m b) 393 (lent 8 ws) 0 0 0
+    keeps n m (λ h k splits total held. Few k splits total) (split-few n m b) 393 (lent 8 ws) 0 0 0 []
     record { added = omega arith; made = omega arith; carried = omega arith }
 
 -- each stage's text

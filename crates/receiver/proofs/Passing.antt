@@ -65,10 +65,10 @@ answered-accepted ws n m e =
 
 -- what it comes to from k = 0
 abbrev pub fromZero : List ℕ → ℕ → ℕ → Orthogonalised
-fromZero ws n m = orthogonal 393 (lent 8 ws) n m 0 0 0
+fromZero ws n m = orthogonal 393 (lent 8 ws) n m 0 0 0 []
 
 pub orthogonalise-values : (ws : List ℕ) (n m : ℕ) → Accepted ws n m 0
-    → let o = fromZero ws n m in (orthogonaliseOutcome ws n m 0 .reply .values ≡ o .splits ∷ o .sum ∷ o .k ∷ [])
+    → let o = fromZero ws n m in (orthogonaliseOutcome ws n m 0 .reply .values ≡ o .splits ∷ o .sum ∷ o .k ∷ o .held)
 unfolding orthogonalisedReply
 orthogonalise-values ws n m A = ap (λ (y : Outcome). y .reply .values) (orthogonalises ws n m 0 A) ∙ carried (fromZero ws n m .finished) _
 
@@ -78,7 +78,7 @@ module _ (ws : List ℕ) (n m : ℕ) where
   unfolding orthogonaliseText
   orthogonalise-refused sent r e = unless r _ _ e
 
-  module _ (splits total k : ℕ) (e : answer (splits ∷ total ∷ k ∷ []) ≡ orthogonaliseOutcome ws n m 0 .reply) where
+  module _ (splits total k : ℕ) (held : List ℕ) (e : answer (splits ∷ total ∷ k ∷ held) ≡ orthogonaliseOutcome ws n m 0 .reply) where
     pub orthogonalise-passes : (sent : List ℕ)
         → peelText (orthogonaliseOutcome ws n m 0 .after) n m k splits total (sent ++ replicate k 2) ≡ orthogonaliseText ws n m sent
     unfolding orthogonaliseText unlessRefused

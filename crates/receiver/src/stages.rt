@@ -84,16 +84,12 @@ fn orthogonalise(out: &mut [u8], words: &mut [u64], n: usize, m: usize, sent: &[
 {
     match split::orthogonalise(words, n, m, 0) {
         Orthogonalising::Refused(r) => put_refused(out, r),
-        Orthogonalising::Finished { splits, sum, k } => peel_sent(
-            out,
-            words,
-            n,
-            m,
-            k,
+        Orthogonalising::Finished {
             splits,
             sum,
-            sent,
-        ),
+            k,
+            held: _,
+        } => peel_sent(out, words, n, m, k, splits, sum, sent),
     }
 }
 

@@ -30,3 +30,7 @@ bare number old e = rw (sym e) (record { number = refl; values = fill-none old }
 -- passing a reply is passing an equal one
 pub same : {p q : Reply} {old new : List ℕ} {r : ℕ} → p ≡ q → Passed p old new r → Passed q old new r
 same e h = rw (sym e) h
+
+-- values at the front are passed
+pub front : {vs old new : List ℕ} (number : ℕ) → new ≡ filled vs old → Passed (refusal number vs) old new number
+front number e = record { number = refl; values = e }

@@ -6,7 +6,7 @@ use Prim.Native.Nat.{ℕ}
 use lib.ListN.{length, take, drop}
 use Rattle.parity.specs.Causes.{Reply, refusal}
 use Rattle.reply.specs.declared.Numbered.{Numbered}
-use Rattle.reply.specs.declared.Numbered.the-variants.{Alone, One, Two, Three, Four}
+use Rattle.reply.specs.declared.Numbered.the-variants.{Alone, One, Two, Three, Four, Five}
 
 abbrev pub numberedReply : Numbered → Reply
 numberedReply (Alone number) = refusal number []
@@ -14,6 +14,7 @@ numberedReply (One number a) = refusal number (a ∷ [])
 numberedReply (Two number a b) = refusal number (a ∷ b ∷ [])
 numberedReply (Three number a b c) = refusal number (a ∷ b ∷ c ∷ [])
 numberedReply (Four number a b c d) = refusal number (a ∷ b ∷ c ∷ d ∷ [])
+numberedReply (Five number a b c d e) = refusal number (a ∷ b ∷ c ∷ d ∷ e ∷ [])
 
 -- the values fill the first elements as far as the list reaches; its other elements are left
 unfoldable pub filled : List ℕ → List ℕ → List ℕ

@@ -5,6 +5,7 @@ use determine::Determining;
 use encode::Encoding;
 use encode::Ranking;
 use house::Copying;
+use parity::Holders;
 use parity::Refusal;
 use peel::Peeling;
 use record::Loading;
@@ -16,8 +17,9 @@ use word::Extending;
 use word::Stopping;
 use word::Verifying;
 ghost use mathlib.Core.Path.{_≡_};
+ghost use mathlib.Core.List.{[], _∷_};
 ghost use lib.ListN.{set};
-ghost use Rattle.parity.specs.Causes.{refusalOf};
+ghost use Rattle.parity.specs.Causes.{refusal, heldValues, refusalOf};
 ghost use Rattle.record.specs.Answers.{loadingReply, writingReply};
 ghost use Rattle.cycles.specs.Answers.{sharingReply, countingReply};
 ghost use Rattle.split.specs.Answers.{splittingReply, takingBackReply, orthogonalisingReply};
@@ -27,7 +29,7 @@ ghost use Rattle.peel.specs.Answers.{peelingReply};
 ghost use Rattle.determine.specs.Answers.{determiningReply};
 ghost use Rattle.encode.specs.Answers.{rankingReply, encodingReply};
 ghost use Rattle.house.specs.Answers.{copyingReply};
-ghost use Rattle.reply.specs.Passed.{numberedReply, Passed};
+ghost use Rattle.reply.specs.Passed.{numberedReply, Passed, filled};
 
 // A number and the values that it carries.
 pub enum Numbered {
@@ -36,6 +38,45 @@ pub enum Numbered {
     Two(u32, u64, u64),
     Three(u32, u64, u64, u64),
     Four(u32, u64, u64, u64, u64),
+    Five(u32, u64, u64, u64, u64, u64),
+}
+
+// A number with one value and the checks that hold a pair.
+fn one_held(number: u32, first: u64, held: Holders) -> Numbered
+    ensures { λ r. ⌜ numberedReply r ≡ refusal number (first ∷ heldValues held) ⌝ }
+{
+    match held {
+        Holders::None => Numbered::One(number, first),
+        Holders::Both(low, high) => Numbered::Three(number, first, low.0 as u64, high.0 as u64),
+    }
+}
+
+// A number with two values and the checks that hold a pair.
+fn two_held(number: u32, first: u64, second: u64, held: Holders) -> Numbered
+    ensures { λ r. ⌜ numberedReply r ≡ refusal number (first ∷ second ∷ heldValues held) ⌝ }
+{
+    match held {
+        Holders::None => Numbered::Two(number, first, second),
+        Holders::Both(low, high) => Numbered::Four(
+            number,
+            first,
+            second,
+            low.0 as u64,
+            high.0 as u64,
+        ),
+    }
+}
+
+// A number with three values and the checks that hold a pair.
+fn three_held(number: u32, first: u64, second: u64, third: u64, held: Holders) -> Numbered
+    ensures { λ r. ⌜ numberedReply r ≡ refusal number (first ∷ second ∷ third ∷ heldValues held) ⌝ }
+{
+    match held {
+        Holders::None => Numbered::Three(number, first, second, third),
+        Holders::Both(low, high) => {
+            Numbered::Five(number, first, second, third, low.0 as u64, high.0 as u64)
+        }
+    }
 }
 
 // A refusal.
@@ -52,7 +93,12 @@ fn refused(why: Refusal) -> Numbered
         Refusal::NotAPair => Numbered::Alone(7),
         Refusal::ShareBelowTwo { share } => Numbered::One(8, share),
         Refusal::NoRoomToSplit => Numbered::Alone(9),
-        Refusal::NoRoomLeft { splits, sum, k } => Numbered::Three(9, splits, sum, k as u64),
+        Refusal::NoRoomLeft {
+            splits,
+            sum,
+            k,
+            held,
+        } => three_held(9, splits, sum, k as u64, held),
         Refusal::WrongLength => Numbered::Alone(10),
         Refusal::WrongByte { place } => Numbered::One(11, place as u64),
         Refusal::Contradiction => Numbered::Alone(12),
@@ -89,7 +135,7 @@ pub fn sharing(answer: Sharing) -> Numbered
     ensures { λ r. ⌜ numberedReply r ≡ sharingReply answer ⌝ }
 {
     match answer {
-        Sharing::Share(s) => Numbered::One(0, s),
+        Sharing::Share { share, held } => one_held(0, share, held),
         Sharing::Refused(why) => refused(why),
     }
 }
@@ -109,7 +155,7 @@ pub fn splitting(answer: Splitting) -> Numbered
     ensures { λ r. ⌜ numberedReply r ≡ splittingReply answer ⌝ }
 {
     match answer {
-        Splitting::Made { share, k } => Numbered::Two(0, share, k as u64),
+        Splitting::Made { share, k, held } => two_held(0, share, k as u64, held),
         Splitting::Refused(why) => refused(why),
     }
 }
@@ -129,7 +175,12 @@ pub fn orthogonalising(answer: Orthogonalising) -> Numbered
     ensures { λ r. ⌜ numberedReply r ≡ orthogonalisingReply answer ⌝ }
 {
     match answer {
-        Orthogonalising::Finished { splits, sum, k } => Numbered::Three(0, splits, sum, k as u64),
+        Orthogonalising::Finished {
+            splits,
+            sum,
+            k,
+            held,
+        } => three_held(0, splits, sum, k as u64, held),
         Orthogonalising::Refused(why) => refused(why),
     }
 }
@@ -235,6 +286,16 @@ fn put(values: &mut [u64], place: usize, value: u64)
     }
 }
 
+// Puts four values at the front, as far as the slice reaches.
+fn put_four(values: &mut [u64], first: u64, second: u64, third: u64, fourth: u64)
+    ensures { λ _. ⌜ now (values .exit) ≡ filled (first ∷ second ∷ third ∷ fourth ∷ []) (now (values .entry)) ⌝ }
+{
+    put(values, 0, first);
+    put(values, 1, second);
+    put(values, 2, third);
+    put(values, 3, fourth);
+}
+
 // Passes a reply: returns its number, and puts its values at the front of the lent slice, as far as that reaches.
 pub fn pass(reply: Numbered, values: &mut [u64]) -> u32
     ensures { λ r. ⌜ Passed (numberedReply reply) (now (values .entry)) (now (values .exit)) r ⌝ }
@@ -257,10 +318,12 @@ pub fn pass(reply: Numbered, values: &mut [u64]) -> u32
             number
         }
         Numbered::Four(number, first, second, third, fourth) => {
-            put(values, 0, first);
-            put(values, 1, second);
-            put(values, 2, third);
-            put(values, 3, fourth);
+            put_four(values, first, second, third, fourth);
+            number
+        }
+        Numbered::Five(number, first, second, third, fourth, fifth) => {
+            put_four(values, first, second, third, fourth);
+            put(values, 4, fifth);
             number
         }
     }

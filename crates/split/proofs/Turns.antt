@@ -1,25 +1,30 @@
 -- The turns of orthogonalising on words, columns and row bounds. Assumes nothing.
 use mathlib.Core.Path.{_≡_, refl, sym, _∙_}
-use mathlib.Core.Bool.{Bool, true, false, _&&_, and-false, and-eq-true-iff, false≢true}
-use mathlib.Core.List.{List}
+use mathlib.Core.Bool.{Bool, true, false, _&&_, and-false, and-eq-true-iff, false≢true, true≢false}
+use mathlib.Core.List.{List, []}
 use Prim.Native.Nat.{ℕ, zero, suc, _+_, _*_, _-_, _/_, _≤_, _<_}
 use native.Mathlib.Numerals.{add-one}
 use native.Mathlib.Omega.{arith}
 use native.Mathlib.Decide.{decLe, decLt}
 use borrow.Author.Tests.{lt-ltb, le-ltb, eq-eqb}
-use Rattle.parity.specs.Matrix.{Matrix}
-use Rattle.parity.specs.Cycles.{share, pairs, splitOf, largestShare, lowerBit, higherBit, orthogonal}
+use Rattle.parity.specs.Finite.{outermost}
+use Rattle.parity.specs.Matrix.{Matrix, lent}
+use Rattle.parity.specs.Cycles.{share, heldBy, pairs, splitOf, largestShare, lowerBit, higherBit, orthogonal}
 use Rattle.parity.specs.Calls.{orthogonalisedReply}
+use Rattle.parity.specs.Promises.{holding}
 use Rattle.parity.proofs.Finite.Sums.{count-cong, count-end}
+use Rattle.parity.proofs.Finite.Outermost.{outermost-same}
 use Rattle.parity.proofs.Splits.Pairs.{pairs-suc}
 use Rattle.parity.proofs.Splits.Split.{at-new-bit}
 use Rattle.parity.proofs.Matrix.Clean.{Clean}
+use Rattle.parity.proofs.Matrix.Lent.{lent-out}
 use Rattle.parity.proofs.Matrix.Rule.{at-le}
 use Rattle.parity.proofs.Matrix.Sound.{Sound, split-sound}
 use Rattle.parity.proofs.Splits.Pick.{Chosen, picked, chosen-only}
 use Rattle.parity.proofs.Splits.Given.{apart, given, given-too}
 use Rattle.parity.proofs.Splits.Orthogonal.{finishes, stops-full, repeats}
 use Rattle.rows.specs.Rows.{Columns}
+use Rattle.outermost.specs.Rows.{inBoth}
 use Rattle.choice.specs.Given.{together, parted, Parted, Given}
 use Rattle.choice.specs.Bounds.{Bounded, Head, Picked, NoPair, Narrow, Raised, Weights}
 use Rattle.choice.proofs.Columns.{together-le, together-top, together-none, parted-columns}
@@ -37,6 +42,21 @@ columns-meet h m M z u v K A g C = record { at = λ c. rw (C .at u c, C .at v c)
 pub both-parted : (h g g' : Matrix) (u v z : ℕ) → Meet h g u v → Parted g g' u v z → Both h u v (g' z)
 unfolding parted
 both-parted h g g' u v z T P = record { at = λ c. P .at z c ∙ rw (eq-eqb z z refl) (T .at c) }
+
+-- has the lowest and the highest check that held the pair
+pub held-parted : (h : Matrix) (cols : List ℕ) (u v z M : ℕ) → Clean h z M → Both h u v (lent 2 cols z)
+    → outermost (2 * 64) (inBoth 2 cols z cols z) ≡ heldBy h M u v
+unfolding heldBy
+held-parted h cols u v z M K B = outermost-same (2 * 64) (inBoth 2 cols z cols z) M (holding h u v)
+    (λ c l e.
+    let r = sym (B .at c) ∙ and-eq-true-iff (lent 2 cols z c) (lent 2 cols z c) .0 e .0 in
+    elim (decLt c M) [ yes s ↦ (s, r) | no s ↦ absurd (true≢false (sym r ∙ rw (K .checks c u (omega arith)))) ])
+    (λ c l e.
+    let r = B .at c ∙ e in
+    elim (decLt c 128) [
+      | yes s ↦ (s, and-eq-true-iff (lent 2 cols z c) (lent 2 cols z c) .1 (r, r))
+      | no s ↦ absurd (true≢false (sym r ∙ lent-out 2 cols z c (omega arith)))
+    ])
 
 -- the columns of two words count the shares over the given checks
 pub together-share : (m : ℕ) (h g : Matrix) → Columns m h g → m ≤ 128 → (x y : ℕ) → together 2 g x y ≡ share h m x y
@@ -59,15 +79,15 @@ pairs-few zero s e = let q : s ≡ 128 = omega arith in rw q (omega arith)
 pairs-few (suc d) s e = omega (arith, pairs-few d (suc s) (omega arith), pairs-suc s)
 
 -- What stands before a turn: h₀ was given with k₀, and h has k, its columns g and their bounds.
-pub record Stands (h₀ : Matrix) (n m k₀ : ℕ) (h g : Matrix) (bound : List ℕ) (k splits total : ℕ) : Type 0 where
+pub record Stands (h₀ : Matrix) (n m k₀ : ℕ) (h g : Matrix) (bound : List ℕ) (k splits total : ℕ) (held : List ℕ) : Type 0 where
   pub sound : Sound h n m k
   pub columns : Columns m h g
   pub bounded : Bounded (together 2 g) (n + k) bound
   pub count : splits + k₀ ≡ k
   pub few : total ≤ splits * 8128
-  pub same : orthogonal (393 - k₀) h₀ n m k₀ 0 0 ≡ orthogonal (393 - k) h n m k splits total
+  pub same : orthogonal (393 - k₀) h₀ n m k₀ 0 0 [] ≡ orthogonal (393 - k) h n m k splits total held
 
-pub stands-start : (h g : Matrix) (bound : List ℕ) (n m k : ℕ) → Sound h n m k → Columns m h g → Weights (together 2 g) bound (n + k) → Stands h n m k h g bound k 0 0
+pub stands-start : (h g : Matrix) (bound : List ℕ) (n m k : ℕ) → Sound h n m k → Columns m h g → Weights (together 2 g) bound (n + k) → Stands h n m k h g bound k 0 0 []
 stands-start h g bound n m k S C W = record {
   sound = S;
   columns = C;
@@ -81,9 +101,9 @@ pub head-start : (g : Matrix) (bound : List ℕ) (bits : ℕ) → Weights (toget
 head-start g bound bits W = weights-head (together 2 g) bound bits W 128 (λ x. together-top 2 g x x)
 
 -- picking changes the bounds alone
-pub stands-bound : (h₀ : Matrix) (n m k₀ : ℕ) (h g : Matrix) (bound bound' : List ℕ) (k splits total : ℕ) → Stands h₀ n m k₀ h g bound k splits total
-    → Bounded (together 2 g) (n + k) bound' → Stands h₀ n m k₀ h g bound' k splits total
-stands-bound h₀ n m k₀ h g bound bound' k splits total S B = record {
+pub stands-bound : (h₀ : Matrix) (n m k₀ : ℕ) (h g : Matrix) (bound bound' : List ℕ) (k splits total : ℕ) (held : List ℕ) → Stands h₀ n m k₀ h g bound k splits total held
+    → Bounded (together 2 g) (n + k) bound' → Stands h₀ n m k₀ h g bound' k splits total held
+stands-bound h₀ n m k₀ h g bound bound' k splits total held S B = record {
   sound = S .sound;
   columns = S .columns;
   bounded = B;
@@ -92,7 +112,7 @@ stands-bound h₀ n m k₀ h g bound bound' k splits total S B = record {
   same = S .same;
 }
 
-module _ (h₀ : Matrix) (n m k₀ : ℕ) (h g : Matrix) (bound : List ℕ) (k splits total : ℕ) (S : Stands h₀ n m k₀ h g bound k splits total) where
+module _ (h₀ : Matrix) (n m k₀ : ℕ) (h g : Matrix) (bound : List ℕ) (k splits total : ℕ) (held : List ℕ) (S : Stands h₀ n m k₀ h g bound k splits total held) where
   shares : (x y : ℕ) → together 2 g x y ≡ share h m x y
   shares x y = together-share m h g (S .columns) (omega (arith, S .sound .m120)) x y
 
@@ -116,8 +136,8 @@ module _ (h₀ : Matrix) (n m k₀ : ℕ) (h g : Matrix) (bound : List ℕ) (k s
             absurd (omega (arith, P .few _ _ a b))
       ]
 
-  pub ends-finished : NoPair (together 2 g) (n + k) → Ended h₀ n m k₀ h true splits total k
-  ends-finished P = record { same = S .same ∙ rw turns-left (finishes (392 - k) h n m k splits total (none P)) }
+  pub ends-finished : NoPair (together 2 g) (n + k) → Ended h₀ n m k₀ h true splits total k held
+  ends-finished P = record { same = S .same ∙ rw turns-left (finishes (392 - k) h n m k splits total held (none P)) }
 
   module _ (u v s : ℕ) (P : Picked (together 2 g) (n + k) u v s) where
     here : share h (m + k) u v ≡ s
@@ -148,11 +168,11 @@ module _ (h₀ : Matrix) (n m k₀ : ℕ) (h g : Matrix) (bound : List ℕ) (k s
     chosen-is : (largestShare h (n + k) (m + k) ≡ share h (m + k) u v) × (lowerBit h (n + k) (m + k) ≡ u) × (higherBit h (n + k) (m + k) ≡ v)
     chosen-is = chosen-only h (n + k) (m + k) u v is-chosen (omega (arith, here, P .two))
 
-    pub ends-full : k ≡ 392 → Ended h₀ n m k₀ h false splits total k
+    pub ends-full : k ≡ 392 → Ended h₀ n m k₀ h false splits total k held
     ends-full q = record {
       same =
           let (t, a, b) = chosen-is in
-          S .same ∙ rw turns-left (stops-full (392 - k) h n m k splits total (omega (arith, here, P .two)) q);
+          S .same ∙ rw turns-left (stops-full (392 - k) h n m k splits total held (omega (arith, here, P .two)) q);
     }
 
     pub share-few : s ≤ 128
@@ -203,9 +223,9 @@ module _ (h₀ : Matrix) (n m k₀ : ℕ) (h g : Matrix) (bound : List ℕ) (k s
             rw z (raised-head (together 2 g) (together 2 g') (n + k) u v s bound bound' P H R
             (λ x xl. together-le 2 g' g x (n + k) u v (λ c a b. newer c b)) (λ x xl. together-le 2 g' g x (n + k) x u (λ c a b. (fewer x c xl a, newer c b .0))))
 
-        pub stands-split : Stands h₀ n m k₀ h' g' bound' (k + 1) (splits + 1) (total + s * (s - 1) / 2)
+        pub stands-split : (held' : List ℕ) → held' ≡ heldBy h (m + k) u v → Stands h₀ n m k₀ h' g' bound' (k + 1) (splits + 1) (total + s * (s - 1) / 2) held'
         unfolding pairs
-        stands-split =
+        stands-split held' E =
             let (t, x, y) = chosen-is in
             let z : n + (k + 1) ≡ n + k + 1 = omega arith in
             let at = here in
@@ -218,14 +238,14 @@ module _ (h₀ : Matrix) (n m k₀ : ℕ) (h g : Matrix) (bound : List ℕ) (k s
               bounded = rw z (bounded-split (together 2 g) (together 2 g') (n + k) bound bound' (S .bounded) (λ x y xl yl. together-le 2 g' g x y x y (λ c a b. (fewer x c xl a, fewer y c yl b))) R);
               count = omega (arith, S .count);
               few = omega (arith, S .few);
-              same = S .same ∙ rw turns-left (repeats (392 - k) h n m k splits total (omega arith) (λ q. omega arith) ∙ rw (x, y, t, at, T, left, add-one k, add-one splits));
+              same = S .same ∙ rw turns-left (repeats (392 - k) h n m k splits total held (omega arith) (λ q. omega arith) ∙ rw (x, y, t, at, T, left, add-one k, add-one splits, E));
             }
 
 -- what the turns came to is the outcome
-module _ (h : Matrix) (n m k : ℕ) (h' : Matrix) (finished : Bool) (splits total k' : ℕ) (E : Ended h n m k h' finished splits total k') where
-  pub ended-reply : courseReply finished splits total k' ≡ orthogonalisedReply (orthogonal (393 - k) h n m k 0 0)
+module _ (h : Matrix) (n m k : ℕ) (h' : Matrix) (finished : Bool) (splits total k' : ℕ) (held : List ℕ) (E : Ended h n m k h' finished splits total k' held) where
+  pub ended-reply : courseReply finished splits total k' held ≡ orthogonalisedReply (orthogonal (393 - k) h n m k 0 0 [])
   unfolding orthogonalisedReply
   ended-reply = rw (E .same)
 
-  pub ended-matrix : h' ≡ orthogonal (393 - k) h n m k 0 0 .matrix
+  pub ended-matrix : h' ≡ orthogonal (393 - k) h n m k 0 0 [] .matrix
   ended-matrix = rw (E .same)

@@ -3,6 +3,7 @@ mod orthogonal;
 
 use crate::orthogonal::Course;
 use crate::orthogonal::repeat;
+use cycles::pairs::Shared;
 use cycles::pairs::is_pair;
 use cycles::pairs::share_of;
 use exchange::back::back_pair;
@@ -12,16 +13,18 @@ use matrix::accept;
 use matrix::rule::rule_a;
 use parity::Bit;
 use parity::Check;
+use parity::Holders;
 use parity::Refusal;
 use rows::ones::next_one;
 ghost use mathlib.Core.Path.{_≡_};
 ghost use Rattle.parity.specs.Matrix.{cause};
+ghost use Rattle.parity.specs.Causes.{heldValues};
 ghost use Rattle.parity.specs.Calls.{splitOutcome, takeBackOutcome, orthogonaliseOutcome};
 ghost use Rattle.split.specs.Answers.{splittingReply, takingBackReply, orthogonalisingReply, courseReply};
 
-// What a split answers: the share of the two bits and the new k.
+// What a split answers: the share of the two bits, the new k, and the lowest and the highest check that contained both.
 pub enum Splitting {
-    Made { share: u64, k: usize },
+    Made { share: u64, k: usize, held: Holders },
     Refused(Refusal),
 }
 
@@ -31,9 +34,15 @@ pub enum TakingBack {
     Refused(Refusal),
 }
 
-// What orthogonalising answers: the number of splits, the sum of s(s-1)/2 over them, and k.
+// What orthogonalising answers: the number of splits, the sum of s(s-1)/2 over them, k, and the lowest and the highest check that held the pair of the
+// final split, none of either if there was none.
 pub enum Orthogonalising {
-    Finished { splits: u64, sum: u64, k: usize },
+    Finished {
+        splits: u64,
+        sum: u64,
+        k: usize,
+        held: Holders,
+    },
     Refused(Refusal),
 }
 
@@ -48,7 +57,7 @@ fn split_accepted(words: &mut [u64], n: usize, m: usize, k: usize, u: Bit, v: Bi
     if !is_pair(bits, u, v) {
         return Splitting::Refused(Refusal::NotAPair);
     }
-    let share = share_of(words, checks, u, v);
+    let Shared { share, held } = share_of(words, checks, u, v);
     if share < 2 {
         return Splitting::Refused(Refusal::ShareBelowTwo { share });
     }
@@ -57,7 +66,11 @@ fn split_accepted(words: &mut [u64], n: usize, m: usize, k: usize, u: Bit, v: Bi
     }
     split_pair(words, m, Check(checks), u, v, Bit(bits));
     let next = k + 1;
-    Splitting::Made { share, k: next }
+    Splitting::Made {
+        share,
+        k: next,
+        held,
+    }
 }
 
 // The split of `u` and `v`: in every check that contains both, both are removed and the new bit n + k is put in; then check m + k is added,
@@ -108,18 +121,29 @@ pub fn take_back(words: &mut [u64], n: usize, m: usize, k: usize) -> TakingBack
 
 // The answer, or refusal 9 where k reached 392 with a pair left to split.
 fn told(course: Course) -> Orthogonalising
-    ensures { λ r. ⌜ orthogonalisingReply r ≡ courseReply (course .finished) (course .splits) (course .sum) (course .k) ⌝ }
+    ensures { λ r. ⌜ orthogonalisingReply r ≡ courseReply (course .finished) (course .splits) (course .sum) (course .k) (heldValues (course .held)) ⌝ }
 {
     let Course {
         finished,
         splits,
         sum,
         k,
+        held,
     } = course;
     if finished {
-        return Orthogonalising::Finished { splits, sum, k };
+        return Orthogonalising::Finished {
+            splits,
+            sum,
+            k,
+            held,
+        };
     }
-    Orthogonalising::Refused(Refusal::NoRoomLeft { splits, sum, k })
+    Orthogonalising::Refused(Refusal::NoRoomLeft {
+        splits,
+        sum,
+        k,
+        held,
+    })
 }
 
 // Orthogonalising: repeats the split of the pair with the largest share, then the smallest lower bit, then the smallest higher bit,

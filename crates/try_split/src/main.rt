@@ -1,9 +1,10 @@
 // Sharing, counting, splitting, taking back and orthogonalising on the bench's matrices A, C, E and L, and on a dense matrix that is refused 9;
-// splits at k = 391 and 392; matrices that no splits made, taken back.
+// splits at k = 391 and 392; matrices that no splits made, taken back; pairs held by checks at the edges of words.
 use cycles::Counting;
 use cycles::Sharing;
 use parity::Bit;
 use parity::Check;
+use parity::Holders;
 use split::Orthogonalising;
 use split::Splitting;
 use split::TakingBack;
@@ -28,9 +29,25 @@ fn show_count(words: &[u64], n: usize, m: usize, k: usize) {
     end();
 }
 
+// The lowest and the highest check that hold a pair.
+fn show_held(held: Holders) {
+    match held {
+        Holders::None => {
+            io::write_all(1, b", held by none");
+        }
+        Holders::Both(low, high) => {
+            field(b", held by ", low.0 as u64);
+            field(b" to ", high.0 as u64);
+        }
+    }
+}
+
 fn show_share(words: &[u64], n: usize, m: usize, k: usize, u: usize, v: usize) {
     match cycles::share(words, n, m, k, Bit(u), Bit(v)) {
-        Sharing::Share(s) => field(b"share ", s),
+        Sharing::Share { share, held } => {
+            field(b"share ", share);
+            show_held(held);
+        }
         Sharing::Refused(r) => field(b"refused ", parity::number(r)),
     }
     end();
@@ -38,9 +55,10 @@ fn show_share(words: &[u64], n: usize, m: usize, k: usize, u: usize, v: usize) {
 
 fn show_split(words: &mut [u64], n: usize, m: usize, k: usize, u: usize, v: usize) {
     match split::split(words, n, m, k, Bit(u), Bit(v)) {
-        Splitting::Made { share, k } => {
+        Splitting::Made { share, k, held } => {
             field(b"split, share ", share);
             field(b", k ", k as u64);
+            show_held(held);
         }
         Splitting::Refused(r) => field(b"refused ", parity::number(r)),
     }
@@ -58,25 +76,36 @@ fn show_take_back(words: &mut [u64], n: usize, m: usize, k: usize) {
     end();
 }
 
-fn show_result(splits: u64, sum: u64, k: usize) {
+fn show_result(splits: u64, sum: u64, k: usize, held: Holders) {
     field(b"splits ", splits);
     field(b", sum ", sum);
     field(b", k ", k as u64);
+    show_held(held);
     end();
 }
 
-// Orthogonalises from k = 0, and answers the k that it came to.
-fn show_orthogonalise(words: &mut [u64], n: usize, m: usize) -> usize {
-    match split::orthogonalise(words, n, m, 0) {
-        Orthogonalising::Finished { splits, sum, k } => {
-            show_result(splits, sum, k);
+// Orthogonalises, and answers the k that it came to.
+fn show_orthogonalise(words: &mut [u64], n: usize, m: usize, k: usize) -> usize {
+    match split::orthogonalise(words, n, m, k) {
+        Orthogonalising::Finished {
+            splits,
+            sum,
+            k,
+            held,
+        } => {
+            show_result(splits, sum, k, held);
             k
         }
         Orthogonalising::Refused(r) => {
             field(b"refused ", parity::number(r));
             end();
-            if let parity::Refusal::NoRoomLeft { splits, sum, k } = r {
-                show_result(splits, sum, k);
+            if let parity::Refusal::NoRoomLeft {
+                splits,
+                sum,
+                k,
+                held,
+            } = r {
+                show_result(splits, sum, k, held);
                 return k;
             }
             0
@@ -110,7 +139,7 @@ fn case_a() {
     words[16] = 0b1110100;
     show_count(&words, 7, 3, 0);
     show_share(&words, 7, 3, 0, 6, 3);
-    let k = show_orthogonalise(&mut words, 7, 3);
+    let k = show_orthogonalise(&mut words, 7, 3, 0);
     show_checks(&words);
     show_count(&words, 7, 3, k);
 }
@@ -136,7 +165,7 @@ fn case_e() {
     words[0] = 0b111;
     words[8] = 0b111;
     show_count(&words, 3, 2, 0);
-    let k = show_orthogonalise(&mut words, 3, 2);
+    let k = show_orthogonalise(&mut words, 3, 2, 0);
     show_checks(&words);
     show_count(&words, 3, 2, k);
 }
@@ -211,7 +240,7 @@ fn case_l() {
     end();
     show_count(&words, 23, 23, 0);
     let before = words;
-    let k = show_orthogonalise(&mut words, 23, 23);
+    let k = show_orthogonalise(&mut words, 23, 23, 0);
     show_count(&words, 23, 23, k);
     take_all_back(&mut words, k);
     show_whether_same(&words, &before);
@@ -243,7 +272,7 @@ fn case_dense() {
     let mut words = [0u64; 4096];
     dense(&mut words);
     show_count(&words, 120, 120, 0);
-    let k = show_orthogonalise(&mut words, 120, 120);
+    let k = show_orthogonalise(&mut words, 120, 120, 0);
     show_count(&words, 120, 120, k);
 }
 
@@ -288,14 +317,52 @@ fn show_split_and_words(words: &mut [u64; 4096], k: usize, u: usize, v: usize) {
     show_whether_same(words, &before);
 }
 
-// At k = 391 a split is made; at 392 it is refused.
+// Pairs held by check 63, by 64, by both, by checks 0 and 119, and by none.
+fn case_edges() {
+    io::write_all(1, b"edges of words\n");
+    let mut words = [0u64; 4096];
+    words[0] = 0b11000000;
+    words[504] = 0b1111;
+    words[512] = 0b110011;
+    words[952] = 0b11000000;
+    show_share(&words, 8, 120, 0, 0, 1);
+    show_share(&words, 8, 120, 0, 2, 3);
+    show_share(&words, 8, 120, 0, 4, 5);
+    show_share(&words, 8, 120, 0, 7, 6);
+    show_share(&words, 8, 120, 0, 2, 4);
+    show_split(&mut words, 8, 120, 0, 2, 4);
+    show_split(&mut words, 8, 120, 0, 2, 3);
+    let k = show_orthogonalise(&mut words, 8, 120, 0);
+    show_share(&words, 8, 120, k, 0, 1);
+    show_share(&words, 8, 120, k, 6, 9);
+    let _ = show_orthogonalise(&mut words, 8, 120, k);
+}
+
+// Pairs that an added check alone holds: 127, 128 and the last.
+fn show_added(words: &[u64]) {
+    show_share(words, 120, 120, 391, 7, 20);
+    show_share(words, 120, 120, 391, 20, 8);
+    show_share(words, 120, 120, 391, 10, 510);
+    show_share(words, 120, 120, 391, 7, 8);
+}
+
+// Orthogonalises where k is at its end or close to it.
+fn show_refused_9(words: &mut [u64; 4096], k: usize) {
+    let _ = show_orthogonalise(words, 120, 120, k);
+}
+
+// At k = 391 a split is made; at 392 it is refused. Orthogonalising is refused 9 after one split, and at once.
 fn case_most() {
     io::write_all(1, b"k to 392\n");
     let mut words = [0u64; 4096];
     extended(&mut words);
     show_count(&words, 120, 120, 391);
+    show_added(&words);
+    let mut copy = words;
+    show_refused_9(&mut copy, 391);
     show_split_and_words(&mut words, 391, 64, 65);
     show_split_and_words(&mut words, 392, 66, 67);
+    show_refused_9(&mut words, 392);
 }
 
 fn main() {
@@ -306,5 +373,6 @@ fn main() {
     case_not_split();
     case_l();
     case_dense();
+    case_edges();
     case_most();
 }

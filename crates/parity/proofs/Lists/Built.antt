@@ -1,4 +1,5 @@
 -- The matrices that splits give, and what holds of each of them: the invariant of every list of calls. Assumes nothing.
+use mathlib.Core.List.{List}
 use mathlib.Core.Path.{_≡_, sym, ap, _∙_}
 use mathlib.Core.Bool.{Bool}
 use Prim.Native.Nat.{ℕ, suc, _+_, _-_, _%_, _≤_, _<_}
@@ -75,9 +76,9 @@ module _ (g : Matrix) (n m : ℕ) where
     good (more {h = h} {k = k} {total = t} B u v un vn uv s l) = good-split h k t u v (good B) un vn uv s l
 
     -- Orthogonalising splits,
-    pub built-orthogonal : (carried turns : ℕ) (h : Matrix) (k splits total : ℕ) → Built g n m h k (carried + total)
-        → Built g n m (orthogonal turns h n m k splits total .matrix) (orthogonal turns h n m k splits total .k) (carried + orthogonal turns h n m k splits total .sum)
-    built-orthogonal carried = keeps n m (λ h k splits total. Built g n m h k (carried + total)) (λ h k splits total B t q.
+    pub built-orthogonal : (carried turns : ℕ) (h : Matrix) (k splits total : ℕ) (held : List ℕ) → Built g n m h k (carried + total)
+        → Built g n m (orthogonal turns h n m k splits total held .matrix) (orthogonal turns h n m k splits total held .k) (carried + orthogonal turns h n m k splits total held .sum)
+    built-orthogonal carried = keeps n m (λ h k splits total held. Built g n m h k (carried + total)) (λ h k splits total held B t q.
         let (l, r, s) = picked h (n + k) (m + k) (omega arith) in
         rw (← s, ← add-assoc) (more B (lowerBit h (n + k) (m + k)) (higherBit h (n + k) (m + k)) (omega arith) r (λ e. omega arith) (omega arith) (omega (arith, good B .ok .k392))))
 

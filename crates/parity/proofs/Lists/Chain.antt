@@ -23,11 +23,11 @@ use Rattle.parity.proofs.Splits.MadeSplit.{made-taken-back}
 use Rattle.parity.proofs.Lists.Built.{Built, given as built-given, more, good, built-orthogonal, Undone, undone}
 
 -- what a split comes to: a refusal that leaves the words, or a split that is made
-data SplitCase (ws : List ℕ) (n m k u v : ℕ) : Type 0 where
+pub data SplitCase (ws : List ℕ) (n m k u v : ℕ) : Type 0 where
   refused : (c : ℕ) (vs : List ℕ) → splitOutcome ws n m k u v ≡ record { reply = refusal (suc c) vs; after = ws } → SplitCase ws n m k u v
   made : notPair (n + k) u v ≡ false → 2 ≤ share (lent 8 ws) (m + k) u v → (k ≡ 392 → ⊥) → SplitCase ws n m k u v
 
-split-case : (ws : List ℕ) (n m k u v : ℕ) → Accepted ws n m k → SplitCase ws n m k u v
+pub split-case : (ws : List ℕ) (n m k u v : ℕ) → Accepted ws n m k → SplitCase ws n m k u v
 split-case ws n m k u v A =
     elim (is (notPair (n + k) u v)) [
       | is-true p ↦ refused 6 [] (split-no-pair ws n m k A u v p)
@@ -41,9 +41,9 @@ split-case ws n m k u v A =
     ]
 
 -- a split that answers was accepted
-answered : (ws : List ℕ) (n m k u v s k′ : ℕ) → splitOutcome ws n m k u v .reply ≡ answer (s ∷ k′ ∷ []) → cause ws n m k ≡ 0
+pub answered : (ws : List ℕ) (n m k u v s k′ : ℕ) (held : List ℕ) → splitOutcome ws n m k u v .reply ≡ answer (s ∷ k′ ∷ held) → cause ws n m k ≡ 0
 unfolding splitOutcome splitReply
-answered ws n m k u v s k′ e =
+answered ws n m k u v s k′ held e =
     elim (ℕ-discrete (cause ws n m k) 0) [
       | yes q ↦ q
       | no d ↦ ap (λ (r : Reply). r .number) (sym (accepting-refuses ws n m k _ d) ∙ e)
@@ -51,8 +51,8 @@ answered ws n m k u v s k′ e =
 
 -- A split that is made, followed by taking back, gives the same words and k, and the same s.
 pub split-taken-back : SplitTakenBack
-split-taken-back ws n m k u v s k′ e =
-    let A = accepts ws n m k .0 (answered ws n m k u v s k′ e) in
+split-taken-back ws n m k u v s k′ held e =
+    let A = accepts ws n m k .0 (answered ws n m k u v s k′ held e) in
     elim (split-case ws n m k u v A) [
       | refused i vs f ↦ absurd (omega (arith, ap (λ (r : Reply). r .number) (sym (ap (λ (o : Outcome). o .reply) f) ∙ e)))
       | made p t l ↦
@@ -155,7 +155,7 @@ module _ (given : List ℕ) (n m : ℕ) (A₀ : Accepted given n m 0) where
       let E = finished-cycles n m o (orthogonal-ends (s .words) n m (s .k) (S .accepted)) in
       let F = reply-finished o in
       rw (orthogonalise-made (s .words) n m (s .k) (S .accepted), reply-k o (s .k), reply-sum o) (placed _ _ _ _
-      (built-orthogonal g n m (A₀ .sound) (s .carried) _ (lent 8 (s .words)) (s .k) 0 0 (rw (add-zero (s .carried)) (S .built)))
+      (built-orthogonal g n m (A₀ .sound) (s .carried) _ (lent 8 (s .words)) (s .k) 0 0 [] (rw (add-zero (s .carried)) (S .built)))
       (λ r q. let e : orthogonalisedReply o ≡ r = said (orthogonalisedReply o) r q in rw (← e) (λ t. E .0 (F .0 t), λ t. F .1 (E .1 t))))
     where
       said : (x y : Reply) → orthogonalise-said x ≡ orthogonalise-said y → x ≡ y

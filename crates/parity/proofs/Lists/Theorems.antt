@@ -84,10 +84,10 @@ module _ (ws : List ℕ) (n m k : ℕ) (A : Accepted ws n m k) where
   abbrev o : Orthogonalised
   o = orthogonalising ws n m k
 
-  counted : At (Counted n m k (cycles h (n + k) (m + k))) o
+  counted : At (λ h′ k′ splits total held. Counted n m k (cycles h (n + k) (m + k)) h′ k′ splits total) o
   counted =
-      keeps n m (Counted n m k (cycles h (n + k) (m + k)))
-      (λ h′ k′ splits total C two q.
+      keeps n m (λ h′ k′ splits total held. Counted n m k (cycles h (n + k) (m + k)) h′ k′ splits total)
+      (λ h′ k′ splits total held C two q.
       let (l, r, s) = picked h′ (n + k′) (m + k′) (omega arith) in
       let F = split-cycles h′ (n + k′) (m + k′) (lowerBit h′ (n + k′) (m + k′)) (higherBit h′ (n + k′) (m + k′)) (omega arith) r (λ e. omega arith) in
       record {
@@ -95,7 +95,7 @@ module _ (ws : List ℕ) (n m k : ℕ) (A : Accepted ws n m k) where
         each = omega (arith, C .each, pairs-two (largestShare h′ (n + k′) (m + k′)) two);
         falls = rw (add-suc n k′, add-suc m k′) (omega (arith, C .falls, rw s at F));
       })
-      _ h k 0 0
+      _ h k 0 0 []
       record { added = omega arith; each = omega arith; falls = omega arith }
 
   -- The bound of section II: orthogonalising makes at most as many splits as there are four-cycles.

@@ -8,7 +8,7 @@ use lib.Dec.{eqb, ltb, lit<}
 use lib.ListN.{getD, length}
 use borrow.Author.Tests.{eq-eqb, ne-eqb, eqb-false, le-ltb, ltb-true, not-false, lt-ltb}
 use Rattle.parity.specs.Matrix.{Matrix, lent, pack, ruleA, cause}
-use Rattle.parity.specs.Cycles.{share, cycles, splitOf, takenBack, others, Orthogonalised}
+use Rattle.parity.specs.Cycles.{share, heldBy, cycles, splitOf, takenBack, others, Orthogonalised}
 use Rattle.parity.specs.Causes.{Reply, answer, refusal, refusalOf}
 use Rattle.parity.specs.Calls.{notPair, countReply, splitReply, splitOutcome, takeBackReply, takeBackOutcome, orthogonalisedReply, orthogonaliseOutcome, acceptReply, orthogonalising}
 use Rattle.parity.proofs.Finite.Bools.{or-false-both}
@@ -47,7 +47,7 @@ module _ (ws : List ℕ) (n m k : ℕ) (A : Accepted ws n m k) where
 
   -- A split that is made: its answer, and its words, which are accepted and hold the split matrix.
   module _ (u v : ℕ) (p : notPair N u v ≡ false) (s : 2 ≤ share h M u v) (l : k ≡ 392 → ⊥) where
-    pub split-made : splitOutcome ws n m k u v ≡ record { reply = answer (share h M u v ∷ suc k ∷ []); after = pack 8 (splitOf h N M u v) }
+    pub split-made : splitOutcome ws n m k u v ≡ record { reply = answer (share h M u v ∷ suc k ∷ heldBy h M u v); after = pack 8 (splitOf h N M u v) }
     unfolding splitOutcome splitReply
     split-made = rw (passes ws n m k A, p, le-ltb (share h M u v) 2 s, ne-eqb k 392 l)
 
@@ -89,7 +89,7 @@ module _ (ws : List ℕ) (n m k : ℕ) (A : Accepted ws n m k) where
   orthogonalises = rw (passes ws n m k A, accepts ws n m k .1 A)
 
   orthogonal-keeps : Sound (o .matrix) n m (o .k)
-  orthogonal-keeps = orthogonal-sound n m _ h k 0 0 (A .sound)
+  orthogonal-keeps = orthogonal-sound n m _ h k 0 0 [] (A .sound)
 
   pub orthogonal-accepted : Accepted (pack 8 (o .matrix)) n m (o .k)
   orthogonal-accepted = pack-accepted (o .matrix) n m (o .k) orthogonal-keeps
@@ -98,7 +98,7 @@ module _ (ws : List ℕ) (n m k : ℕ) (A : Accepted ws n m k) where
   orthogonal-lent = pack-same (o .matrix) n m (o .k) orthogonal-keeps
 
   pub orthogonal-ends : Ends n m o
-  orthogonal-ends = ends n m _ h k 0 0 (A .sound .k392) (omega (arith, A .sound .k392))
+  orthogonal-ends = ends n m _ h k 0 0 [] (A .sound .k392) (omega (arith, A .sound .k392))
 
 module _ (ws : List ℕ) (n m k : ℕ) where
   -- Causes 1 to 4 leave the words.

@@ -2,7 +2,7 @@
 use borrow.Author.Needs.{needs}
 use mathlib.Core.Path.{refl, sym, ap}
 use Rattle.reply.specs.Passed.{numberedReply}
-use Rattle.reply.proofs.Passing.{bare, next, same}
+use Rattle.reply.proofs.Passing.{bare, front, next, same}
 use Rattle.reply.proofs.pass.Statement.{statement}
 use Rattle.reply.proofs.pass.Tie as tie
 
@@ -39,17 +39,17 @@ put-requires-6 c κs = search needs
 enum-known-reply-5 : tie.Need-enum-known-reply-5
 enum-known-reply-5 c = search needs
 
+put-four-requires : tie.Need-put-four-requires
+put-four-requires c κs = search needs
+
+enum-known-reply-6 : tie.Need-enum-known-reply-6
+enum-known-reply-6 c = search needs
+
+put-four-requires-2 : tie.Need-put-four-requires-2
+put-four-requires-2 c κs = search needs
+
 put-requires-7 : tie.Need-put-requires-7
 put-requires-7 c κs = search needs
-
-put-requires-8 : tie.Need-put-requires-8
-put-requires-8 c κs = search needs
-
-put-requires-9 : tie.Need-put-requires-9
-put-requires-9 c κs = search needs
-
-put-requires-10 : tie.Need-put-requires-10
-put-requires-10 c κs = search needs
 
 returns : tie.Need-returns
 returns c = bare _ (c .before .before .before .before .args .values .now) (sym (ap numberedReply (c .before .reply .given .1)))
@@ -76,9 +76,13 @@ same-length-4 : tie.Need-same-length-4
 same-length-4 c = search needs
 
 returns-5 : tie.Need-returns-5
-returns-5 c =
-    same (sym (ap numberedReply (c .before .before .before .before .before .before .before .before .before .before .before .before .before .before .before .before .before .reply5 .given .1)))
-    (next _ (next _ (next _ (next _ (bare _ (c .before .before .before .before .before .before .before .before .before .before .before .before .before .before .before .before .before .before .before .before .args .values .now) refl) (c .before .before .before .before .before .before .before .before .before .before .before .before .before .before .put7 .ensures)) (c .before .before .before .before .before .before .before .before .before .before .put8 .ensures)) (c .before .before .before .before .before .before .put9 .ensures)) (c .before .before .put10 .ensures))
+returns-5 c = same (sym (ap numberedReply (c .before .before .before .before .before .reply5 .given .1))) (front _ (c .before .before .put-four .ensures))
+
+same-length-5 : tie.Need-same-length-5
+same-length-5 c = search needs
+
+returns-6 : tie.Need-returns-6
+returns-6 c = same (sym (ap numberedReply (c .before .before .before .before .before .before .before .before .before .reply6 .given .1))) (next _ (front _ (c .before .before .before .before .before .before .put-four2 .ensures)) (c .before .before .put7 .ensures))
 
 pub pass-spec : {M : Type 1} → statement M
 pass-spec =
@@ -95,10 +99,10 @@ pass-spec =
     put-requires-5
     put-requires-6
     enum-known-reply-5
+    put-four-requires
+    enum-known-reply-6
+    put-four-requires-2
     put-requires-7
-    put-requires-8
-    put-requires-9
-    put-requires-10
     returns
     same-length
     returns-2
@@ -107,4 +111,6 @@ pass-spec =
     same-length-3
     returns-4
     same-length-4
-    returns-5)
+    returns-5
+    same-length-5
+    returns-6)

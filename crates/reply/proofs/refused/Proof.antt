@@ -1,6 +1,6 @@
 -- `reply::refused` meets its contract. Assumes nothing.
 use borrow.Author.Needs.{needs}
-use mathlib.Core.Path.{sym, ap}
+use mathlib.Core.Path.{sym, ap, _∙_}
 use Rattle.parity.specs.Causes.{refusalOf}
 use Rattle.reply.proofs.refused.Statement.{statement}
 use Rattle.reply.proofs.refused.Tie as tie
@@ -34,6 +34,9 @@ enum-told-6 c = search needs
 
 enum-known-why-4 : tie.Need-enum-known-why-4
 enum-known-why-4 c = search needs
+
+three-held-requires : tie.Need-three-held-requires
+three-held-requires c κs = search needs
 
 enum-told-7 : tie.Need-enum-told-7
 enum-told-7 c = search needs
@@ -87,7 +90,7 @@ returns-9 : tie.Need-returns-9
 returns-9 c = sym (ap refusalOf (c .enum-told6 .given .1))
 
 returns-10 : tie.Need-returns-10
-returns-10 c = sym (ap refusalOf (c .before .why4 .given .1))
+returns-10 c = c .three-held .ensures ∙ sym (ap refusalOf (c .before .before .why4 .given .1))
 
 returns-11 : tie.Need-returns-11
 returns-11 c = sym (ap refusalOf (c .enum-told7 .given .1))
@@ -127,6 +130,7 @@ refused-spec =
     enum-known-why-3
     enum-told-6
     enum-known-why-4
+    three-held-requires
     enum-told-7
     enum-known-why-5
     enum-told-8

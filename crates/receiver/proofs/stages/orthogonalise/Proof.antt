@@ -3,6 +3,7 @@ use mathlib.Core.Path.{sym, ap, _∙_}
 use borrow.Author.Needs.{needs}
 use Rattle.split.specs.Answers.{orthogonalisingReply}
 use Rattle.receiver.proofs.Lines.{same-text}
+use Rattle.parity.specs.Causes.{heldValues}
 use Rattle.receiver.proofs.Passing.{orthogonalise-refused, orthogonalise-passes, orthogonalise-accepted}
 use Rattle.receiver.proofs.stages.orthogonalise.Statement.{statement}
 use Rattle.receiver.proofs.stages.orthogonalise.Tie as tie
@@ -30,8 +31,8 @@ peel-sent-requires c κs =
     let p = c .before .before .before .before .before .before .before .orthogonalise in
     let g = c .before .before .before .splits .given in
     let e = sym (ap orthogonalisingReply (g .1)) ∙ p .ensures .0 in (
-      rw (p .ensures .1, orthogonalise-passes (a .words .now) (a .n) (a .m) (g .0 .0) (g .0 .1 .0) (g .0 .1 .1 .0) e (a .sent .now)) (c .before .before .before .before .before .before .before .before .before .before .before .before .pre),
-      rw (p .ensures .1) (orthogonalise-accepted (a .words .now) (a .n) (a .m) (g .0 .0) (g .0 .1 .0) (g .0 .1 .1 .0) e),
+      rw (p .ensures .1, orthogonalise-passes (a .words .now) (a .n) (a .m) (g .0 .0) (g .0 .1 .0) (g .0 .1 .1 .0) (heldValues (g .0 .1 .1 .1 .0)) e (a .sent .now)) (c .before .before .before .before .before .before .before .before .before .before .before .before .pre),
+      rw (p .ensures .1) (orthogonalise-accepted (a .words .now) (a .n) (a .m) (g .0 .0) (g .0 .1 .0) (g .0 .1 .1 .0) (heldValues (g .0 .1 .1 .1 .0)) e),
     )
 
 same-length : tie.Need-same-length
@@ -63,7 +64,7 @@ returns-2 c =
     let g = c .before .before .before .before .before .before .splits .given in
     let e = sym (ap orthogonalisingReply (g .1)) ∙ p .ensures .0 in
     same-text
-    (rw (p .ensures .1) (orthogonalise-passes (a .words .now) (a .n) (a .m) (g .0 .0) (g .0 .1 .0) (g .0 .1 .1 .0) e (a .sent .now)))
+    (rw (p .ensures .1) (orthogonalise-passes (a .words .now) (a .n) (a .m) (g .0 .0) (g .0 .1 .0) (g .0 .1 .1 .0) (heldValues (g .0 .1 .1 .1 .0)) e (a .sent .now)))
     (c .before .before .peel-sent .ensures)
 
 pub orthogonalise-spec : {M : Type 1} → statement M

@@ -4,6 +4,7 @@ use Prim.Native.Nat.{_+_, _-_}
 use native.Mathlib.Omega.{arith}
 use lib.ListN.{length}
 use Rattle.parity.specs.Matrix.{lent}
+use Rattle.parity.specs.Causes.{heldValues}
 use Rattle.choice.specs.Bounds.{Head}
 use Rattle.split.proofs.Turns.{Stands, stands-start, head-start, stands-bound, ends-finished, ends-full, product-few, picked-meet, split-columns, stands-split, head-split, given-columns, narrow-columns}
 use borrow.Author.Needs.{needs}
@@ -11,12 +12,12 @@ use Rattle.split.proofs.orthogonal.repeat.Statement.{statement}
 use Rattle.split.proofs.orthogonal.repeat.Tie as tie
 
 abbrev Inv-loop : tie.InvT-loop
-Inv-loop words₀ n m k cols₀ bound₀ first₀ cap₀ now-k₀ splits₀ sum₀ words cols bound first cap now-k splits sum =
+Inv-loop words₀ n m k cols₀ bound₀ first₀ cap₀ now-k₀ splits₀ sum₀ held₀ words cols bound first cap now-k splits sum held =
     (length words ≡ length words₀) × (length cols ≡ 1024) × (length bound ≡ 512)
-    × Stands (lent 8 words₀) n m k (lent 8 words) (lent 2 cols) bound now-k splits sum × Head bound (n + now-k) (first .0) cap
+    × Stands (lent 8 words₀) n m k (lent 8 words) (lent 2 cols) bound now-k splits sum (heldValues held) × Head bound (n + now-k) (first .0) cap
 
 abbrev μ-loop : tie.MeasureT-loop
-μ-loop words₀ n m k cols₀ bound₀ first₀ cap₀ now-k₀ splits₀ sum₀ words cols bound first cap now-k splits sum =
+μ-loop words₀ n m k cols₀ bound₀ first₀ cap₀ now-k₀ splits₀ sum₀ held₀ words cols bound first cap now-k splits sum held =
     392 - now-k
 
 columns-requires : tie.Need-columns-requires Inv-loop μ-loop
@@ -70,7 +71,7 @@ same-length : tie.Need-same-length Inv-loop μ-loop
 same-length c = c .before .before .before .before .before .before .before .loop .inv .0
 
 returns : tie.Need-returns Inv-loop μ-loop
-returns c = ends-finished _ _ _ _ _ _ _ _ _ _ (c .before .before .before .before .before .before .before .loop .inv .3) (rw (c .enum-told .given .1) at (c .before .before .before .pick .ensures .0))
+returns c = ends-finished _ _ _ _ _ _ _ _ _ _ _ (c .before .before .before .before .before .before .before .loop .inv .3) (rw (c .enum-told .given .1) at (c .before .before .before .pick .ensures .0))
 
 enum-known-choice : tie.Need-enum-known-choice Inv-loop μ-loop
 enum-known-choice c = search needs
@@ -81,7 +82,7 @@ same-length-2 c = c .before .before .before .before .before .before .before .bef
 returns-2 : tie.Need-returns-2 Inv-loop μ-loop
 returns-2 c =
     let X = rw (c .before .before .choice .given .1) at (c .before .before .before .before .before .pick .ensures .0) in
-    ends-full _ _ _ _ _ _ _ _ _ _ (c .before .before .before .before .before .before .before .before .before .loop .inv .3) _ _ _ (X .0) (c .if1 .taken)
+    ends-full _ _ _ _ _ _ _ _ _ _ _ (c .before .before .before .before .before .before .before .before .before .loop .inv .3) _ _ _ (X .0) (c .if1 .taken)
 
 slice-aggregate-turn : tie.Need-slice-aggregate-turn Inv-loop μ-loop
 slice-aggregate-turn c = sym (c .before .before .before .before .before .before .before .before .before .before .before .loop .inv .1)
@@ -95,7 +96,7 @@ turn-requires c κs =
     let X = rw (c .before .before .before .before .choice .given .1) at (c .before .before .before .before .before .before .before .pick .ensures .0) in
     let room = c .before .before .if1 .left in (
       (l .inv .0 ∙ s .pre .0, l .inv .1, omega (arith, A .m120, A .k392), X .0 .low, X .0 .high, omega (arith, A .n120, A .k392)),
-      (A .clean, picked-meet _ _ _ _ _ _ _ _ _ _ S _ _ _ (X .0)),
+      (A .clean, picked-meet _ _ _ _ _ _ _ _ _ _ _ S _ _ _ (X .0)),
     )
 
 slice-aggregate-widen : tie.Need-slice-aggregate-widen Inv-loop μ-loop
@@ -115,7 +116,7 @@ widen-requires c κs =
     let pick = c .before .before .before .before .before .before .before .before .before .before .before .before .before .before .pick in
     let X = rw (c .before .before .before .before .before .before .before .before .before .before .before .choice .given .1) at (pick .ensures .0) in (
       (told .kept .0 ∙ l .inv .0 ∙ s .pre .0, told .kept .1 .0 ∙ l .inv .1, pick .kept .1 .1 .1 .0 ∙ l .inv .2, omega (arith, A .n120, A .k392)),
-      given-columns _ _ _ (A .m120) (split-columns _ _ _ _ _ _ _ _ _ _ S _ _ _ (X .0) (omega (arith, A .k392)) _ _ (told .ensures .0) (told .ensures .1)),
+      given-columns _ _ _ (A .m120) (split-columns _ _ _ _ _ _ _ _ _ _ _ S _ _ _ (X .0) (omega (arith, A .k392)) _ _ (told .ensures .0) (told .ensures .1)),
     )
 
 add-splits : tie.Need-add-splits Inv-loop μ-loop
@@ -129,13 +130,13 @@ sub-sum c =
 mul-sum : tie.Need-mul-sum Inv-loop μ-loop
 mul-sum c =
     let X = rw (c .before .before .before .before .before .before .before .before .before .before .before .before .before .choice .given .1) at (c .before .before .before .before .before .before .before .before .before .before .before .before .before .before .before .before .pick .ensures .0) in
-    omega (arith, product-few _ _ _ _ _ _ _ _ _ _ (c .before .before .before .before .before .before .before .before .before .before .before .before .before .before .before .before .before .before .before .before .loop .inv .3) _ _ _ (X .0))
+    omega (arith, product-few _ _ _ _ _ _ _ _ _ _ _ (c .before .before .before .before .before .before .before .before .before .before .before .before .before .before .before .before .before .before .before .before .loop .inv .3) _ _ _ (X .0))
 
 add-sum : tie.Need-add-sum Inv-loop μ-loop
 add-sum c =
     let S = c .before .before .before .before .before .before .before .before .before .before .before .before .before .before .before .before .before .before .before .before .loop .inv .3 in
     let X = rw (c .before .before .before .before .before .before .before .before .before .before .before .before .before .choice .given .1) at (c .before .before .before .before .before .before .before .before .before .before .before .before .before .before .before .before .pick .ensures .0) in
-    omega (arith, product-few _ _ _ _ _ _ _ _ _ _ S _ _ _ (X .0), S .few, S .count, S .sound .k392)
+    omega (arith, product-few _ _ _ _ _ _ _ _ _ _ _ S _ _ _ (X .0), S .few, S .count, S .sound .k392)
 
 add-now-k : tie.Need-add-now-k Inv-loop μ-loop
 add-now-k c = let A = c .before .before .before .before .before .before .before .before .before .before .before .before .before .before .before .before .before .before .before .before .loop .inv .3 .sound in omega (arith, A .k392)
@@ -147,7 +148,7 @@ loop-again : tie.Need-loop-again Inv-loop μ-loop
 loop-again c =
     let l = c .before .before .before .before .before .before .before .before .before .before .before .before .before .before .before .before .before .before .before .before .loop in
     let pick = c .before .before .before .before .before .before .before .before .before .before .before .before .before .before .before .before .pick in
-    let S = stands-bound _ _ _ _ _ _ _ _ _ _ _ (l .inv .3) (pick .ensures .1) in
+    let S = stands-bound _ _ _ _ _ _ _ _ _ _ _ _ (l .inv .3) (pick .ensures .1) in
     let X = rw (c .before .before .before .before .before .before .before .before .before .before .before .before .before .choice .given .1) at (pick .ensures .0) in
     let room = c .before .before .before .before .before .before .before .before .before .before .before .if1 .left in
     let told = c .before .before .before .before .before .before .before .before .turn in
@@ -155,8 +156,8 @@ loop-again c =
       told .kept .0 ∙ l .inv .0,
       told .kept .1 .0 ∙ l .inv .1,
       wide .kept .1 .1 .1 .0 ∙ pick .kept .1 .1 .1 .0 ∙ l .inv .2,
-      stands-split _ _ _ _ _ _ _ _ _ _ S _ _ _ (X .0) (omega (arith, S .sound .k392)) _ _ (told .ensures .0) (told .ensures .1) _ (wide .ensures),
-      head-split _ _ _ _ _ _ _ _ _ _ S _ _ _ (X .0) (omega (arith, S .sound .k392)) _ _ (told .ensures .0) (told .ensures .1) _ (wide .ensures) (X .1),
+      stands-split _ _ _ _ _ _ _ _ _ _ _ S _ _ _ (X .0) (omega (arith, S .sound .k392)) _ _ (told .ensures .0) (told .ensures .1) _ (wide .ensures) _ (told .ensures .2),
+      head-split _ _ _ _ _ _ _ _ _ _ _ S _ _ _ (X .0) (omega (arith, S .sound .k392)) _ _ (told .ensures .0) (told .ensures .1) _ (wide .ensures) (X .1),
     )
 
 pub repeat-spec : {M : Type 1} → statement M

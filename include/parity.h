@@ -25,7 +25,8 @@
  * length of PARITY_VALUES_MOST holds the values of every call. Below, the number
  * of values that an answer carries stands before them; a refusal carries the one
  * value named with it, or none where none is named, and PARITY_FULL of
- * parity_orthogonalise three.
+ * parity_orthogonalise three or five. What is none is not carried: the places of
+ * `values` where it would stand are left as they were.
  *
  * REFUSALS. A call refuses for the first of its causes that holds, in the order
  * 1, 2, 3, 4, 13, then the rest by number. A refusal leaves every lent element
@@ -57,7 +58,7 @@ extern "C" {
 #define PARITY_RECORD_MOST 14522
 
 /* The most values that a call carries. */
-#define PARITY_VALUES_MOST 4
+#define PARITY_VALUES_MOST 5
 /* The most bytes of stack that a call needs. */
 #define PARITY_STACK_MOST 65536
 
@@ -80,7 +81,8 @@ extern "C" {
 /* The share is below two; values: the share. */
 #define PARITY_SHARE 8
 /* k = 392 and a pair with share two or more is to be split; values: none from
- * parity_split; the splits made, the sum and k from parity_orthogonalise. */
+ * parity_split; the splits made, the sum and k from parity_orthogonalise, and the
+ * lowest and the highest check that held the pair of the final split. */
 #define PARITY_FULL 9
 /* A word, message or set of wrong length. */
 #define PARITY_LENGTH 10
@@ -145,7 +147,8 @@ uint32_t parity_write(const uint64_t *words, size_t words_len,
  *
  * words: read.
  * u, v: bits below n+k, in either order.
- * Values of the answer, 1: the share.
+ * Values of the answer, 1 if the share is 0, else 3: the share, the lowest and the
+ *   highest check that contain both bits.
  * Refusals: 1, 2, 3, 4, 7.
  */
 uint32_t parity_share(const uint64_t *words, size_t words_len,
@@ -170,7 +173,8 @@ uint32_t parity_count(const uint64_t *words, size_t words_len,
  *
  * words: read, and written by an answer.
  * u, v: bits below n+k, in either order.
- * Values of the answer, 2: the share that the pair had, the new k.
+ * Values of the answer, 4: the share that the pair had, the new k, the lowest and
+ *   the highest check that contained both bits.
  * Refusals: 1, 2, 3, 4, 7; 8 with the share; 9.
  */
 uint32_t parity_split(uint64_t *words, size_t words_len,
@@ -197,10 +201,11 @@ uint32_t parity_take_back(uint64_t *words, size_t words_len,
  * share, then the smallest lower bit, then the smallest higher bit.
  *
  * words: read, and written by an answer and by refusal 9.
- * Values of the answer, 3: the number of splits made, the sum of s(s-1)/2 over
- *   their shares s, k.
- * Refusals: 1, 2, 3, 4; 9 with the same three values, and then the matrix stands
- *   after the splits made.
+ * Values of the answer, 3 if it made no split, else 5: the number of splits made,
+ *   the sum of s(s-1)/2 over their shares s, k, the lowest and the highest check
+ *   that held the pair of the final split.
+ * Refusals: 1, 2, 3, 4; 9 with the same three or five values, and then the matrix
+ *   stands after the splits made.
  */
 uint32_t parity_orthogonalise(uint64_t *words, size_t words_len,
                               size_t n, size_t m, size_t k,

@@ -15,7 +15,7 @@ pub const WORDS: usize = 4096;
 pub const RECORD_MOST: usize = 14_522;
 
 /// The most values that a call carries.
-pub const VALUES_MOST: usize = 4;
+pub const VALUES_MOST: usize = 5;
 
 /// The most bytes of stack that a call needs.
 pub const STACK_MOST: usize = 65_536;
@@ -49,7 +49,7 @@ pub enum Refusal {
     /// 9 of a split: k is 392.
     Full,
     /// 9 of an orthogonalise: k is 392 and a pair is left. The matrix stands after the splits made.
-    FullAfter { splits: u64, sum: u64, k: usize },
+    FullAfter { splits: u64, sum: u64, k: usize, held: Option<Held> },
     /// 10: a word, message or set of wrong length.
     Length,
     /// 11: a byte outside the values named.
@@ -103,7 +103,7 @@ impl std::fmt::Display for Refusal {
             Refusal::Pair => write!(f, "u = v, or either at n+k or above"),
             Refusal::Share { share } => write!(f, "the share is {share}, below two"),
             Refusal::Full => write!(f, "k is 392"),
-            Refusal::FullAfter { splits, sum, k } => {
+            Refusal::FullAfter { splits, sum, k, .. } => {
                 write!(f, "k is {k} and a pair is left, after {splits} splits with sum {sum}")
             }
             Refusal::Length => write!(f, "a word, message or set of wrong length"),
@@ -133,11 +133,26 @@ pub struct HouseCode {
     pub m: usize,
 }
 
-/// The answer of [`split`]: the share that the pair had, and the new k.
+/// The lowest and the highest check that hold a pair.
+#[derive(Clone, Copy, PartialEq, Eq, Debug)]
+pub struct Held {
+    pub lowest: usize,
+    pub highest: usize,
+}
+
+/// The answer of [`share`]: the share, and the checks that hold the pair, none if it is 0.
+#[derive(Clone, Copy, PartialEq, Eq, Debug)]
+pub struct Shared {
+    pub share: u64,
+    pub held: Option<Held>,
+}
+
+/// The answer of [`split`]: the share that the pair had, the new k, and the checks that held the pair.
 #[derive(Clone, Copy, PartialEq, Eq, Debug)]
 pub struct Split {
     pub share: u64,
     pub k: usize,
+    pub held: Held,
 }
 
 /// The answer of [`take_back`]: the number of other checks that contained the newest added bit, and the new k.
@@ -147,12 +162,14 @@ pub struct TakenBack {
     pub k: usize,
 }
 
-/// The answer of [`orthogonalise`]: the splits made, the sum of s(s-1)/2 over their shares, and k.
+/// The answer of [`orthogonalise`]: the splits made, the sum of s(s-1)/2 over their shares, k, and the checks that held the
+/// pair of the final split, none if there was none.
 #[derive(Clone, Copy, PartialEq, Eq, Debug)]
 pub struct Orthogonalised {
     pub splits: u64,
     pub sum: u64,
     pub k: usize,
+    pub held: Option<Held>,
 }
 
 /// The answer of [`peel`]: how many sent and how many added bits were recovered (2 before and not afterwards), and how
@@ -177,6 +194,11 @@ pub struct Determined {
 
 /// Room for the values of every call.
 type Values = [u64; VALUES_MOST];
+
+/// The two checks that stand from a place of the values on.
+fn held(values: Values, place: usize) -> Held {
+    Held { lowest: values[place] as usize, highest: values[place + 1] as usize }
+}
 
 /// Turns a call's number into its answer or its refusal.
 fn reply(number: u32, values: Values) -> Result<Values, Refusal> {
@@ -238,12 +260,12 @@ pub fn write(words: &[u64], n: usize, m: usize, k: usize, record: &mut [u32]) ->
     reply(number, values).map(|v| v[0] as usize)
 }
 
-/// The number of checks that contain both bits.
-pub fn share(words: &[u64], n: usize, m: usize, k: usize, u: usize, v: usize) -> Result<u64, Refusal> {
+/// The number of checks that contain both bits, and the lowest and the highest of them.
+pub fn share(words: &[u64], n: usize, m: usize, k: usize, u: usize, v: usize) -> Result<Shared, Refusal> {
     let mut values: Values = [0; VALUES_MOST];
     let number =
         unsafe { ffi::parity_share(words.as_ptr(), words.len(), n, m, k, u, v, values.as_mut_ptr(), values.len()) };
-    reply(number, values).map(|v| v[0])
+    reply(number, values).map(|v| Shared { share: v[0], held: (v[0] > 0).then(|| held(v, 1)) })
 }
 
 /// The number of four-cycles.
@@ -258,7 +280,7 @@ pub fn split(words: &mut [u64], n: usize, m: usize, k: usize, u: usize, v: usize
     let mut values: Values = [0; VALUES_MOST];
     let number =
         unsafe { ffi::parity_split(words.as_mut_ptr(), words.len(), n, m, k, u, v, values.as_mut_ptr(), values.len()) };
-    reply(number, values).map(|v| Split { share: v[0], k: v[1] as usize })
+    reply(number, values).map(|v| Split { share: v[0], k: v[1] as usize, held: held(v, 2) })
 }
 
 /// Takes back the newest split: removes the newest added bit and its check, and in every other check that contains the bit
@@ -276,11 +298,12 @@ pub fn orthogonalise(words: &mut [u64], n: usize, m: usize, k: usize) -> Result<
     let number = unsafe {
         ffi::parity_orthogonalise(words.as_mut_ptr(), words.len(), n, m, k, values.as_mut_ptr(), values.len())
     };
-    let [splits, sum, last, _] = values;
+    let [splits, sum, last, ..] = values;
     let k = last as usize;
+    let held = (splits > 0).then(|| held(values, 3));
     match reply(number, values) {
-        Ok(_) => Ok(Orthogonalised { splits, sum, k }),
-        Err(Refusal::Full) => Err(Refusal::FullAfter { splits, sum, k }),
+        Ok(_) => Ok(Orthogonalised { splits, sum, k, held }),
+        Err(Refusal::Full) => Err(Refusal::FullAfter { splits, sum, k, held }),
         Err(other) => Err(other),
     }
 }

@@ -1,6 +1,9 @@
 //! Cases A to K of document 01, cases of taking back, determining and the house codes (document 02), through the wrapper.
 
-use parity::{Determined, HouseCode, Loaded, Orthogonalised, Peeled, Refusal, Split, TakenBack, WORDS};
+use parity::{Determined, Held, HouseCode, Loaded, Orthogonalised, Peeled, Refusal, Shared, Split, TakenBack, WORDS};
+
+/// Checks 0 and 1 held the pair.
+const HELD: Option<Held> = Some(Held { lowest: 0, highest: 1 });
 
 fn matrix(checks: &[&[usize]]) -> Vec<u64> {
     let mut words = vec![0; WORDS];
@@ -56,11 +59,11 @@ fn second_form_of_c() -> [u32; 16] {
 fn a_and_b() {
     let mut words = a();
     assert_eq!(parity::count(&words, 7, 3, 0), Ok(3));
-    assert_eq!(parity::orthogonalise(&mut words, 7, 3, 0), Ok(Orthogonalised { splits: 1, sum: 1, k: 1 }));
+    assert_eq!(parity::orthogonalise(&mut words, 7, 3, 0), Ok(Orthogonalised { splits: 1, sum: 1, k: 1, held: HELD }));
     assert_eq!(words, matrix(&[&[0, 4, 7], &[1, 5, 7], &[2, 4, 5, 6], &[3, 6, 7]]));
     assert_eq!(parity::count(&words, 7, 3, 1), Ok(0));
     let mut by_hand = a();
-    assert_eq!(parity::split(&mut by_hand, 7, 3, 0, 6, 3), Ok(Split { share: 2, k: 1 }));
+    assert_eq!(parity::split(&mut by_hand, 7, 3, 0, 6, 3), Ok(Split { share: 2, k: 1, held: HELD.unwrap() }));
     assert_eq!(by_hand, words);
 }
 
@@ -89,7 +92,7 @@ fn c_and_d() {
 fn e() {
     let mut words = matrix(&[&[0, 1, 2], &[0, 1, 2]]);
     assert_eq!(parity::count(&words, 3, 2, 0), Ok(3));
-    assert_eq!(parity::orthogonalise(&mut words, 3, 2, 0), Ok(Orthogonalised { splits: 2, sum: 2, k: 2 }));
+    assert_eq!(parity::orthogonalise(&mut words, 3, 2, 0), Ok(Orthogonalised { splits: 2, sum: 2, k: 2, held: HELD }));
     assert_eq!(parity::count(&words, 3, 2, 2), Ok(0));
 }
 
@@ -99,10 +102,10 @@ fn e_taken_back() {
     let e = matrix(&[&[0, 1, 2], &[0, 1, 2]]);
     let mut words = e.clone();
     assert_eq!(parity::take_back(&mut words, 3, 2, 0), Err(Refusal::NothingToTakeBack));
-    assert_eq!(parity::split(&mut words, 3, 2, 0, 0, 1), Ok(Split { share: 2, k: 1 }));
+    assert_eq!(parity::split(&mut words, 3, 2, 0, 0, 1), Ok(Split { share: 2, k: 1, held: HELD.unwrap() }));
     let once = words.clone();
     assert_eq!(once, matrix(&[&[2, 3], &[2, 3], &[0, 1, 3]]));
-    assert_eq!(parity::split(&mut words, 3, 2, 1, 2, 3), Ok(Split { share: 2, k: 2 }));
+    assert_eq!(parity::split(&mut words, 3, 2, 1, 2, 3), Ok(Split { share: 2, k: 2, held: HELD.unwrap() }));
     assert_eq!(words, matrix(&[&[4], &[4], &[0, 1, 3], &[2, 3, 4]]));
     assert_eq!(parity::take_back(&mut words, 3, 2, 2), Ok(TakenBack { share: 2, k: 1 }));
     assert_eq!(words, once);
@@ -238,7 +241,11 @@ fn no_codeword_agrees() {
 #[test]
 fn g_and_h() {
     let mut words = c();
-    assert_eq!(parity::share(&words, 7, 3, 0, 0, 3), Ok(1));
+    assert_eq!(
+        parity::share(&words, 7, 3, 0, 0, 3),
+        Ok(Shared { share: 1, held: Some(Held { lowest: 0, highest: 0 }) })
+    );
+    assert_eq!(parity::share(&words, 7, 3, 0, 3, 6), Ok(Shared { share: 0, held: None }));
     assert_eq!(parity::split(&mut words, 7, 3, 0, 0, 3), Err(Refusal::Share { share: 1 }));
     assert_eq!(parity::split(&mut words, 7, 3, 0, 4, 4), Err(Refusal::Pair));
     assert_eq!(words, c());

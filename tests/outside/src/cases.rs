@@ -116,7 +116,7 @@ fn bench(t: &mut Tally) -> Result<(), String> {
     let mut lent = lend(Kind::Count, &a());
     t.same("A, count", call(&mut lent), reply(0, &[3]))?;
     lent.kind = Kind::Orthogonalise;
-    t.same("B, splits and sum", call(&mut lent), reply(0, &[1, 1, 1]))?;
+    t.same("B, splits and sum", call(&mut lent), reply(0, &[1, 1, 1, 0, 1]))?;
     let b = Matrix::read(&lent.words, 7, 3, 1);
     t.same("B, checks", check_lists(&b), vec![vec![0, 4, 7], vec![1, 5, 7], vec![2, 4, 5, 6], vec![3, 6, 7]])?;
     t.same("B, count", b.cycles(), 0)?;
@@ -127,7 +127,7 @@ fn bench(t: &mut Tally) -> Result<(), String> {
     t.same("C, word", lent.word.clone(), vec![2, 2, 2, 1, 1, 1, 1])?;
     t.same("C, count", c().cycles(), 2)?;
     lent.kind = Kind::Orthogonalise;
-    t.same("D, splits and sum", call(&mut lent), reply(0, &[1, 1, 1]))?;
+    t.same("D, splits and sum", call(&mut lent), reply(0, &[1, 1, 1, 0, 1]))?;
     let d = Matrix::read(&lent.words, 7, 3, 1);
     t.same("D, checks", check_lists(&d), vec![vec![2, 3, 7], vec![4, 5, 7], vec![0, 2, 6], vec![0, 1, 7]])?;
     lent.kind = Kind::Peel;
@@ -139,7 +139,7 @@ fn bench(t: &mut Tally) -> Result<(), String> {
     let mut lent = lend(Kind::Count, &e());
     t.same("E, count", call(&mut lent), reply(0, &[3]))?;
     lent.kind = Kind::Orthogonalise;
-    t.same("E, splits and sum", call(&mut lent), reply(0, &[2, 2, 2]))?;
+    t.same("E, splits and sum", call(&mut lent), reply(0, &[2, 2, 2, 0, 1]))?;
     lent.kind = Kind::Count;
     lent.k = 2;
     t.same("E, count afterwards", call(&mut lent), reply(0, &[0]))?;
@@ -236,7 +236,11 @@ fn bench(t: &mut Tally) -> Result<(), String> {
     let (u, v) = tight.pairs()[0];
     let mut lent = lend(Kind::Split, &tight);
     (lent.u, lent.v) = (u, v);
-    t.same("a split at k = 391", call(&mut lent), reply(0, &[tight.share(u, v), 392]))?;
+    t.same(
+        "a split at k = 391",
+        call(&mut lent),
+        reply(0, &[vec![tight.share(u, v), 392], tight.holders(u, v)].concat()),
+    )?;
     lent.k = 392;
     let (u, v) = Matrix::read(&lent.words, 9, 6, 392).pairs()[0];
     (lent.u, lent.v) = (u, v);

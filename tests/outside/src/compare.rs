@@ -35,9 +35,9 @@ fn keep(lent: &Lent) {
     }
 }
 
-/// Makes the call on both sides, with `values` of 0 to 5 words, and gives the model's reply and what is lent afterwards.
+/// Makes the call on both sides, with `values` of 0 to 6 words, and gives the model's reply and what is lent afterwards.
 pub fn compare(lent: &Lent, r: &mut Random) -> Result<(Reply, Lent), String> {
-    let before = (0..r.below(6)).map(|_| r.next()).collect();
+    let before = (0..r.below(7)).map(|_| r.next()).collect();
     compare_with(lent, before)
 }
 

@@ -96,7 +96,7 @@ fn one_word(r: &mut Random, matrix: &Matrix, word: Vec<u8>, tally: &mut Tally) -
     let n = matrix.n;
     let mut lent = cases::lend(Kind::Peel, matrix);
     lent.word = word;
-    let before = (0..r.between(parity::VALUES_MOST, 6)).map(|_| r.next()).collect();
+    let before = (0..r.between(parity::VALUES_MOST, 7)).map(|_| r.next()).collect();
     // The values that the library carries are those of the model's reply.
     let (reply, _) = compare_with(&lent, before)?;
     let fail = |what: &str| Err(format!("THE FOUR NUMBERS {:?}: {what}\n{}", reply.values, describe(&lent)));

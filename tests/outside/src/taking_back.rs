@@ -33,7 +33,7 @@ fn at_once(r: &mut Random, matrix: &Matrix, (u, v): (usize, usize)) -> Result<()
     let mut lent = cases::lend(Kind::Split, matrix);
     (lent.u, lent.v) = if r.chance(500) { (u, v) } else { (v, u) };
     let (made, mut lent) = compare(&lent, r)?;
-    let [share, k] = made.values[..] else {
+    let [share, k, ..] = made.values[..] else {
         return fail("the split is not made", &lent, &made);
     };
     lent.kind = Kind::TakeBack;
@@ -85,7 +85,7 @@ fn splits(r: &mut Random) -> Result<usize, String> {
 /// Orthogonalises a given matrix and takes every split back: the given words, and the sum that was answered.
 fn all_the_way(r: &mut Random, given: &Matrix) -> Result<usize, String> {
     let (done, mut lent) = compare(&cases::lend(Kind::Orthogonalise, given), r)?;
-    let [splits, sum, k] = done.values[..] else {
+    let [splits, sum, k, ..] = done.values[..] else {
         return fail("the matrix is not orthogonalised", &lent, &done);
     };
     lent.kind = Kind::TakeBack;

@@ -159,8 +159,9 @@ fn house_codes() {
         assert_eq!(words, matrix(&checks.iter().map(Vec::as_slice).collect::<Vec<_>>()));
         assert_eq!(parity::rank(&words, n, m, 0), Ok(rank));
         assert_eq!(parity::count(&words, n, m, 0), Ok(count));
-        let k = splits as usize;
-        assert_eq!(parity::orthogonalise(&mut words, n, m, 0), Ok(Orthogonalised { splits, sum, k }));
+        let made = parity::orthogonalise(&mut words, n, m, 0).expect("it finishes");
+        assert_eq!((made.splits, made.sum, made.k), (splits, sum, splits as usize));
+        assert_eq!(made.held.is_some(), splits > 0);
     }
 }
 

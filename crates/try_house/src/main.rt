@@ -34,7 +34,12 @@ fn show_count(words: &[u64], n: usize, m: usize, k: usize) {
 // Orthogonalises, and answers k.
 fn show_orthogonalise(words: &mut [u64], n: usize, m: usize) -> usize {
     match split::orthogonalise(words, n, m, 0) {
-        Orthogonalising::Finished { splits, sum, k } => {
+        Orthogonalising::Finished {
+            splits,
+            sum,
+            k,
+            held: _,
+        } => {
             field(b", splits ", splits);
             field(b", sum ", sum);
             field(b", k ", k as u64);

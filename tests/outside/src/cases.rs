@@ -293,7 +293,8 @@ fn house_codes(t: &mut Tally) -> Result<(), String> {
         t.same("a house code, rank", given.rank(), rank)?;
         t.same("a house code, count", given.cycles(), count)?;
         lent = lend(Kind::Orthogonalise, &given);
-        t.same("a house code, orthogonalised", call(&mut lent), reply(0, &orthogonalised))?;
+        let made = call(&mut lent);
+        t.same("a house code, orthogonalised", (made.number, &made.values[..3]), (0, &orthogonalised[..]))?;
         given.orthogonalise();
         t.same("a house code, orthogonalised, count", given.cycles(), 0)?;
     }

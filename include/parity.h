@@ -55,7 +55,7 @@ extern "C" {
 #define PARITY_CHECKS_MOST 120
 #define PARITY_ADDED_MOST 392
 /* The most words that parity_write uses. */
-#define PARITY_RECORD_MOST 14522
+#define PARITY_RECORD_MOST 14914
 
 /* The most values that a call carries. */
 #define PARITY_VALUES_MOST 5
@@ -90,11 +90,12 @@ extern "C" {
 #define PARITY_BYTE 11
 /* Contradiction: checks that cannot be made even. */
 #define PARITY_CONTRADICTION 12
-/* k is above 0 in writing, rank or encoding. */
+/* k is above 0 in rank or encoding. */
 #define PARITY_EXTENDED 13
 /* k = 0: there is nothing to take back. */
 #define PARITY_NOTHING_TO_TAKE_BACK 15
-/* The matrix with the newest added bit taken back would break rule A. */
+/* The matrix with the newest added bit taken back would break rule A; from
+ * parity_write: no splits made the matrix. */
 #define PARITY_CANNOT_TAKE_BACK 16
 /* No house code has the name. */
 #define PARITY_UNKNOWN_NAME 17
@@ -107,7 +108,7 @@ extern "C" {
 #define PARITY_HOUSE_HAMMING_15 3
 #define PARITY_HOUSE_HAMMING_31 4
 
-/* Loads a record of either form into a matrix with k = 0.
+/* Loads a record of any form.
  *
  * record: read. Words of 32 bits; bits 28 to 31 are a word's kind and unnamed
  *   bits are zero. The first word's kind says the form.
@@ -118,25 +119,34 @@ extern "C" {
  *   Second form. Kind 4, only first, laid out as kind 1. A kind 2 word holds
  *   besides, in bits 8-15, the number of the check that it opens, from 0. Kinds
  *   3 and 15 as in the first form.
+ *   Third form. Kind 5, only first, laid out as kind 1. Kinds 2, 3 and 15 as in
+ *   the second form. Before the last word come kind 6 words, one for each split,
+ *   in order: bits 0-8 its lower bit, bits 9-17 its higher bit. They are
+ *   performed as by parity_split.
  * words: all PARITY_WORDS are written.
- * Values of the answer, 2: n, m.
+ * Values of the answer, 3: n, m, and k, which is the number of splits.
  * Refusals: 1; 5 with the place of the first faulty word, where a missing word
  *   is faulty at the place where it should be and a word after the last one is
  *   faulty. A first word with n outside 1 to 120 or m above 120 is refused 5 at
- *   place 0. A wrong check number is refused 5 at the place of its kind 2 word.
+ *   place 0. A wrong check number is refused 5 at the place of its kind 2 word, a
+ *   lower bit that is not below the higher, or a split that parity_split would
+ *   refuse, at that of its kind 6 word.
  */
 uint32_t parity_load(const uint32_t *record, size_t record_len,
                      uint64_t *words, size_t words_len,
                      uint64_t *values, size_t values_len);
 
-/* Writes a matrix with k = 0 as a record of the second form (parity_load has its
- * layout). A record of the second form that was loaded is written as it was, one
- * of the first form as its second form, which has as many words.
+/* Writes a matrix as a record: of the second form where k = 0, and else of the
+ * third, with the checks before the splits and the splits (parity_load has the
+ * layouts). A record that was loaded is written as it was if it is of the second
+ * form, or of the third with splits; else as its second form, which has as many
+ * words.
  *
  * words: read.
  * record: its first elements are written, the others are left.
  * Values of the answer, 1: the number of words used, at most PARITY_RECORD_MOST.
- * Refusals: 1, 2, 3, 4, 13; 6 with the number of words needed.
+ * Refusals: 1, 2, 3, 4; 16, never for a matrix that splits have made from one
+ *   with k = 0; 6 with the number of words needed.
  */
 uint32_t parity_write(const uint64_t *words, size_t words_len,
                       size_t n, size_t m, size_t k,

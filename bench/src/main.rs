@@ -162,6 +162,35 @@ fn measure(job: &Job) -> Result<(u64, u64), String> {
     Ok((best_library / times, best_plain / times))
 }
 
+/// What `mend` does with a record and a word of erased sent bits: loads, orthogonalises from the loaded k on, and peels.
+fn mend(record: &[u32], words: &mut [u64]) {
+    let loaded = parity::load(record, words).expect("the record loads");
+    let k = match parity::orthogonalise(words, loaded.n, loaded.m, loaded.k) {
+        Ok(done) => done.k,
+        Err(parity::Refusal::FullAfter { k, .. }) => k,
+        Err(refused) => panic!("{refused}"),
+    };
+    let mut word = [2; 512];
+    black_box(parity::peel(words, loaded.n, loaded.m, k, &mut word[..loaded.n + k])).expect("erased bits alone");
+}
+
+/// The best nanoseconds of `mend` for two records, in turn.
+fn mends(one: &[u32], other: &[u32]) -> (u64, u64) {
+    let mut words = vec![0; WORDS];
+    let mut timed = |record: &[u32], times: u64| {
+        let start = Instant::now();
+        (0..times).for_each(|_| mend(black_box(record), &mut words));
+        start.elapsed().as_nanos() as u64
+    };
+    let times = (RUN_LENGTH / (timed(other, 3) / 3).max(1)).clamp(3, 10_000);
+    let (mut best_one, mut best_other) = (u64::MAX, u64::MAX);
+    for _ in 0..RUNS {
+        best_one = best_one.min(timed(one, times));
+        best_other = best_other.min(timed(other, times));
+    }
+    (best_one / times, best_other / times)
+}
+
 /// The best nanoseconds of one call of the library for each of two jobs, which are timed in turn and on copied words.
 fn in_turn(one: &Job, other: &Job) -> (u64, u64) {
     let clock = clock();
@@ -231,6 +260,15 @@ impl Case {
             word: Vec::new(),
             values: [0; VALUES_MOST],
         }
+    }
+
+    /// The record that is written of it.
+    fn record(&self) -> Vec<u32> {
+        let mut values = [0; VALUES_MOST];
+        plain::write(&self.words, self.n, self.m, self.k, &mut [], &mut values);
+        let mut record = vec![0; values[0] as usize];
+        plain::write(&self.words, self.n, self.m, self.k, &mut record, &mut values);
+        record
     }
 
     /// The pair with the largest share, the first if there are several.
@@ -341,15 +379,12 @@ fn jobs(r: &mut Random, given: &Case, case: &Case) -> Vec<(String, Job)> {
         job.call = Call::Determine;
         row(&name, job);
     }
+    let mut job = case.job(Call::Write);
+    job.record = case.record();
+    row("write", job.clone());
+    job.call = Call::Load;
+    row("load", job);
     if case.k == 0 {
-        let mut values = [0; VALUES_MOST];
-        let mut job = case.job(Call::Write);
-        plain::write(&case.words, case.n, case.m, 0, &mut [], &mut values);
-        job.record = vec![0; values[0] as usize];
-        in_plain(&mut job);
-        row("write", job.clone());
-        job.call = Call::Load;
-        row("load", job);
         row("rank", case.job(Call::Rank));
         let mut job = case.job(Call::Encode);
         job.input = message;
@@ -396,6 +431,17 @@ fn table(r: &mut Random, given: &[Case], cases: &[Case]) -> Result<(), String> {
         for column in &columns {
             let (back, accept) = in_turn(&column[back].1, &column[accept].1);
             line += &cell(back, accept, 2);
+        }
+        println!("{line}");
+    }
+    if cases.iter().all(|case| case.k > 0) {
+        let mut line = "| load, orthogonalise, peel: third form / first form, both of the library, in turn |".to_string();
+        for (given, case) in given.iter().zip(cases) {
+            let mut first = given.record();
+            first[0] = first[0] & 0x0FFF_FFFF | 0x1000_0000;
+            first.iter_mut().filter(|word| **word >> 28 == 2).for_each(|word| *word &= !0xFF00);
+            let (third, first) = mends(&case.record(), &first);
+            line += &cell(third, first, 2);
         }
         println!("{line}");
     }

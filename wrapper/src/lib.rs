@@ -12,7 +12,7 @@ pub mod ffi;
 pub const WORDS: usize = 4096;
 
 /// The most words that [`write`] uses.
-pub const RECORD_MOST: usize = 14_522;
+pub const RECORD_MOST: usize = 14_914;
 
 /// The most values that a call carries.
 pub const VALUES_MOST: usize = 5;
@@ -60,7 +60,7 @@ pub enum Refusal {
     Extended,
     /// 15: k is 0, so there is nothing to take back.
     NothingToTakeBack,
-    /// 16: the matrix with the newest added bit taken back would break rule A.
+    /// 16: the matrix with the newest added bit taken back would break rule A; or a matrix to write that no splits made.
     CannotTakeBack,
     /// 17: no house code has this name.
     UnknownName,
@@ -111,7 +111,7 @@ impl std::fmt::Display for Refusal {
             Refusal::Contradiction => write!(f, "contradiction: the checks cannot be made even"),
             Refusal::Extended => write!(f, "k is above 0"),
             Refusal::NothingToTakeBack => write!(f, "k is 0, there is nothing to take back"),
-            Refusal::CannotTakeBack => write!(f, "with the newest added bit taken back rule A would be broken"),
+            Refusal::CannotTakeBack => write!(f, "with an added bit taken back rule A would be broken, or no splits made the matrix"),
             Refusal::UnknownName => write!(f, "no house code has this name"),
         }
     }
@@ -124,6 +124,7 @@ impl std::error::Error for Refusal {}
 pub struct Loaded {
     pub n: usize,
     pub m: usize,
+    pub k: usize,
 }
 
 /// The answer of [`house_code`].
@@ -224,7 +225,7 @@ fn reply(number: u32, values: Values) -> Result<Values, Refusal> {
     })
 }
 
-/// Loads a record, of the first or the second form, into a matrix with k = 0; writes all words.
+/// Loads a record, of any form, and performs its splits; writes all words.
 pub fn load(record: &[u32], words: &mut [u64]) -> Result<Loaded, Refusal> {
     let mut values: Values = [0; VALUES_MOST];
     // The pointers and lengths are those of live slices, and the written ones are borrowed alone; so in each call below.
@@ -238,10 +239,11 @@ pub fn load(record: &[u32], words: &mut [u64]) -> Result<Loaded, Refusal> {
             values.len(),
         )
     };
-    reply(number, values).map(|v| Loaded { n: v[0] as usize, m: v[1] as usize })
+    reply(number, values).map(|v| Loaded { n: v[0] as usize, m: v[1] as usize, k: v[2] as usize })
 }
 
-/// Writes a matrix with k = 0 as a record of the second form; answers the number of words used, and leaves the others.
+/// Writes a matrix as a record, of the second form where k = 0 and else of the third; answers the number of words used, and
+/// leaves the others.
 pub fn write(words: &[u64], n: usize, m: usize, k: usize, record: &mut [u32]) -> Result<usize, Refusal> {
     let mut values: Values = [0; VALUES_MOST];
     let number = unsafe {

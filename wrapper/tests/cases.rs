@@ -273,7 +273,7 @@ fn k() {
     let mut words = vec![7; WORDS];
     assert_eq!(parity::load(&[], &mut words), Err(Refusal::FaultyWord { place: 0 }));
     assert_eq!(words, vec![7; WORDS]);
-    assert_eq!(parity::load(&RECORD_C, &mut words), Ok(Loaded { n: 7, m: 3 }));
+    assert_eq!(parity::load(&RECORD_C, &mut words), Ok(Loaded { n: 7, m: 3, k: 0 }));
     assert_eq!(words, c());
     let mut record = [0; 20];
     assert_eq!(parity::write(&words, 7, 3, 0, &mut record), Ok(16));
@@ -285,13 +285,43 @@ fn k() {
 fn second_form() {
     let mut words = vec![7; WORDS];
     let mut record = second_form_of_c();
-    assert_eq!(parity::load(&record, &mut words), Ok(Loaded { n: 7, m: 3 }));
+    assert_eq!(parity::load(&record, &mut words), Ok(Loaded { n: 7, m: 3, k: 0 }));
     assert_eq!(words, c());
     record[6] = 0x2000_0004;
     assert_eq!(parity::load(&record, &mut words), Err(Refusal::FaultyWord { place: 6 }));
     record[0] = 0x1000_0307;
     assert_eq!(parity::load(&record, &mut words), Err(Refusal::FaultyWord { place: 11 }));
     assert_eq!(words, c());
+}
+
+#[test]
+fn third_form() {
+    // C with its split of bits 0 and 1, which gives D.
+    let mut record = second_form_of_c().to_vec();
+    record[0] = 0x5000_0307;
+    record.insert(15, 0x6000_0200);
+    let mut words = vec![7; WORDS];
+    assert_eq!(parity::load(&record, &mut words), Ok(Loaded { n: 7, m: 3, k: 1 }));
+    let mut d = c();
+    assert_eq!(parity::split(&mut d, 7, 3, 0, 0, 1).map(|made| made.k), Ok(1));
+    assert_eq!(words, d);
+    let mut written = [0; 20];
+    assert_eq!(parity::write(&words, 7, 3, 1, &mut written), Ok(17));
+    assert_eq!(written[..17], record);
+    assert_eq!(parity::write(&words, 7, 3, 1, &mut written[..16]), Err(Refusal::RecordShort { needed: 17 }));
+    // The higher bit first, a share below two, and a split in the second form.
+    record[15] = 0x6000_0001;
+    assert_eq!(parity::load(&record, &mut words), Err(Refusal::FaultyWord { place: 15 }));
+    record[15] = 0x6000_0600;
+    assert_eq!(parity::load(&record, &mut words), Err(Refusal::FaultyWord { place: 15 }));
+    record[15] = 0x6000_0200;
+    record[0] = 0x4000_0307;
+    assert_eq!(parity::load(&record, &mut words), Err(Refusal::FaultyWord { place: 15 }));
+    assert_eq!(words, d);
+    // An accepted matrix that no split made: 16 before 6.
+    let mut alone = vec![0; WORDS];
+    alone[0] = 7;
+    assert_eq!(parity::write(&alone, 2, 0, 1, &mut []), Err(Refusal::CannotTakeBack));
 }
 
 #[test]

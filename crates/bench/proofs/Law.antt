@@ -131,7 +131,7 @@ law-loading source place e ws l = rw (eq-eqb _ _ l, refused (loading source) e)
   where
     refused : (x : Loaded) → faultyAt x place ≡ true → loadedReply x ≡ refusal 5 (place ∷ [])
     refused (faulty p) q = unfold loadedReply faultyAt in (rw (eqb-true p place q))
-    refused (loaded n m h) q = absurd (false≢true (unfold faultyAt in q))
+    refused (loaded n m k h) q = absurd (false≢true (unfold faultyAt in q))
 
 -- The law: what is tested holds.
 pub law : (c : Case) → test c ≡ true → Holds c

@@ -53,7 +53,7 @@ peelsTo h n m k w numbers after =
 
 unfoldable pub faultyAt : Loaded → ℕ → Bool
 faultyAt (faulty p) place = eqb p place
-faultyAt (loaded n m h) place = false
+faultyAt (loaded n m k h) place = false
 
 unfoldable pub test : Case → Bool
 test (counting g c) = fits (g .n) (g .m) (g .k) (g .checks) && eqb (cycles (listed (g .checks)) (g .n + g .k) (g .m + g .k)) c

@@ -5,7 +5,7 @@ ghost use mathlib.Core.Path.{_≡_};
 ghost use Rattle.parity.specs.Calls.{loadOutcome, writeOutcome, shareReply, countReply, splitOutcome, takeBackOutcome, orthogonaliseOutcome, verifyReply, extendOutcome, isStoppingReply, peelOutcome, rankReply, encodeOutcome, houseOutcome, determineOutcome};
 ghost use Rattle.reply.specs.Passed.{Passed};
 
-// Carries n and m.
+// Carries n, m and k.
 #[no_mangle]
 pub extern "C" fn parity_load(record: &[u32], words: &mut [u64], values: &mut [u64]) -> u32
     ensures { λ r. ⌜ Passed (loadOutcome (now («record» .entry)) (now (words .entry)) .reply) (now (values .entry)) (now (values .exit)) r ⌝ }

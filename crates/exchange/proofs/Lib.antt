@@ -1,3 +1,4 @@
 pub mod Common
 pub mod Exchange
 pub mod Restoring
+pub mod ReadPair

@@ -5,5 +5,7 @@ pub mod Records
 pub mod ReadPart
 pub mod ReadWritten
 pub mod ReadBack
+pub mod Performed
 pub mod SecondForm
 pub mod RoundTrip
+pub mod Relay

@@ -8,6 +8,7 @@ use lib.ListN.{getD, length, drop}
 use Rattle.parity.specs.Finite.{one, any, least, listFrom}
 use Rattle.parity.specs.Matrix.{lent, pack, ruleA, cause}
 use Rattle.parity.specs.Cycles.{share, heldBy, cycles, splitOf, takenBack, others, Orthogonalised, orthogonal}
+use Rattle.parity.specs.Splits.{notBuilt}
 use Rattle.parity.specs.Words.{isOne, codeword, extended, stopping, peels, peeled, losses}
 use Rattle.parity.specs.Determining.{someAgrees, determined}
 use Rattle.parity.specs.Record.{Loaded, faulty, loaded, loading, written}
@@ -42,15 +43,15 @@ checkingBytes N top w after = refuse (wrongLength N w) (refusal 10 []) (refuse (
 unfoldable pub acceptReply : List ℕ → ℕ → ℕ → ℕ → Reply
 acceptReply ws n m k = accepting ws n m k (answer [])
 
--- load: answers n and m, and writes all 4,096 words
+-- load: answers n, m and k, and writes all 4,096 words
 unfoldable pub loadedReply : Loaded → Reply
 loadedReply (faulty place) = refusal 5 (place ∷ [])
-loadedReply (loaded n m h) = answer (n ∷ m ∷ [])
+loadedReply (loaded n m k h) = answer (n ∷ m ∷ k ∷ [])
 
 -- of a faulty record this is discarded: the refusal leaves the words
 unfoldable pub loadedWords : Loaded → List ℕ
 loadedWords (faulty place) = []
-loadedWords (loaded n m h) = pack 8 h
+loadedWords (loaded n m k h) = pack 8 h
 
 unfoldable pub loadOutcome : List ℕ → List ℕ → Outcome
 loadOutcome source ws =
@@ -59,10 +60,10 @@ loadOutcome source ws =
 -- write: answers the number of words used; the others are left
 unfoldable pub writeOutcome : List ℕ → ℕ → ℕ → ℕ → List ℕ → Outcome
 writeOutcome ws n m k target =
-    let out = written (lent 8 ws) n m in
+    let out = written (lent 8 ws) n m k in
     leaving target
     (accepting ws n m k
-    (refuse (ltb 0 k) (refusal 13 [])
+    (refuse (notBuilt (lent 8 ws) n m k) (refusal 16 [])
     (refuse (ltb (length target) (length out)) (refusal 6 (length out ∷ []))
     (answer (length out ∷ [])))))
     (out ++ drop (length out) target)

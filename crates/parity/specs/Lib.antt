@@ -1,6 +1,7 @@
 pub mod Finite
 pub mod Matrix
 pub mod Cycles
+pub mod Splits
 pub mod Words
 pub mod Determining
 pub mod Demand3

@@ -71,14 +71,14 @@ report n splits total w =
 unfoldable pub unlessRefused : Reply → List ℕ → List ℕ
 unlessRefused r text = cond (eqb (r .number) 0) text (refusedLine (r .number))
 
--- It loads, orthogonalises, sets added bits to 2 and peels. What n, m, splits, total and k are after a refusal, and what follows from them,
+-- It loads, orthogonalises from the loaded k on, sets added bits to 2 and peels; splits and total are those of the orthogonalise alone. What n, m, splits, total and k are after a refusal, and what follows from them,
 -- is discarded: the refusal's line is all that is written.
 unfoldable pub mend : List ℕ → List ℕ
 mend input =
     let l = loadOutcome (recordIn input) (replicate 4096 0) in
     let n = getD (l .reply .values) 0 0 in
     let m = getD (l .reply .values) 1 0 in
-    let o = orthogonaliseOutcome (l .after) n m 0 in
+    let o = orthogonaliseOutcome (l .after) n m (getD (l .reply .values) 2 0) in
     let splits = getD (o .reply .values) 0 0 in
     let total = getD (o .reply .values) 1 0 in
     let k = getD (o .reply .values) 2 0 in

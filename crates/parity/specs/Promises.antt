@@ -1,38 +1,47 @@
 -- What document 02 promises in words of its calls, each as a statement over what the calls answer and leave. Read Causes (replies and
--- outcomes) and Calls (what each call comes to) first. Assumes nothing.
+-- outcomes), Calls (what each call comes to) and Demand3 (lists of calls) first. Assumes nothing.
 use Prim.Native.Nat.{ℕ, _≤_, _+_, _<_, _-_}
 use mathlib.Core.Path.{_≡_}
-use mathlib.Core.Bool.{Bool, true, false, not, _&&_}
+use mathlib.Core.Bool.{Bool, true, false, not, _&&_, cond}
 use mathlib.Core.List.{List, [], _∷_, _++_}
 use lib.ListN.{getD, length, take, drop, replicate}
 use Rattle.parity.specs.Record.{kindOf, secondForm}
 use Rattle.parity.specs.Causes.{answer, refusal, Outcome}
-use Rattle.parity.specs.Matrix.{lent, cause, Matrix}
+use Rattle.parity.specs.Matrix.{lent, cause, Matrix, pack}
 use Rattle.parity.specs.House.{houseCode}
 use Rattle.parity.specs.Calls.{loadOutcome, writeOutcome, splitOutcome, takeBackOutcome, houseOutcome, byteOf, verifyReply, peelOutcome, determineOutcome, shareReply, orthogonaliseOutcome}
 use mathlib.Core.Logic.{_↔_}
-use Rattle.parity.specs.Demand3.{Call, runs, start, Verifies, erasing, Left, Recovered}
-use lib.Dec.{eqb}
+use Rattle.parity.specs.Demand3.{Call, runs, start, Verifies, erasing, Left, Recovered, none, Stand, Keeps}
+use lib.Dec.{eqb, ltb}
+use Rattle.parity.specs.Splits.{allBack, splitsSum, rebuilds}
 
 -- M-101: a split that is made, followed by taking back, gives the same words and k; both answer the same s.
 abbrev pub SplitTakenBack : Type 0
 SplitTakenBack = (ws : List ℕ) (n m k u v s k′ : ℕ) (held : List ℕ) → splitOutcome ws n m k u v .reply ≡ answer (s ∷ k′ ∷ held)
     → takeBackOutcome (splitOutcome ws n m k u v .after) n m k′ ≡ record { reply = answer (s ∷ k ∷ []); after = ws }
 
--- M-103: each written record loads to its matrix, whatever the words held before;
+-- M-103 and M-107: each written record loads to its matrix, with the same words, n, m and k, whatever the words held before;
 abbrev pub WrittenLoads : Type 0
 WrittenLoads = (ws : List ℕ) (n m k : ℕ) (target held : List ℕ) (used : ℕ) → writeOutcome ws n m k target .reply ≡ answer (used ∷ []) → length held ≡ 4096
-    → loadOutcome (take used (writeOutcome ws n m k target .after)) held ≡ record { reply = answer (n ∷ m ∷ []); after = ws }
+    → loadOutcome (take used (writeOutcome ws n m k target .after)) held ≡ record { reply = answer (n ∷ m ∷ k ∷ []); after = ws }
 
--- a loaded second-form record writes to itself;
+-- a record that loads, with k, is written as these words
+abbrev pub WrittenAs : List ℕ → List ℕ → Type 0
+WrittenAs source words = (held target : List ℕ) (n m k : ℕ) → loadOutcome source held .reply ≡ answer (n ∷ m ∷ k ∷ []) → length source ≤ length target
+    → writeOutcome (loadOutcome source held .after) n m k target ≡ record { reply = answer (length source ∷ []); after = words ++ drop (length source) target }
+
+-- a loaded second-form record writes to itself (M-103);
 abbrev pub SecondFormKept : Type 0
-SecondFormKept = (source held target : List ℕ) (n m : ℕ) → kindOf (getD source 0 0) ≡ 4 → loadOutcome source held .reply ≡ answer (n ∷ m ∷ []) → length source ≤ length target
-    → writeOutcome (loadOutcome source held .after) n m 0 target ≡ record { reply = answer (length source ∷ []); after = source ++ drop (length source) target }
+SecondFormKept = (source : List ℕ) → kindOf (getD source 0 0) ≡ 4 → WrittenAs source source
 
--- and a first-form one to its second form, which has as many words.
+-- a first-form one to its second form, which has as many words (M-103);
 abbrev pub FirstFormNumbered : Type 0
-FirstFormNumbered = (source held target : List ℕ) (n m : ℕ) → kindOf (getD source 0 0) ≡ 1 → loadOutcome source held .reply ≡ answer (n ∷ m ∷ []) → length source ≤ length target
-    → writeOutcome (loadOutcome source held .after) n m 0 target ≡ record { reply = answer (length source ∷ []); after = secondForm source ++ drop (length source) target }
+FirstFormNumbered = (source : List ℕ) → kindOf (getD source 0 0) ≡ 1 → WrittenAs source (secondForm source)
+
+-- a third-form one to itself if it has splits, and else to its second form (M-107).
+abbrev pub ThirdFormKept : Type 0
+ThirdFormKept = (source held : List ℕ) (n m k : ℕ) → kindOf (getD source 0 0) ≡ 5 → loadOutcome source held .reply ≡ answer (n ∷ m ∷ k ∷ [])
+    → WrittenAs source (cond (ltb 0 k) source (secondForm source))
 
 -- M-104: a house code that is copied is accepted with k = 0, and its words hold the matrix that its rule says.
 abbrev pub HouseCopied : Type 0
@@ -133,3 +142,40 @@ OrthogonaliseHolders = (ws : List ℕ) (n m k splits total k′ : ℕ) (held : L
     → orthogonaliseOutcome ws n m k .reply .values ≡ splits ∷ total ∷ k′ ∷ held
     → (splits ≡ 0 → held ≡ [])
     × (0 < splits → Names (m + k′) (holdingBeside (lent 8 (orthogonaliseOutcome ws n m k .after)) (m + (k′ - 1)) (n + (k′ - 1))) held)
+
+-- M-107: at most 14,914 words are used;
+abbrev pub WrittenMost : Type 0
+WrittenMost = (ws : List ℕ) (n m k : ℕ) (target : List ℕ) (used : ℕ) → writeOutcome ws n m k target .reply ≡ answer (used ∷ []) → used ≤ 14914
+
+-- an accepted matrix whose recovered list does not rebuild it is refused 16;
+abbrev pub NotRebuilt : Type 0
+NotRebuilt = (ws : List ℕ) (n m k : ℕ) (target : List ℕ) → cause ws n m k ≡ 0 → rebuilds (lent 8 ws) n m k ≡ false
+    → writeOutcome ws n m k target ≡ record { reply = refusal 16 []; after = target }
+
+-- The checks before the splits of a loaded matrix, as words of their own; and what stands after loading, at the start of a list of calls: the carried
+-- sum is that of the loaded splits. Without splits it is demand 3's start.
+abbrev pub checksBefore : List ℕ → ℕ → ℕ → ℕ → List ℕ
+checksBefore ws n m k = pack 8 (allBack (lent 8 ws) n m k)
+
+abbrev pub loadedStart : List ℕ → ℕ → ℕ → ℕ → Stand
+loadedStart ws n m k = record { words = ws; k = k; carried = splitsSum (lent 8 ws) n m k; last = none }
+
+-- What holds of the checks before the splits and of what stands after a list that starts at a load:
+pub record Relayed (given : List ℕ) (n m : ℕ) (s : Stand) : Type 0 where
+  -- demand 3's words, from the load on: the code of the checks before the splits is kept, and no less is recovered than by them
+  pub accepted : cause given n m 0 ≡ 0
+  pub keeps : Keeps given n m s
+  -- they are the checks before all splits that are not taken back
+  pub checks : checksBefore (s .words) n m (s .k) ≡ given
+  -- writing is never refused 16: it answers, or the record is too short
+  pub writes : (target : List ℕ) → 14914 ≤ length target → writeOutcome (s .words) n m (s .k) target .reply .number ≡ 0
+  pub never : (target : List ℕ) → writeOutcome (s .words) n m (s .k) target .reply .number ≡ 16 → ⊥
+  -- and loading what was written returns the matrix
+  pub returns : (target held : List ℕ) (used : ℕ) → writeOutcome (s .words) n m (s .k) target .reply ≡ answer (used ∷ []) → length held ≡ 4096
+      → loadOutcome (take used (writeOutcome (s .words) n m (s .k) target .after)) held ≡ record { reply = answer (n ∷ m ∷ s .k ∷ []); after = s .words }
+
+-- for every record that loads and every list of splits, orthogonalisings and takings back.
+abbrev pub Relays : Type 0
+Relays = (source held : List ℕ) (n m k : ℕ) → loadOutcome source held .reply ≡ answer (n ∷ m ∷ k ∷ []) → (cs : List Call)
+    → let ws = loadOutcome source held .after in
+    Relayed (checksBefore ws n m k) n m (runs n m (loadedStart ws n m k) cs)

@@ -14,10 +14,11 @@ pub enum Holders {
     Both(Check, Check),
 }
 
-// The form of a record: the second has the number of each check written out.
+// The form of a record: the second has the number of each check written out, and the third carries splits besides.
 pub enum Form {
     First,
     Second,
+    Third,
 }
 
 // Why a call is refused: document 01's causes, in its order, and those that document 02 adds, each with the values that it returns.
@@ -61,13 +62,13 @@ pub enum Refusal {
     },
     // 12: a contradiction in peeling.
     Contradiction,
-    // 13: k is above 0 in writing, rank or encoding.
+    // 13: k is above 0 in rank or encoding.
     AddedBits,
     // 14: program input.
     ProgramInput,
     // 15: k = 0, and a split was to be taken back.
     NothingToTakeBack,
-    // 16: with the newest split taken back rule A would be broken.
+    // 16: with the newest split taken back rule A would be broken; or a matrix to write is not one that its splits rebuild.
     CannotTakeBack,
     // 17: no house code has the name.
     UnknownName,

@@ -10,13 +10,13 @@ use lib.Dec.{eqb}
 use lib.ListN.{getD, length, drop}
 use borrow.Author.Tests.{eq-eqb, ne-eqb}
 use Rattle.parity.specs.Matrix.{Matrix, inRange}
-use Rattle.parity.specs.Record.{kindOf, payload, headKind, formOf, headWord, openWord, endWord, faulty, ending, loading}
+use Rattle.parity.specs.Record.{kindOf, payload, headKind, formOf, headWord, openWord, splitWord, endWord, faulty, behind, loading}
 use Rattle.parity.specs.declared.Form.{Form}
 use Rattle.parity.proofs.Finite.Sums.{is-true, is-false, is}
 use Rattle.parity.proofs.Matrix.Accept.{ranges}
-use Rattle.parity.proofs.Record.Reading.{readingAt, read-missing, read-open, not-open, read-end, not-end, not-bit, end-last, end-more}
+use Rattle.parity.proofs.Record.Reading.{readingAt, checks-done, missing-open, missing-bit, read-open, not-open, not-bit, missing-end, not-end, end-last, end-more}
 use Rattle.reading.specs.Read.{puts, BitsRead}
-use Rattle.reading.specs.Judge.{Gives, Complete, Stops, Reached, Loads}
+use Rattle.reading.specs.Judge.{Gives, Complete, Stops, Reached, ChecksRight, Ends, Breaks}
 
 -- the first word
 pub head-kind : (w : ℕ) → ((f : Form) → kindOf w ≡ headKind f → ⊥) → headWord (formOf w) w ≡ false
@@ -35,11 +35,11 @@ pub head-yes : (f : Form) (w : ℕ) → kindOf w ≡ headKind f → 1 ≤ payloa
 unfolding headWord
 head-yes f w e a b d = rw (eq-eqb (kindOf w) (headKind f) e, ranges (payload w % 256) (payload w / 256) 0 .1 (a, b, d, omega arith))
 
-head-sizes : (f : Form) (w : ℕ) → headWord f w ≡ true → (payload w % 256 ≤ 120) × (payload w / 256 ≤ 120)
+head-sizes : (f : Form) (w : ℕ) → headWord f w ≡ true → (1 ≤ payload w % 256) × (payload w % 256 ≤ 120) × (payload w / 256 ≤ 120)
 unfolding headWord
 head-sizes f w e =
     let (a, b, d, g) = ranges (payload w % 256) (payload w / 256) 0 .0 (and-eq-true-iff (eqb (kindOf w) (headKind f)) _ .0 e .1) in
-    (b, d)
+    (a, b, d)
 
 pub load-empty : (source : List ℕ) → length source ≡ 0 → loading source ≡ faulty 0
 unfolding loading
@@ -55,20 +55,23 @@ pub load-head : (source : List ℕ) (f : Form) (n m : ℕ) → (length source �
 unfolding loading
 load-head [] f n m k G = absurd (k refl)
 load-head (w ∷ ws) f n m k G =
-    let (a, b) = head-sizes f w (G .right) in
+    let (d, a, b) = head-sizes f w (G .right) in
     record {
+      form = G .form;
+      bits = G .bits;
+      some = rw (← G .bits) d;
       few = rw (← G .bits) a;
       checks = rw (← G .checks) b;
       start = rw (G .form, G .right, G .bits, G .checks);
       inside = omega arith;
       low = 0;
       matrix = λ c b. false;
-      reached = rw (G .form, G .right, G .bits, G .checks);
+      reached = refl;
     }
 
 module _ (f : Form) (n c : ℕ) (source : List ℕ) (p : ℕ) where
   pub stop-missing : length source ≤ p → Stops f n c source p p
-  stop-missing k = record { stops = λ m below h l. read-missing f n m source p c below h 0 k }
+  stop-missing k = record { stops = λ m below h l. missing-open f n m source p c below h l k }
 
   module _ (k : p < length source) where
     pub stop-open : openWord f n c (getD source p 0) ≡ false → Stops f n c source p p
@@ -89,7 +92,7 @@ module _ (f : Form) (n c : ℕ) (source : List ℕ) (p : ℕ) where
             opened m below h l ∙ ap (λ (y : ℕ). readingAt f n m source (p + 1) (suc c) y 0 h) s ∙ B .rising .goes f m (suc c) (suc x) h
             ∙ elim (decLt right due) [
               | yes q ↦ not-bit f n m source (p + 1 + right) (suc c) (B .low) g (omega arith) x (B .next q)
-              | no q ↦ read-missing f n m source (p + 1 + right) (suc c) (B .low) g (suc x) (outside q)
+              | no q ↦ missing-bit f n m source (p + 1 + right) (suc c) (B .low) g x (outside q)
             ];
       }
         where
@@ -111,6 +114,9 @@ module _ (f : Form) (n c : ℕ) (source : List ℕ) (p : ℕ) where
 module _ (f : Form) (n m : ℕ) (source : List ℕ) (p q c : ℕ) (R : Reached f n m source p c) (l : c < m) where
   pub reach-next : Complete f n c source p q → Reached f n m source q (c + 1)
   reach-next C = record {
+    form = R .form;
+    bits = R .bits;
+    some = R .some;
     few = R .few;
     checks = R .checks;
     start = R .start;
@@ -121,30 +127,36 @@ module _ (f : Form) (n m : ℕ) (source : List ℕ) (p q c : ℕ) (R : Reached f
   }
 
   pub reach-stop : Stops f n c source p q → loading source ≡ faulty q
-  reach-stop S = R .reached ∙ S .stops m (R .low) (R .matrix) l
+  unfolding behind
+  reach-stop S = R .start ∙ rw (R .reached, S .stops m (R .low) (R .matrix) l)
+
+pub reach-all : (f : Form) (n m : ℕ) (source : List ℕ) (p : ℕ) → Reached f n m source p m → ChecksRight f n m source p
+unfolding behind
+reach-all f n m source p R =
+    let e = R .reached ∙ checks-done f n m (drop p source) p m (R .low) (R .matrix) (omega arith) in
+    record {
+      form = R .form;
+      bits = R .bits;
+      some = R .some;
+      few = R .few;
+      checks = R .checks;
+      inside = R .inside;
+      matrix = R .matrix;
+      reads = e;
+      loads = R .start ∙ rw e;
+    }
 
 -- the end of a record
-module _ (f : Form) (n m : ℕ) (source : List ℕ) (p : ℕ) (R : Reached f n m source p m) where
-  pub last-missing : length source ≤ p → loading source ≡ faulty p
-  last-missing k = R .reached ∙ read-missing f n m source p m (R .low) (R .matrix) 0 k
+module _ (source : List ℕ) (p : ℕ) where
+  pub break-missing : length source ≤ p → Breaks source p p
+  break-missing l = record { breaks = λ f n m k h o. missing-end f n m source p k h l }
 
-  module _ (k : p < length source) where
-    pub last-other : endWord (getD source p 0) ≡ false → loading source ≡ faulty p
-    last-other e = R .reached ∙ not-end f n m source p m (R .low) (R .matrix) k (omega arith) e
+  module _ (l : p < length source) where
+    pub break-other : endWord (getD source p 0) ≡ false → Breaks source p p
+    break-other e = record { breaks = λ f n m k h o. not-end f n m source p k h l (o l) e }
 
-    module _ (e : endWord (getD source p 0) ≡ true) where
-      at-end : loading source ≡ ending n m (drop (suc p) source) (suc p) (R .matrix)
-      at-end = R .reached ∙ read-end f n m source p m (R .low) (R .matrix) k (omega arith) e
+    pub break-more : endWord (getD source p 0) ≡ true → p + 1 < length source → Breaks source p (p + 1)
+    break-more e t = rw (add-one p) record { breaks = λ f n m k h o. end-more f n m source p k h l (o l) e (omega arith) }
 
-      pub last-more : p + 1 < length source → loading source ≡ faulty (p + 1)
-      last-more l = rw (add-one p) (at-end ∙ end-more n m source (suc p) (R .matrix) (omega arith))
-
-      pub last-right : length source ≤ p + 1 → Loads n m source
-      last-right l = record {
-        few = R .few;
-        checks = R .checks;
-        form = f;
-        start = R .start;
-        matrix = R .matrix;
-        loads = at-end ∙ end-last n m source (suc p) (R .matrix) (omega arith);
-      }
+    pub end-right : endWord (getD source p 0) ≡ true → length source ≤ p + 1 → Ends source p
+    end-right e t = record { ends = λ f n m k h o. end-last f n m source p k h l (o l) e (omega arith) }

@@ -8,13 +8,14 @@ use Rattle.parity.specs.Matrix.{Matrix, put}
 use Rattle.parity.specs.Record.{kindOf, payload, headKind, bitWord, reading}
 use Rattle.parity.specs.declared.Form.{Form}
 use Rattle.reading.specs.declared.words.Word.{Word}
-use Rattle.reading.specs.declared.words.Word.the-variants.{Head, Open, Bit, End, Faulty}
+use Rattle.reading.specs.declared.words.Word.the-variants.{Head, Open, Bit, Split, End, Faulty}
 
 -- a word of none of the kinds
 pub record Kindless (w : ℕ) : Type 0 where
   pub not-head : (f : Form) → kindOf w ≡ headKind f → ⊥
   pub not-open : kindOf w ≡ 2 → ⊥
   pub not-bit : kindOf w ≡ 3 → ⊥
+  pub not-split : kindOf w ≡ 6 → ⊥
   pub not-end : kindOf w ≡ 15 → ⊥
 
 -- a word of a kind, with its payload
@@ -27,6 +28,7 @@ abbrev pub Reads : ℕ → Word → Type 0
 Reads w (Head f x) = Kind (headKind f) w x
 Reads w (Open x) = Kind 2 w x
 Reads w (Bit x) = Kind 3 w x
+Reads w (Split x) = Kind 6 w x
 Reads w (End x) = Kind 15 w x
 Reads w Faulty = Kindless w
 

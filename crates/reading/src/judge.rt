@@ -1,4 +1,4 @@
-// Judging a record: its n and m, or the place of its first faulty word.
+// Judging a record: its form, n, m and the place behind its checks, or the place of a faulty word; and its end.
 use crate::words::Word;
 use crate::words::number_in;
 use crate::words::read;
@@ -7,12 +7,25 @@ use parity::Form;
 ghost use Prim.Native.Nat.{_+_, _≤_};
 ghost use lib.ListN.{length};
 ghost use Rattle.reading.specs.Read.{BitsRead};
-ghost use Rattle.reading.specs.Judge.{HeadRead, CheckRead, Reached, Judges};
+ghost use Rattle.reading.specs.Judge.{HeadRead, CheckRead, Reached, Judges, EndRead};
 
-// What comes of judging a record.
+// What comes of judging the first word and the checks of a record: `place` is the one behind them, or that of a faulty word.
 pub enum Judged {
-    Right { n: usize, m: usize },
-    Stopped { place: usize },
+    Right {
+        form: Form,
+        n: usize,
+        m: usize,
+        place: usize,
+    },
+    Stopped {
+        place: usize,
+    },
+}
+
+// What comes of judging the end of a record.
+pub enum Ending {
+    Complete,
+    Broken { place: usize },
 }
 
 // What comes of judging the first word.
@@ -77,27 +90,27 @@ fn check(source: &[u32], form: Form, n: usize, c: Check, p: usize) -> Step
     Step::Next(p + 1 + right)
 }
 
-// Judges what is left at place `p`, behind the checks: the end word, and nothing else.
-fn last(source: &[u32], form: Form, n: usize, m: usize, p: usize) -> Judged
-    requires { ⌜ Reached form n m (now source) p m ⌝ }
-    ensures { λ r. ⌜ Judges (now (source .entry)) r ⌝ }
+// Judges what is left at place `p`, behind the checks and the splits: the end word, and nothing else.
+pub fn end(source: &[u32], p: usize) -> Ending
+    requires { ⌜ p ≤ length (now source) ⌝ }
+    ensures { λ r. ⌜ EndRead (now (source .entry)) p r ⌝ }
 {
     if p == source.len() {
-        return Judged::Stopped { place: p };
+        return Ending::Broken { place: p };
     }
     let Word::End(x) = read(source[p]) else {
-        return Judged::Stopped { place: p };
+        return Ending::Broken { place: p };
     };
     if x != 0 {
-        return Judged::Stopped { place: p };
+        return Ending::Broken { place: p };
     }
     if p + 1 < source.len() {
-        return Judged::Stopped { place: p + 1 };
+        return Ending::Broken { place: p + 1 };
     }
-    Judged::Right { n, m }
+    Ending::Complete
 }
 
-// Judges the checks and what is behind them.
+// Judges the checks.
 fn checks(source: &[u32], form: Form, n: usize, m: usize) -> Judged
     requires { ⌜ Reached form n m (now source) 1 0 ⌝ }
     ensures { λ r. ⌜ Judges (now (source .entry)) r ⌝ }
@@ -113,7 +126,12 @@ fn checks(source: &[u32], form: Form, n: usize, m: usize) -> Judged
             }
         }
     }
-    last(source, form, n, m, p)
+    Judged::Right {
+        form,
+        n,
+        m,
+        place: p,
+    }
 }
 
 // Judges the first word.
@@ -137,7 +155,7 @@ fn first_word(w: u32) -> Head
     Head::Sizes { form, n, m }
 }
 
-// Judges a record, of either form.
+// Judges a record, of any form, up to its last check.
 pub fn judge(source: &[u32]) -> Judged
     ensures { λ r. ⌜ Judges (now (source .entry)) r ⌝ }
 {

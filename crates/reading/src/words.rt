@@ -10,6 +10,7 @@ pub enum Word {
     Head(Form, usize),
     Open(usize),
     Bit(usize),
+    Split(usize),
     End(usize),
     Faulty,
 }
@@ -21,7 +22,7 @@ pub fn payload(w: u32) -> usize
     (w % 0x1000_0000) as usize
 }
 
-// Decides a word by its kind: 1, 2, 3, 4, 15 and the refused ranges between.
+// Decides a word by its kind: 1, 2, 3, 4, 5, 6, 15 and the refused ranges between.
 pub fn read(w: u32) -> Word
     ensures { λ r. ⌜ Reads w r ⌝ }
 {
@@ -32,7 +33,9 @@ pub fn read(w: u32) -> Word
         2 => Word::Open(x),
         3 => Word::Bit(x),
         4 => Word::Head(Form::Second, x),
-        5..=14 => Word::Faulty,
+        5 => Word::Head(Form::Third, x),
+        6 => Word::Split(x),
+        7..=14 => Word::Faulty,
         15 => Word::End(x),
         16..=0xffff_ffff => Word::Faulty,
     }
@@ -45,6 +48,7 @@ pub fn number_in(form: Form, c: Check) -> usize
     match form {
         Form::First => 0,
         Form::Second => c.0,
+        Form::Third => c.0,
     }
 }
 
@@ -55,5 +59,6 @@ pub fn head_kind(form: Form) -> usize
     match form {
         Form::First => 1,
         Form::Second => 4,
+        Form::Third => 5,
     }
 }

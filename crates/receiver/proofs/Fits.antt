@@ -13,7 +13,7 @@ use Rattle.parity.specs.Cycles.{share, pairs, largestShare, Orthogonalised}
 use Rattle.parity.specs.Record.{Loaded, faulty, loaded, loading}
 use Rattle.parity.specs.Words.{peels}
 use Rattle.parity.specs.Causes.{Reply, refusal, refuse, accepting}
-use Rattle.parity.specs.Calls.{byteOf, wrongLength, wrongByte, loadedReply, loadOutcome, orthogonalisedReply, orthogonaliseOutcome, peelReply, peelOutcome}
+use Rattle.parity.specs.Calls.{byteOf, wrongLength, wrongByte, loadedReply, loadOutcome, orthogonalising, orthogonalisedReply, orthogonaliseOutcome, peelReply, peelOutcome}
 use Rattle.parity.specs.Mend.{residueText, wrongInput, report, unlessRefused, mend}
 use Rattle.parity.proofs.Finite.Sums.{is, is-true, is-false, count-bound}
 use Rattle.parity.proofs.Splits.Pairs.{pairs-add}
@@ -23,7 +23,7 @@ use Rattle.receiver.specs.Lines.{leftText}
 use Rattle.receiver.specs.Stages.{peelText, orthogonaliseText, loadInto, loadText}
 use Rattle.receiver.proofs.Pieces.{decimal-most}
 use Rattle.receiver.proofs.Lines.{left-erased, left-known, refused-length, splits-length, residue-length, word-line-length, report-length}
-use Rattle.receiver.proofs.Passing.{fromZero, answered-accepted, orthogonalise-values}
+use Rattle.receiver.proofs.Passing.{answered-accepted, orthogonalise-values}
 use Rattle.receiver.proofs.Whole.{wrong-mend, right-mend}
 
 -- a report: its numbers are of at most 20 digits
@@ -75,15 +75,15 @@ accepting-most ws n m k after a =
 loaded-most : (l : Loaded) → loadedReply l .number ≤ 14
 unfolding loadedReply
 loaded-most (faulty place) = omega arith
-loaded-most (loaded n m h) = omega arith
+loaded-most (loaded n m k h) = omega arith
 
 orthogonalised-most : (o : Orthogonalised) → orthogonalisedReply o .number ≤ 14
 unfolding orthogonalisedReply
 orthogonalised-most o = elim (is (o .finished)) [ is-true q ↦ rw q (omega arith) | is-false q ↦ rw q (omega arith) ]
 
-orthogonalise-most : (ws : List ℕ) (n m : ℕ) → orthogonaliseOutcome ws n m 0 .reply .number ≤ 14
+orthogonalise-most : (ws : List ℕ) (n m j : ℕ) → orthogonaliseOutcome ws n m j .reply .number ≤ 14
 unfolding orthogonaliseOutcome
-orthogonalise-most ws n m = accepting-most ws n m 0 _ (orthogonalised-most _)
+orthogonalise-most ws n m j = accepting-most ws n m j _ (orthogonalised-most _)
 
 peel-most : (ws : List ℕ) (n m k : ℕ) (w : List ℕ) → peelReply ws n m k w .number ≤ 14
 unfolding peelReply
@@ -115,10 +115,10 @@ split-few n m b h k splits total held F l d =
       carried = omega (arith, F .carried, F .added, pairs-most s 512 (omega (arith, F .added)));
     }
 
-orthogonal-few : (ws : List ℕ) (n m : ℕ) → m ≤ 120 → let o = fromZero ws n m in Few (o .k) (o .splits) (o .sum)
-orthogonal-few ws n m b =
-    keeps n m (λ h k splits total held. Few k splits total) (split-few n m b) 393 (lent 8 ws) 0 0 0 []
-    record { added = omega arith; made = omega arith; carried = omega arith }
+orthogonal-few : (ws : List ℕ) (n m j : ℕ) → m ≤ 120 → j ≤ 392 → let o = orthogonalising ws n m j in Few (o .k) (o .splits) (o .sum)
+orthogonal-few ws n m j b l =
+    keeps n m (λ h k splits total held. Few k splits total) (split-few n m b) (393 - j) (lent 8 ws) j 0 0 []
+    record { added = l; made = omega arith; carried = omega arith }
 
 -- each stage's text
 unless-fits : (r : Reply) (text : List ℕ) → r .number ≤ 14 → (r .number ≡ 0 → length text ≤ 4096) → length (unlessRefused r text) ≤ 4096
@@ -133,19 +133,19 @@ peel-fits : (ws : List ℕ) (n m k splits total : ℕ) (w : List ℕ) → n ≤ 
 unfolding peelText peelOutcome
 peel-fits ws n m k splits total w a b c = unless-fits _ _ (peel-most ws n m k w) (λ q. report-fits n splits total _ a b c)
 
-orthogonalise-fits : (ws : List ℕ) (n m : ℕ) (sent : List ℕ) → length (orthogonaliseText ws n m sent) ≤ 4096
+orthogonalise-fits : (ws : List ℕ) (n m j : ℕ) (sent : List ℕ) → length (orthogonaliseText ws n m j sent) ≤ 4096
 unfolding orthogonaliseText
-orthogonalise-fits ws n m sent =
-    unless-fits (orthogonaliseOutcome ws n m 0 .reply) _ (orthogonalise-most ws n m) (λ q.
-    let A = answered-accepted ws n m q in
-    let F = orthogonal-few ws n m (A .sound .m120) in
-    rw (orthogonalise-values ws n m A) (peel-fits _ n m _ _ _ _ (A .sound .n120) (omega (arith, F .added, F .made)) (omega (arith, F .added, F .carried))))
+orthogonalise-fits ws n m j sent =
+    unless-fits (orthogonaliseOutcome ws n m j .reply) _ (orthogonalise-most ws n m j) (λ q.
+    let A = answered-accepted ws n m j q in
+    let F = orthogonal-few ws n m j (A .sound .m120) (A .sound .k392) in
+    rw (orthogonalise-values ws n m j A) (peel-fits _ n m _ _ _ _ (A .sound .n120) (omega (arith, F .added, F .made)) (omega (arith, F .added, F .carried))))
 
 load-fits : (source sent : List ℕ) → length (loadText source sent) ≤ 4096
 unfolding loadText loadInto loadOutcome
 load-fits source sent =
     let l = loadedReply (loading source) in
-    unless-fits _ _ (refuse-most (wrongLength 4096 (replicate 4096 0)) (refusal 1 []) l (omega arith) (loaded-most (loading source))) (λ q. orthogonalise-fits _ _ _ sent)
+    unless-fits _ _ (refuse-most (wrongLength 4096 (replicate 4096 0)) (refusal 1 []) l (omega arith) (loaded-most (loading source))) (λ q. orthogonalise-fits _ _ _ _ sent)
 
 -- Every text is at most 4,096 bytes long.
 pub mend-fits : (input : List ℕ) → length (mend input) ≤ 4096

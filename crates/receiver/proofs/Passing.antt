@@ -10,10 +10,9 @@ use lib.ListN.{length, getD, take, drop, replicate, length-append, length-replic
 use lib.Seq.{take-at, drop-at, take-append-add}
 use Rattle.parity.specs.Finite.{one, anySet, listFrom}
 use Rattle.parity.specs.Matrix.{Matrix, lent, pack, cause}
-use Rattle.parity.specs.Cycles.{Orthogonalised, orthogonal}
 use Rattle.parity.specs.Words.{isOne, residue, erased, solves, peeled}
 use Rattle.parity.specs.Causes.{Reply, answer, refusal, refusalOf, Outcome}
-use Rattle.parity.specs.Calls.{byteOf, loadOutcome, orthogonalisedReply, orthogonaliseOutcome, peelReply, peelOutcome}
+use Rattle.parity.specs.Calls.{byteOf, loadOutcome, orthogonalising, orthogonalisedReply, orthogonaliseOutcome, peelReply, peelOutcome}
 use Rattle.parity.specs.Mend.{refusedLine, report, unlessRefused}
 use Rattle.parity.specs.declared.Refusal.{Refusal}
 use Rattle.parity.proofs.Finite.Sums.{one≤1}
@@ -37,10 +36,10 @@ module _ (ws source sent : List ℕ) where
   unfolding loadInto
   load-refused r e = unless r _ _ e
 
-  pub load-passes : (n m : ℕ) → answer (n ∷ m ∷ []) ≡ loadOutcome source ws .reply
-      → orthogonaliseText (loadOutcome source ws .after) n m sent ≡ loadInto ws source sent
+  pub load-passes : (n m j : ℕ) → answer (n ∷ m ∷ j ∷ []) ≡ loadOutcome source ws .reply
+      → orthogonaliseText (loadOutcome source ws .after) n m j sent ≡ loadInto ws source sent
   unfolding loadInto unlessRefused
-  load-passes n m e = rw (← e)
+  load-passes n m j e = rw (← e)
 
   pub load-zero : ws ≡ replicate 4096 0 → loadInto ws source sent ≡ loadText source sent
   unfolding loadText
@@ -51,46 +50,42 @@ carried : (finished : Bool) (vs : List ℕ) → cond finished (answer vs) (refus
 carried true vs = refl
 carried false vs = refl
 
-refused : (ws : List ℕ) (n m : ℕ) → (cause ws n m 0 ≡ 0 → ⊥) → orthogonaliseOutcome ws n m 0 .reply ≡ refusal (cause ws n m 0) []
+refused : (ws : List ℕ) (n m j : ℕ) → (cause ws n m j ≡ 0 → ⊥) → orthogonaliseOutcome ws n m j .reply ≡ refusal (cause ws n m j) []
 unfolding orthogonaliseOutcome
-refused ws n m q = accepting-refuses ws n m 0 _ q
+refused ws n m j q = accepting-refuses ws n m j _ q
 
 -- the matrix that it answers is accepted
-pub answered-accepted : (ws : List ℕ) (n m : ℕ) → orthogonaliseOutcome ws n m 0 .reply .number ≡ 0 → Accepted ws n m 0
-answered-accepted ws n m e =
-    elim (ℕ-discrete (cause ws n m 0) 0) [
-      | yes q ↦ accepts ws n m 0 .0 q
-      | no q ↦ absurd (q (sym (ap (λ (r : Reply). r .number) (refused ws n m q)) ∙ e))
+pub answered-accepted : (ws : List ℕ) (n m j : ℕ) → orthogonaliseOutcome ws n m j .reply .number ≡ 0 → Accepted ws n m j
+answered-accepted ws n m j e =
+    elim (ℕ-discrete (cause ws n m j) 0) [
+      | yes q ↦ accepts ws n m j .0 q
+      | no q ↦ absurd (q (sym (ap (λ (r : Reply). r .number) (refused ws n m j q)) ∙ e))
     ]
 
--- what it comes to from k = 0
-abbrev pub fromZero : List ℕ → ℕ → ℕ → Orthogonalised
-fromZero ws n m = orthogonal 393 (lent 8 ws) n m 0 0 0 []
-
-pub orthogonalise-values : (ws : List ℕ) (n m : ℕ) → Accepted ws n m 0
-    → let o = fromZero ws n m in (orthogonaliseOutcome ws n m 0 .reply .values ≡ o .splits ∷ o .sum ∷ o .k ∷ o .held)
+pub orthogonalise-values : (ws : List ℕ) (n m j : ℕ) → Accepted ws n m j
+    → let o = orthogonalising ws n m j in (orthogonaliseOutcome ws n m j .reply .values ≡ o .splits ∷ o .sum ∷ o .k ∷ o .held)
 unfolding orthogonalisedReply
-orthogonalise-values ws n m A = ap (λ (y : Outcome). y .reply .values) (orthogonalises ws n m 0 A) ∙ carried (fromZero ws n m .finished) _
+orthogonalise-values ws n m j A = ap (λ (y : Outcome). y .reply .values) (orthogonalises ws n m j A) ∙ carried (orthogonalising ws n m j .finished) _
 
-module _ (ws : List ℕ) (n m : ℕ) where
-  pub orthogonalise-refused : (sent : List ℕ) (r : Refusal) → refusalOf r ≡ orthogonaliseOutcome ws n m 0 .reply
-      → refusedLine (refusalOf r .number) ≡ orthogonaliseText ws n m sent
+module _ (ws : List ℕ) (n m j : ℕ) where
+  pub orthogonalise-refused : (sent : List ℕ) (r : Refusal) → refusalOf r ≡ orthogonaliseOutcome ws n m j .reply
+      → refusedLine (refusalOf r .number) ≡ orthogonaliseText ws n m j sent
   unfolding orthogonaliseText
   orthogonalise-refused sent r e = unless r _ _ e
 
-  module _ (splits total k : ℕ) (held : List ℕ) (e : answer (splits ∷ total ∷ k ∷ held) ≡ orthogonaliseOutcome ws n m 0 .reply) where
+  module _ (splits total k : ℕ) (held : List ℕ) (e : answer (splits ∷ total ∷ k ∷ held) ≡ orthogonaliseOutcome ws n m j .reply) where
     pub orthogonalise-passes : (sent : List ℕ)
-        → peelText (orthogonaliseOutcome ws n m 0 .after) n m k splits total (sent ++ replicate k 2) ≡ orthogonaliseText ws n m sent
+        → peelText (orthogonaliseOutcome ws n m j .after) n m k splits total (sent ++ replicate k 2) ≡ orthogonaliseText ws n m j sent
     unfolding orthogonaliseText unlessRefused
     orthogonalise-passes sent = rw (← e)
 
     -- what it leaves is accepted
-    pub orthogonalise-accepted : cause (orthogonaliseOutcome ws n m 0 .after) n m k ≡ 0
+    pub orthogonalise-accepted : cause (orthogonaliseOutcome ws n m j .after) n m k ≡ 0
     orthogonalise-accepted =
-        let A = answered-accepted ws n m (sym (ap (λ (r : Reply). r .number) e)) in
-        let x = fromZero ws n m in
-        let l : k ≡ x .k = ap (λ (r : Reply). getD (r .values) 2 0) e ∙ rw (orthogonalise-values ws n m A) in
-        rw (orthogonalises ws n m 0 A, l) (accepts (pack 8 (x .matrix)) n m (x .k) .1 (orthogonal-accepted ws n m 0 A))
+        let A = answered-accepted ws n m j (sym (ap (λ (r : Reply). r .number) e)) in
+        let x = orthogonalising ws n m j in
+        let l : k ≡ x .k = ap (λ (r : Reply). getD (r .values) 2 0) e ∙ rw (orthogonalise-values ws n m j A) in
+        rw (orthogonalises ws n m j A, l) (accepts (pack 8 (x .matrix)) n m (x .k) .1 (orthogonal-accepted ws n m j A))
 
 -- peeling: its bytes are at most 2
 cond-most : (a b : Bool) → cond a 2 (one b) ≤ 2

@@ -23,10 +23,10 @@ peelText ws n m k splits total w =
     let p = peelOutcome ws n m k w in
     unlessRefused (p .reply) (report n splits total (p .after))
 
--- orthogonalising, with the sent bits of a word
-unfoldable pub orthogonaliseText : List ℕ → ℕ → ℕ → List ℕ → List ℕ
-orthogonaliseText ws n m sent =
-    let o = orthogonaliseOutcome ws n m 0 in
+-- orthogonalising from the loaded k, j, on, with the sent bits of a word
+unfoldable pub orthogonaliseText : List ℕ → ℕ → ℕ → ℕ → List ℕ → List ℕ
+orthogonaliseText ws n m j sent =
+    let o = orthogonaliseOutcome ws n m j in
     let splits = getD (o .reply .values) 0 0 in
     let total = getD (o .reply .values) 1 0 in
     let k = getD (o .reply .values) 2 0 in
@@ -36,7 +36,7 @@ orthogonaliseText ws n m sent =
 unfoldable pub loadInto : List ℕ → List ℕ → List ℕ → List ℕ
 loadInto ws source sent =
     let l = loadOutcome source ws in
-    unlessRefused (l .reply) (orthogonaliseText (l .after) (getD (l .reply .values) 0 0) (getD (l .reply .values) 1 0) sent)
+    unlessRefused (l .reply) (orthogonaliseText (l .after) (getD (l .reply .values) 0 0) (getD (l .reply .values) 1 0) (getD (l .reply .values) 2 0) sent)
 
 unfoldable pub loadText : List ℕ → List ℕ → List ℕ
 loadText source sent = loadInto (replicate 4096 0) source sent

@@ -77,12 +77,19 @@ fn peel_sent(
     peel_word(out, words, n, m, k, splits, sum, &mut word[..n + k])
 }
 
-// Orthogonalises the matrix, and goes on.
-fn orthogonalise(out: &mut [u8], words: &mut [u64], n: usize, m: usize, sent: &[u8]) -> usize
-    requires { ⌜ length (orthogonaliseText (now words) n m (now sent)) ≤ length (now out) ⌝ }
-    ensures { λ r. ⌜ Placed (now (out .entry)) 0 (orthogonaliseText (now (words .entry)) n m (now (sent .entry))) (now (out .exit)) r ⌝ }
+// Orthogonalises the matrix from the loaded k, `j`, on, and goes on.
+fn orthogonalise(
+    out: &mut [u8],
+    words: &mut [u64],
+    n: usize,
+    m: usize,
+    j: usize,
+    sent: &[u8],
+) -> usize
+    requires { ⌜ length (orthogonaliseText (now words) n m j (now sent)) ≤ length (now out) ⌝ }
+    ensures { λ r. ⌜ Placed (now (out .entry)) 0 (orthogonaliseText (now (words .entry)) n m j (now (sent .entry))) (now (out .exit)) r ⌝ }
 {
-    match split::orthogonalise(words, n, m, 0) {
+    match split::orthogonalise(words, n, m, j) {
         Orthogonalising::Refused(r) => put_refused(out, r),
         Orthogonalising::Finished {
             splits,
@@ -101,6 +108,6 @@ pub fn load(out: &mut [u8], source: &[u32], sent: &[u8]) -> usize
     let mut words = empty_words();
     match record::load(source, &mut words) {
         Loading::Refused(r) => put_refused(out, r),
-        Loading::Loaded { n, m } => orthogonalise(out, &mut words, n, m, sent),
+        Loading::Loaded { n, m, k } => orthogonalise(out, &mut words, n, m, k, sent),
     }
 }

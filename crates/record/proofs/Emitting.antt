@@ -13,19 +13,25 @@ use lib.Dec.{eqb, ltb}
 use lib.ListN.{getD, length, set, drop, length-append}
 use lib.Seq.{sets, sets-eq, length-sets}
 use borrow.Author.Tests.{eq-eqb, ne-eqb, lt-ltb, le-ltb, ltb-false, not-true}
-use Rattle.parity.specs.Finite.{sum, count}
+use Rattle.parity.specs.Finite.{sum, count, listFrom}
 use Rattle.parity.specs.Matrix.{Matrix, bitOf, lent}
-use Rattle.parity.specs.Record.{headKind, bitWords, opening, checkWords, recordOf, written}
+use Rattle.parity.specs.Cycles.{lowerOf, higherOf}
+use Rattle.parity.specs.Splits.{pairOf, allBack, notBuilt}
+use Rattle.parity.specs.Record.{headKind, bitWords, opening, checkWords, splitting, recordOf, formFor, written}
 use Rattle.parity.specs.declared.Form.{Form}
-use Rattle.parity.specs.declared.Form.the-variants.{Second}
 use Rattle.parity.proofs.Finite.Sums.{count-mono}
 use Rattle.parity.proofs.Matrix.Digits.{bit-zero}
 use Rattle.parity.proofs.Matrix.Lent.{lent-word}
 use Rattle.parity.proofs.Matrix.Ones.{Lowest}
 use Rattle.parity.proofs.Matrix.Rest.{rest-bit}
-use Rattle.parity.proofs.Record.Writing.{length-one, length-bits, length-check, checks-wider}
-use Rattle.parity.proofs.Matrix.Accept.{Accepted}
-use Rattle.record.specs.Write.{wordOnes, checkOf, plainRecord, Wrote}
+use Rattle.parity.proofs.Record.Writing.{length-one, length-bits, length-check, length-checks, checks-wider}
+use Rattle.parity.proofs.Matrix.Packing.{length-listFrom}
+use Rattle.parity.proofs.Matrix.Sound.{Sound, sound-rule}
+use Rattle.parity.proofs.Splits.Undo.{higher-at}
+use Rattle.parity.proofs.Lists.Rebuilt.{built-recovers, all-sound, written-built, last-word, recovered-words}
+use Rattle.rows.specs.Rows.{NextOne}
+use Rattle.exchange.proofs.ReadPair.{first-one, second-one}
+use Rattle.record.specs.Write.{wordOnes, checkOf, splitOfCheck, plainRecord, Wrote}
 
 -- stores, one list after another
 pub sets-append : (l : List ℕ) (p : ℕ) (vs us : List ℕ) → sets l p (vs ++ us) ≡ sets (sets l p vs) (p + length vs) us
@@ -179,21 +185,75 @@ checks-mono f h n c zero k = rw (le-zero k) (omega arith)
 checks-mono f h n c (suc m) k =
     elim (ℕ-discrete c (suc m)) [ yes q ↦ rw q (omega arith) | no d ↦ omega (arith, checks-mono f h n c m (omega arith), length-check f h n m) ]
 
+-- the splits
+pub splits-next : (f : ℕ → ℕ) (old new : List ℕ) (p j v : ℕ) → Wrote old new p (listFrom 0 j f) (p + j) → v ≡ f j
+    → Wrote old (set new (p + j) v) p (listFrom 0 (j + 1) f) (p + (j + 1))
+splits-next f old new p j v A e =
+    let z : 0 + j ≡ j = omega arith in
+    let q : p + (j + 1) ≡ p + j + 1 = omega arith in
+    let t : listFrom 0 (j + 1) f ≡ listFrom 0 j f ++ (v ∷ []) = rw (add-one j, e) (last-word 0 j f ∙ rw z) in
+    rw (t, q) (wrote-more old new (set new (p + j) v) p (p + j) (p + j + 1) (listFrom 0 j f) (v ∷ []) A (wrote-one new (p + j) v))
+
+pub splits-none : (f : ℕ → ℕ) (old : List ℕ) (p : ℕ) → Wrote old old p (listFrom 0 0 f) (p + 0)
+unfolding listFrom
+splits-none f old p = rw (add-zero p) (wrote-none old p)
+
+-- the two lower bits of an added check
+module _ (h : Matrix) (n m k j : ℕ) (S : Sound h n m k) (l : j < k) where
+  small : n + j < 512
+  small = omega (arith, S .n120, S .k392)
+
+  pub lower-read : (u : ℕ) → NextOne 512 (h (m + j)) 0 u → u ≡ lowerOf h (n + j) (m + j)
+  unfolding lowerOf
+  lower-read u F = first-one (h (m + j)) (n + j) (sound-rule h n m k j S l .two) small u F
+
+  pub higher-read : (u v : ℕ) → NextOne 512 (h (m + j)) 0 u → NextOne 512 (h (m + j)) (u + 1) v → v ≡ higherOf h (n + j) (m + j)
+  unfolding lowerOf higherOf
+  higher-read u v F G = second-one (h (m + j)) (n + j) (sound-rule h n m k j S l .two) small v (rw (lower-read u F) at G)
+
+  pub lower-small : lowerOf h (n + j) (m + j) < 511
+  unfolding lowerOf
+  lower-small = let t = higher-at (n + j) (h (m + j)) (sound-rule h n m k j S l .two) in omega (arith, small, t .0, t .1)
+
+  pub higher-small : higherOf h (n + j) (m + j) < 512
+  unfolding lowerOf higherOf
+  higher-small = let t = higher-at (n + j) (h (m + j)) (sound-rule h n m k j S l .two) in omega (arith, small, t .1)
+
+  pub word-read : (u v w : ℕ) → u ≡ lowerOf h (n + j) (m + j) → v ≡ higherOf h (n + j) (m + j) → w ≡ 6 * 2 ^ 28 + (v * 512 + u) → w ≡ splitOfCheck h n m j
+  unfolding splitOfCheck splitting pairOf
+  word-read u v w a b e = rw (← a, ← b) e
+
 -- the whole record
-pub plain-length : (f : Form) (h : Matrix) (N n m : ℕ) → length (plainRecord f h N n m) ≡ length (checkWords f h N m) + 2
+pub plain-length : (f : Form) (g : Matrix) (N : ℕ) (h : Matrix) (n m k : ℕ) → length (plainRecord f g N h n m k) ≡ length (checkWords f g N m) + k + 2
 unfolding plainRecord
-plain-length f h N n m = omega (arith, length-append (checkWords f h N m) ((15 * 2 ^ 28) ∷ []))
+plain-length f g N h n m k =
+    let a = length-append (checkWords f g N m) (listFrom 0 k (splitOfCheck h n m) ++ ((15 * 2 ^ 28) ∷ [])) in
+    omega (arith, length-append (listFrom 0 k (splitOfCheck h n m)) ((15 * 2 ^ 28) ∷ []), length-listFrom 0 k (splitOfCheck h n m))
 
-pub wrote-plain : (f : Form) (h : Matrix) (N n m v : ℕ) (old new : List ℕ) (q : ℕ) → v ≡ headKind f * 2 ^ 28 + m * 256 + n
-    → Wrote (set old 0 v) new 1 (checkWords f h N m) q → Wrote old (set new q (15 * 2 ^ 28)) 0 (plainRecord f h N n m) (q + 1)
+pub wrote-plain : (f : Form) (g : Matrix) (N : ℕ) (h : Matrix) (n m k v : ℕ) (old new newer : List ℕ) (q r : ℕ) → v ≡ headKind f * 2 ^ 28 + m * 256 + n
+    → Wrote (set old 0 v) new 1 (checkWords f g N m) q → Wrote new newer q (listFrom 0 k (splitOfCheck h n m)) r
+    → Wrote old (set newer r (15 * 2 ^ 28)) 0 (plainRecord f g N h n m k) (r + 1)
 unfolding plainRecord
-wrote-plain f h N n m v old new q d A =
-    rw (← d) (wrote-more old (set old 0 v) (set new q (15 * 2 ^ 28)) 0 1 (q + 1) (v ∷ []) _
-    (wrote-one old 0 v) (wrote-more _ new _ 1 q (q + 1) (checkWords f h N m) ((15 * 2 ^ 28) ∷ []) A (wrote-one new q (15 * 2 ^ 28))))
+wrote-plain f g N h n m k v old new newer q r d A B =
+    rw (← d) (wrote-more old (set old 0 v) (set newer r (15 * 2 ^ 28)) 0 1 (r + 1) (v ∷ []) _
+    (wrote-one old 0 v) (wrote-more _ new _ 1 q (r + 1) (checkWords f g N m) _ A
+    (wrote-more new newer _ q r (r + 1) (listFrom 0 k (splitOfCheck h n m)) ((15 * 2 ^ 28) ∷ []) B (wrote-one newer r (15 * 2 ^ 28)))))
 
-pub plain-written : (ws : List ℕ) (N n m : ℕ) → n ≤ N → Accepted ws n m 0 → plainRecord Second (lent 8 ws) N n m ≡ written (lent 8 ws) n m
-unfolding plainRecord recordOf
-plain-written ws N n m k A = rw (checks-wider Second (lent 8 ws) n N m k (λ d b l. A .sound .clean .bits d b (omega arith)))
+pub plain-written : (g h : Matrix) (N n m k : ℕ) → n ≤ N → Sound h n m k → notBuilt h n m k ≡ false → g ≡ allBack h n m k
+    → plainRecord (formFor k) g N h n m k ≡ written h n m k
+unfolding plainRecord recordOf written splitOfCheck
+plain-written g h N n m k l S b e =
+    let G = all-sound n m k h S in
+    let R = built-recovers (allBack h n m k) n m G (written-built n m k h S b) in
+    rw (e, checks-wider (formFor k) (allBack h n m k) n N m l (λ d b l. G .clean .bits d b (omega arith)), recovered-words n m k h S (R .back))
+
+-- how many words are needed
+pub needed-words : (g h : Matrix) (n m k x : ℕ) → Sound h n m k → notBuilt h n m k ≡ false → g ≡ allBack h n m k → x ≡ sum m (λ c. 1 + count 128 (g c)) + 2
+    → x + k ≡ length (written h n m k)
+needed-words g h n m k x S b e q =
+    let l = plain-length (formFor k) g 128 h n m k in
+    let w = ap length (plain-written g h 128 n m k (omega (arith, S .n120)) S b e) in
+    omega (arith, length-checks (formFor k) g 128 m)
 
 -- what stands afterwards, where the record is long enough
 pub wrote-first : (old new : List ℕ) (ws : List ℕ) (r : ℕ) → Wrote old new 0 ws r → length ws ≤ length old → new ≡ ws ++ drop (length ws) old

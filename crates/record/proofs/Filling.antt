@@ -8,14 +8,14 @@ use native.Mathlib.Numerals.{add-one}
 use native.Mathlib.Decide.{ℕ-discrete, decLt}
 use native.Mathlib.Omega.{arith}
 use lib.Bits.{bitOr}
-use lib.ListN.{getD, length, set, length-set, List·getD-eq-default}
+use lib.ListN.{getD, length, set, length-set, drop, List·getD-eq-default}
 use lib.Seq.{getD-set-same, getD-set-other, set-getD, set-set}
 use Rattle.parity.specs.Matrix.{Matrix, lent}
-use Rattle.parity.specs.Record.{payload, openWord, loaded, loading}
+use Rattle.parity.specs.Record.{payload, formOf, openWord, checked}
 use Rattle.parity.specs.declared.Form.{Form}
 use Rattle.parity.proofs.Matrix.Digits.{bit-zero}
 use Rattle.parity.proofs.Matrix.Lent.{lent-in, lent-out, raised-put}
-use Rattle.parity.proofs.Record.Reading.{readingAt, bits, opens, read-open, read-bit, loads-more, loads-open, loads-bit, loads-end}
+use Rattle.parity.proofs.Record.Reading.{readingAt, bits, opens, read-open, read-bit, right-more, right-open, right-more-bit, right-bit, right-done}
 use Rattle.reading.specs.Read.{puts}
 use Rattle.rows.specs.Zeros.{Zeroed}
 use Rattle.record.specs.Fill.{Payloads, Checks, Filled}
@@ -99,35 +99,36 @@ module _ (W : ℕ) (source : List ℕ) (from count j c : ℕ) (old new : List �
     holds = rw (add-one j, ← H .holds) (raised-put W (set new at x) c b put-place (P .below j l));
   }
 
--- the ones of a check of a record that loads, j of them read
-pub record BitsIn (f : Form) (n m : ℕ) (source : List ℕ) (from c j d : ℕ) (g : Matrix) (n′ m′ : ℕ) (h : Matrix) : Type 0 where
-  pub inside : from + j < length source
+-- the ones of a check of a record whose checks are right, j of them read
+pub record BitsIn (f : Form) (n m : ℕ) (source : List ℕ) (from c j d : ℕ) (g : Matrix) (ws : List ℕ) (q : ℕ) (h : Matrix) : Type 0 where
+  pub inside : from + j ≤ length source
   pub below : (i : ℕ) → i < j → payload (getD source (from + i) 0) < n
   pub rising : (i k : ℕ) → i < k → k < j → payload (getD source (from + i) 0) < payload (getD source (from + k) 0)
   pub low : ℕ
   pub last : (i : ℕ) → i < j → payload (getD source (from + i) 0) < low
-  pub rest : readingAt f n m source (from + j) c d low (puts source (c - 1) from j g) ≡ loaded n′ m′ h
+  pub rest : readingAt f n m source (from + j) c d low (puts source (c - 1) from j g) ≡ checked ws q h
 
-pub bits-in : (f : Form) (n m : ℕ) (source : List ℕ) (from c j d low : ℕ) (g : Matrix) (n′ m′ : ℕ) (h : Matrix) → readingAt f n m source from c (j + d) low g ≡ loaded n′ m′ h
-    → BitsIn f n m source from c j d g n′ m′ h
+pub bits-in : (f : Form) (n m : ℕ) (source : List ℕ) (from c j d low : ℕ) (g : Matrix) (ws : List ℕ) (q : ℕ) (h : Matrix) → from ≤ length source
+    → readingAt f n m source from c (j + d) low g ≡ checked ws q h → BitsIn f n m source from c j d g ws q h
 unfolding puts
-bits-in f n m source from c zero d low g n′ m′ h e = record {
-  inside = rw (add-zero from) (loads-more f n m source from c low g n′ m′ h (0 + d) e);
+bits-in f n m source from c zero d low g ws q h l e = record {
+  inside = omega arith;
   below = λ i k. absurd (omega arith);
   rising = λ i k l t. absurd (omega arith);
   low = low;
   last = λ i k. absurd (omega arith);
   rest = rw (add-zero from) (rw (zero-add d) at e);
 }
-bits-in f n m source from c (suc j) d low g n′ m′ h e =
+bits-in f n m source from c (suc j) d low g ws q h l e =
     let s : suc j + d ≡ j + suc d = omega arith in
-    let B = bits-in f n m source from c j (suc d) low g n′ m′ h (rw s at e) in
+    let B = bits-in f n m source from c j (suc d) low g ws q h l (rw s at e) in
     let p = puts source (c - 1) from j g in
-    let w = loads-bit f n m source (from + j) c (B .low) p n′ m′ h d (B .rest) in
+    let w = right-bit f n m source (from + j) c (B .low) p ws q h d (B .rest) in
+    let k = right-more-bit f n m source (from + j) c (B .low) p ws q h d (B .rest) in
     let (a, b, t) = bits n (B .low) (getD source (from + j) 0) w in
-    let r = sym (read-bit f n m source (from + j) c (B .low) p (B .inside) d w) ∙ B .rest in
+    let r = sym (read-bit f n m source (from + j) c (B .low) p k d w) ∙ B .rest in
     record {
-      inside = rw (add-suc from j) (loads-more f n m source (suc (from + j)) c _ _ n′ m′ h d r);
+      inside = omega arith;
       below = λ i k. elim (ℕ-discrete i j) [ yes q ↦ rw q t | no q ↦ B .below i (omega arith) ];
       rising = λ i k l q. elim (ℕ-discrete k j) [ yes v ↦ rw v (omega (arith, B .last i (omega arith), b)) | no v ↦ B .rising i k l (omega arith) ];
       low = suc (payload (getD source (from + j) 0));
@@ -135,45 +136,53 @@ bits-in f n m source from c (suc j) d low g n′ m′ h e =
       rest = rw (add-suc from j) r;
     }
 
--- c checks of a record that loads are filled, and reading came to place p
+-- c checks are filled, and reading came to place p
 pub record Filling (m : ℕ) (source : List ℕ) (p c : ℕ) (ws : List ℕ) : Type 0 where
-  pub form : Form
-  pub n : ℕ
-  pub few : n ≤ 120
+  pub few : payload (getD source 0 0) % 256 ≤ 120
   pub checks : m ≤ 120
+  pub behind : List ℕ
+  pub place : ℕ
   pub matrix : Matrix
-  pub loads : loading source ≡ loaded n m matrix
+  pub reads : readingAt (formOf (getD source 0 0)) (payload (getD source 0 0) % 256) m source 1 0 0 0 none ≡ checked behind place matrix
   pub low : ℕ
-  pub rest : readingAt form n m source p c 0 low (lent 8 ws) ≡ loaded n m matrix
+  pub rest : readingAt (formOf (getD source 0 0)) (payload (getD source 0 0) % 256) m source p c 0 low (lent 8 ws) ≡ checked behind place matrix
 
 pub filling-none : (m : ℕ) (source ws : List ℕ) → Checks m source → Zeroed ws (length ws) → Filling m source 1 0 ws
 filling-none m source ws C Z =
-    let L = C .loads in
+    let R = C .right in
+    let e : readingAt (formOf (getD source 0 0)) (payload (getD source 0 0) % 256) m source 1 0 0 0 none ≡ checked (drop (C .place) source) (C .place) (R .matrix) =
+    rw (R .form, R .bits) (R .reads) in
     record {
-      form = L .form;
-      n = C .n;
-      few = L .few;
-      checks = L .checks;
-      matrix = L .matrix;
-      loads = L .loads;
+      few = rw (R .bits) (R .few);
+      checks = R .checks;
+      behind = drop (C .place) source;
+      place = C .place;
+      matrix = R .matrix;
+      reads = e;
       low = 0;
-      rest = rw (zeroed-none 8 ws Z) (sym (L .start) ∙ L .loads);
+      rest = rw (zeroed-none 8 ws Z) e;
     }
 
 module _ (m : ℕ) (source : List ℕ) (p c : ℕ) (ws : List ℕ) (F : Filling m source p c ws) (l : c < m) where
-  pub filling-more : p < length source
-  filling-more = loads-more (F .form) (F .n) m source p c (F .low) (lent 8 ws) (F .n) m (F .matrix) 0 (F .rest)
+  abbrev f : Form
+  f = formOf (getD source 0 0)
 
-  opened : openWord (F .form) (F .n) c (getD source p 0) ≡ true
-  opened = loads-open (F .form) (F .n) m source p c (F .low) (lent 8 ws) (F .n) m (F .matrix) l (F .rest)
+  abbrev n : ℕ
+  n = payload (getD source 0 0) % 256
+
+  pub filling-more : p < length source
+  filling-more = right-more f n m source p c (F .low) (lent 8 ws) (F .behind) (F .place) (F .matrix) l (F .rest)
+
+  opened : openWord f n c (getD source p 0) ≡ true
+  opened = right-open f n m source p c (F .low) (lent 8 ws) (F .behind) (F .place) (F .matrix) l (F .rest)
 
   pub filling-count : payload (getD source p 0) % 256 ≤ 120
-  filling-count = omega (arith, opens (F .form) (F .n) c (getD source p 0) opened .2, F .few)
+  filling-count = omega (arith, opens f n c (getD source p 0) opened .2, F .few)
 
-  all-in : BitsIn (F .form) (F .n) m source (p + 1) (suc c) (payload (getD source p 0) % 256) 0 (lent 8 ws) (F .n) m (F .matrix)
+  all-in : BitsIn f n m source (p + 1) (suc c) (payload (getD source p 0) % 256) 0 (lent 8 ws) (F .behind) (F .place) (F .matrix)
   all-in =
-      bits-in (F .form) (F .n) m source (p + 1) (suc c) (payload (getD source p 0) % 256) 0 0 (lent 8 ws) (F .n) m (F .matrix)
-      (rw (add-zero (payload (getD source p 0) % 256), add-one p) (sym (read-open (F .form) (F .n) m source p c (F .low) (lent 8 ws) filling-more l opened) ∙ F .rest))
+      bits-in f n m source (p + 1) (suc c) (payload (getD source p 0) % 256) 0 0 (lent 8 ws) (F .behind) (F .place) (F .matrix) (omega (arith, filling-more))
+      (rw (add-zero (payload (getD source p 0) % 256), add-one p) (sym (read-open f n m source p c (F .low) (lent 8 ws) filling-more l opened) ∙ F .rest))
 
   pub filling-payloads : Payloads source (p + 1) (payload (getD source p 0) % 256) (8 * 64)
   filling-payloads = record { inside = omega (arith, all-in .inside); below = λ j k. omega (arith, all-in .below j k, F .few); rising = all-in .rising }
@@ -181,18 +190,21 @@ module _ (m : ℕ) (source : List ℕ) (p c : ℕ) (ws : List ℕ) (F : Filling 
   pub filling-next : (new : List ℕ) → lent 8 new ≡ puts source c (p + 1) (payload (getD source p 0) % 256) (lent 8 ws)
       → Filling m source (p + 1 + payload (getD source p 0) % 256) (c + 1) new
   filling-next new s = record {
-    form = F .form;
-    n = F .n;
     few = F .few;
     checks = F .checks;
+    behind = F .behind;
+    place = F .place;
     matrix = F .matrix;
-    loads = F .loads;
+    reads = F .reads;
     low = all-in .low;
     rest = let t : suc c - 1 ≡ c = omega arith in rw (s, add-one c) (rw t at (all-in .rest));
   }
 
-pub filling-end : (m : ℕ) (source : List ℕ) (p : ℕ) (ws : List ℕ) → Filling m source p m ws → Filled source ws
+pub filling-end : (m : ℕ) (source : List ℕ) (p : ℕ) (ws : List ℕ) → Filling m source p m ws → Filled m source ws
 filling-end m source p ws F =
-    let e = loads-end (F .form) (F .n) m source p m (F .low) (lent 8 ws) (F .n) m (F .matrix) (omega arith) (F .rest) .2 in
-    let f = F .loads in
-    record { holds = λ n′ m′ h g. cc }
+    let e : lent 8 ws ≡ F .matrix =
+    right-done (formOf (getD source 0 0)) (payload (getD source 0 0) % 256) m source p m (F .low) (lent 8 ws) (F .behind) (F .place) (F .matrix) (omega arith) (F .rest) in
+    record { holds = λ rest q h t. e ∙ same (F .behind) (F .place) (F .matrix) rest q h (sym (F .reads) ∙ t) }
+  where
+    same : (ws : List ℕ) (p : ℕ) (g : Matrix) (rest : List ℕ) (q : ℕ) (h : Matrix) → checked ws p g ≡ checked rest q h → g ≡ h
+    same ws p g rest q h e = cc

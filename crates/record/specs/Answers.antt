@@ -7,7 +7,7 @@ use Rattle.record.specs.declared.Writing.{Writing}
 use Rattle.record.specs.declared.Writing.the-variants as W
 
 abbrev pub loadingReply : Loading → Reply
-loadingReply (L.Loaded n m) = answer (n ∷ m ∷ [])
+loadingReply (L.Loaded n m k) = answer (n ∷ m ∷ k ∷ [])
 loadingReply (L.Refused r) = refusalOf r
 
 abbrev pub writingReply : Writing → Reply

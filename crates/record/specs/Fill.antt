@@ -1,11 +1,13 @@
 -- What filling the matrix's words from a record answers. Assumes nothing.
 use mathlib.Core.Path.{_≡_}
+use mathlib.Core.Bool.{false}
 use mathlib.Core.List.{List}
-use Prim.Native.Nat.{ℕ, _+_, _≤_, _<_}
-use lib.ListN.{getD, length}
+use Prim.Native.Nat.{ℕ, _+_, _%_, _≤_, _<_}
+use lib.ListN.{getD, length, drop}
 use Rattle.parity.specs.Matrix.{Matrix, lent}
-use Rattle.parity.specs.Record.{payload, loaded, loading}
-use Rattle.reading.specs.Judge.{Loads}
+use Rattle.parity.specs.Record.{payload, formOf, checked, reading}
+use Rattle.parity.specs.declared.Form.{Form}
+use Rattle.reading.specs.Judge.{ChecksRight}
 
 -- the payloads of `count` words from place `from` on rise, and are below N
 pub record Payloads (source : List ℕ) (from count N : ℕ) : Type 0 where
@@ -13,11 +15,14 @@ pub record Payloads (source : List ℕ) (from count N : ℕ) : Type 0 where
   pub below : (j : ℕ) → j < count → payload (getD source (from + j) 0) < N
   pub rising : (i j : ℕ) → i < j → j < count → payload (getD source (from + i) 0) < payload (getD source (from + j) 0)
 
--- a record of m checks that loads
+-- a record of m checks that are right
 pub record Checks (m : ℕ) (source : List ℕ) : Type 0 where
+  pub form : Form
   pub n : ℕ
-  pub loads : Loads n m source
+  pub place : ℕ
+  pub right : ChecksRight form n m source place
 
--- The words hold the matrix that the record holds.
-pub record Filled (source words : List ℕ) : Type 0 where
-  pub holds : (n m : ℕ) (h : Matrix) → loading source ≡ loaded n m h → lent 8 words ≡ h
+-- The words hold the matrix that the checks of the record are.
+pub record Filled (m : ℕ) (source words : List ℕ) : Type 0 where
+  pub holds : (rest : List ℕ) (p : ℕ) (h : Matrix)
+      → reading (formOf (getD source 0 0)) (payload (getD source 0 0) % 256) m (drop 1 source) 1 0 0 0 (λ c b. false) ≡ checked rest p h → lent 8 words ≡ h

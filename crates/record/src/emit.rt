@@ -4,13 +4,15 @@ use parity::Form;
 use reading::words::head_kind;
 use reading::words::number_in;
 use rows::common;
+use rows::ones::next_one;
 ghost use mathlib.Core.Path.{_≡_};
 ghost use Prim.Native.Nat.{_+_, _*_, _^_, _≤_, _<_};
 ghost use lib.ListN.{length};
-ghost use Rattle.parity.specs.Finite.{sum, count};
+ghost use Rattle.parity.specs.Finite.{sum, count, listFrom};
 ghost use Rattle.parity.specs.Matrix.{lent};
 ghost use Rattle.parity.specs.Record.{headKind, opening, bitWords, checkWords};
-ghost use Rattle.record.specs.Write.{wordOnes, checkOf, plainRecord, Wrote};
+ghost use Rattle.parity.proofs.Matrix.Sound.{Sound};
+ghost use Rattle.record.specs.Write.{wordOnes, checkOf, splitOfCheck, plainRecord, Wrote};
 
 // A number below 2^28, as part of a record word.
 fn narrow(x: usize) -> u32
@@ -120,21 +122,46 @@ fn head_word(form: Form, n: usize, m: usize) -> u32
     narrow(head_kind(form)) * 0x1000_0000 + narrow(m) * 256 + narrow(n)
 }
 
-// Writes the record, of a form, and answers how many words it took.
+// The kind 6 word of split `j`: the two lower bits of its check `m + j`.
+fn split_word(words: &[u64], n: usize, m: usize, k: usize, j: usize) -> u32
+    requires { ⌜ (length (now words) ≡ 4096) × Sound (lent 8 (now words)) n m k × (j < k) ⌝ }
+    ensures { λ r. ⌜ r ≡ splitOfCheck (lent 8 (now (words .entry))) n m j ⌝ }
+{
+    let c = m + j;
+    let lower = next_one(words, Check(c), 0);
+    let higher = next_one(words, Check(c), lower + 1);
+    0x6000_0000 + (narrow(higher) * 512 + narrow(lower))
+}
+
+// Writes the splits from place `p` on, in order, and answers the place behind them.
+fn put_splits(words: &[u64], n: usize, m: usize, k: usize, target: &mut [u32], p: usize) -> usize
+    requires { ⌜ (length (now words) ≡ 4096) × Sound (lent 8 (now words)) n m k × (p + k ≤ length (now target)) ⌝ }
+    ensures { λ r. ⌜ Wrote (now (target .entry)) (now (target .exit)) p (listFrom 0 k (splitOfCheck (lent 8 (now (words .entry))) n m)) r ⌝ }
+{
+    for j in 0..k {
+        target[p + j] = split_word(words, n, m, k, j);
+    }
+    p + k
+}
+
+// Writes the record, of a form: the checks of `checks`, and the `k` splits of `words`. Answers how many words it took.
 pub fn put_record(
-    words: &[u64],
+    checks: &[u64],
     used: usize,
+    words: &[u64],
     form: Form,
     n: usize,
     m: usize,
+    k: usize,
     target: &mut [u32],
 ) -> usize
-    requires { ⌜ (length (now words) ≡ 4096) × (used ≤ 8) × (n ≤ 120) × (m ≤ 120) ⌝ }
-    requires { ⌜ length (plainRecord form (lent 8 (now words)) (used * 64) n m) ≤ length (now target) ⌝ }
-    ensures { λ r. ⌜ Wrote (now (target .entry)) (now (target .exit)) 0 (plainRecord form (lent 8 (now (words .entry))) (used * 64) n m) r ⌝ }
+    requires { ⌜ (length (now checks) ≡ 4096) × (used ≤ 8) × (length (now words) ≡ 4096) × Sound (lent 8 (now words)) n m k ⌝ }
+    requires { ⌜ length (plainRecord form (lent 8 (now checks)) (used * 64) (lent 8 (now words)) n m k) ≤ length (now target) ⌝ }
+    ensures { λ r. ⌜ Wrote (now (target .entry)) (now (target .exit)) 0 (plainRecord form (lent 8 (now (checks .entry))) (used * 64) (lent 8 (now (words .entry))) n m k) r ⌝ }
 {
     target[0] = head_word(form, n, m);
-    let end = put_checks(words, used, form, m, target);
+    let behind = put_checks(checks, used, form, m, target);
+    let end = put_splits(words, n, m, k, target, behind);
     target[end] = 0xf000_0000;
     end + 1
 }

@@ -1,4 +1,4 @@
-// Filling the matrix's words from a record that was judged right.
+// Filling the matrix's words from the checks of a record that were judged right.
 use reading::words::payload;
 use rows::clear;
 ghost use mathlib.Core.Path.{_≡_};
@@ -31,10 +31,10 @@ fn fill_row(source: &[u32], from: usize, count: usize, rows: &mut [u64], width: 
     rows[at] = x;
 }
 
-// The words of the matrix that a record of `m` checks holds.
+// The words of the matrix that the `m` checks of a record are.
 pub fn fill(source: &[u32], words: &mut [u64], m: usize)
     requires { ⌜ (length (now words) ≡ 4096) × Checks m (now source) ⌝ }
-    ensures { λ r. ⌜ Filled (now (source .entry)) (now (words .exit)) ⌝ }
+    ensures { λ r. ⌜ Filled m (now (source .entry)) (now (words .exit)) ⌝ }
 {
     clear(words, 4096);
     let mut p = 1;

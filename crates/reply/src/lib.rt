@@ -115,7 +115,7 @@ pub fn loading(answer: Loading) -> Numbered
     ensures { λ r. ⌜ numberedReply r ≡ loadingReply answer ⌝ }
 {
     match answer {
-        Loading::Loaded { n, m } => Numbered::Two(0, n as u64, m as u64),
+        Loading::Loaded { n, m, k } => Numbered::Three(0, n as u64, m as u64, k as u64),
         Loading::Refused(why) => refused(why),
     }
 }

@@ -1,25 +1,21 @@
 -- What the code reads of an accepted matrix to take back its newest split: the two lower bits, and that the split can be made again. Assumes nothing.
-use mathlib.Core.Path.{_≡_, sym, _∙_}
-use mathlib.Core.Bool.{true, _&&_, true≢false}
+use mathlib.Core.Path.{_≡_, _∙_}
 use mathlib.Core.List.{List}
 use Prim.Native.Nat.{ℕ, suc, _+_, _-_, _≤_, _<_}
 use native.Mathlib.Omega.{arith}
 use native.Mathlib.Decide.{decLt}
-use lib.Dec.{ltb}
-use borrow.Author.Tests.{lt-ltb}
-use Rattle.parity.specs.Finite.{least}
 use Rattle.parity.specs.Matrix.{Matrix, lent, cause}
 use Rattle.parity.specs.Cycles.{splitOf, takenBack, lowerOf, higherOf}
-use Rattle.parity.proofs.Finite.Sums.{least-min}
 use Rattle.parity.proofs.Matrix.Clean.{Clean}
 use Rattle.parity.proofs.Matrix.Sound.{Sound}
 use Rattle.parity.proofs.Matrix.Accept.{accepts}
 use Rattle.parity.proofs.Splits.Back.{back-clean}
 use Rattle.parity.proofs.Splits.Given.{newest-given}
-use Rattle.parity.proofs.Splits.Undo.{Newest, newest, lower-at, higher-at, pair-lower, pair-higher, pair-own, both, back-split}
+use Rattle.parity.proofs.Splits.Undo.{Newest, newest, pair-lower, pair-higher, pair-own, both, back-split}
 use Rattle.rows.specs.Rows.{NextOne}
 use Rattle.exchange.specs.Merge.{Apart}
 use Rattle.exchange.specs.Back.{Newer}
+use Rattle.exchange.proofs.ReadPair.{first-one, second-one}
 
 pub record ReadBack (h : Matrix) (m N M u v : ℕ) : Type 0 where
   pub newer : Newer h m N M u v
@@ -31,27 +27,12 @@ module _ (h : Matrix) (N M : ℕ) (R : Newest h N M) (small : N < 512) where
   -- the first bit of the check
   read-lower : (u : ℕ) → NextOne 512 (h M) 0 u → u ≡ lowerOf h N M
   unfolding lowerOf higherOf
-  read-lower u F =
-      let (l, e) = lower-at N (h M) (R .two) in
-      let a : u ≤ least N (h M) = below l e in
-      let b = least-min N (h M) u (omega arith) (F .found (omega arith)) in
-      omega arith
-    where
-      below : least N (h M) < N → h M (least N (h M)) ≡ true → u ≤ least N (h M)
-      below l e = elim (decLt (least N (h M)) u) [ no q ↦ omega arith | yes q ↦ absurd (true≢false (sym e ∙ F .none (least N (h M)) (omega arith) q)) ]
+  read-lower u F = first-one (h M) N (R .two) small u F
 
   -- and the next
   read-higher : (v : ℕ) → NextOne 512 (h M) (lowerOf h N M + 1) v → v ≡ higherOf h N M
   unfolding lowerOf higherOf
-  read-higher v F =
-      let (i, l, e) = higher-at N (h M) (R .two) in
-      let a : v ≤ higherOf h N M = below i l e in
-      let b = least-min N (λ b. ltb (least N (h M)) b && h M b) v (omega arith) (rw (lt-ltb (least N (h M)) v (omega (arith, F .least)), F .found (omega arith))) in
-      omega arith
-    where
-      below : lowerOf h N M < higherOf h N M → higherOf h N M < N → h M (higherOf h N M) ≡ true → v ≤ higherOf h N M
-      below i l e =
-          elim (decLt (higherOf h N M) v) [ no q ↦ omega arith | yes q ↦ absurd (true≢false (sym e ∙ F .none (higherOf h N M) (omega arith) q)) ]
+  read-higher v F = second-one (h M) N (R .two) small v F
 
 module _ (h : Matrix) (n m j : ℕ) (S : Sound h n m (suc j)) where
   abbrev R : Newest h (n + j) (m + j)

@@ -147,6 +147,41 @@ const I2: [u32; 7] = [
     0xf000_0000,
 ];
 
+// E with its two splits, in the third form, and C without any.
+const E3: [u32; 12] = [
+    0x5000_0203,
+    0x2000_0003,
+    0x3000_0000,
+    0x3000_0001,
+    0x3000_0002,
+    0x2000_0103,
+    0x3000_0000,
+    0x3000_0001,
+    0x3000_0002,
+    0x6000_0200,
+    0x6000_0602,
+    0xf000_0000,
+];
+
+const C3: [u32; 16] = [
+    0x5000_0307,
+    0x2000_0004,
+    0x3000_0000,
+    0x3000_0001,
+    0x3000_0002,
+    0x3000_0003,
+    0x2000_0104,
+    0x3000_0000,
+    0x3000_0001,
+    0x3000_0004,
+    0x3000_0005,
+    0x2000_0203,
+    0x3000_0000,
+    0x3000_0002,
+    0x3000_0006,
+    0xf000_0000,
+];
+
 // Words that are wrong at most places: other kinds, counts above n, other check numbers, bits not below n, unnamed bits set.
 const WRONG: [u32; 31] = [
     0,
@@ -194,28 +229,28 @@ fn load_case(head: &[u8], source: &[u32]) {
     io::write_all(1, b"\n");
 }
 
-// Loads a record of either form, writes its matrix and says whether that gives the second form.
-fn round_trip(head: &[u8], source: &[u32], second: &[u32]) {
+// Loads a record of any form, writes its matrix and says whether that gives the record due.
+fn round_trip(head: &[u8], source: &[u32], due: &[u32]) {
     let mut words = [0xffff_ffff_ffff_ffff; 4096];
     io::write_all(1, head);
     let r = record::load(source, &mut words);
     loads(r);
-    if let Loading::Loaded { n, m } = r {
-        write_back(second, &words, n, m);
+    if let Loading::Loaded { n, m, k } = r {
+        write_back(due, &words, n, m, k);
     }
     io::write_all(1, b"\n");
 }
 
-// Writes a matrix and compares the record with the second form.
-fn write_back(second: &[u32], words: &[u64], n: usize, m: usize) {
+// Writes a matrix and compares the record with the one due.
+fn write_back(due: &[u32], words: &[u64], n: usize, m: usize, k: usize) {
     let mut target = [0xffff_ffffu32; 14523];
-    let w = record::write(words, n, m, 0, &mut target);
+    let w = record::write(words, n, m, k, &mut target);
     io::write_all(1, b", ");
     writes(w);
     if let Writing::Written { used } = w {
-        if used == second.len() {
-            if begins(second, &target) {
-                io::write_all(1, b", the second form");
+        if used == due.len() {
+            if begins(due, &target) {
+                io::write_all(1, b", as due");
             }
         }
     }
@@ -337,7 +372,62 @@ fn numbers() {
     load_case(b"second form, n = 120: ", &[0x4000_0078, 0xf000_0000]);
     load_case(b"second form, n = 121: ", &[0x4000_0079, 0xf000_0000]);
     load_case(b"second form, m = 121: ", &[0x4000_7901, 0xf000_0000]);
-    load_case(b"third kind of first word: ", &[0x5000_0002, 0xf000_0000]);
+    load_case(b"another kind of first word: ", &[0x6000_0002, 0xf000_0000]);
+}
+
+// E with its splits, with one word replaced.
+fn third_case(head: &[u8], at: usize, word: u32)
+    requires { ⌜ at < 12 ⌝ }
+{
+    let mut source = E3;
+    source[at] = word;
+    load_case(head, &source);
+}
+
+// Splits: in the third form, in the others, before the checks are complete, after the end; each fault of the first and of the last.
+fn splits() {
+    round_trip(b"E with its splits: ", &E3, &E3);
+    round_trip(b"C, third form without splits: ", &C3, &C2);
+    third_case(b"in the second form: ", 0, 0x4000_0203);
+    third_case(b"in the first form: ", 0, 0x1000_0203);
+    third_case(b"before check 1: ", 5, 0x6000_0200);
+    third_case(b"first split, bits exchanged: ", 9, 0x6000_0001);
+    third_case(b"first split, equal bits: ", 9, 0x6000_0201);
+    third_case(b"first split, bit 3 is not there: ", 9, 0x6000_0600);
+    third_case(b"first split, bit 18 set: ", 9, 0x6004_0200);
+    third_case(b"first split, bit 27 set: ", 9, 0x6800_0200);
+    third_case(b"first split, another pair: ", 9, 0x6000_0400);
+    third_case(b"last split, bits exchanged: ", 10, 0x6000_0403);
+    third_case(b"last split, bit 4 is not there: ", 10, 0x6000_0802);
+    third_case(b"last split, share 1: ", 10, 0x6000_0200);
+    third_case(b"last split, share 0: ", 10, 0x6000_0400);
+    third_case(b"last split, bit 18 set: ", 10, 0x6004_0602);
+    third_case(b"no last split: ", 10, 0xf000_0000);
+    third_case(b"a third split, and no end: ", 11, 0x6000_0803);
+    load_case(
+        b"a split after the end: ",
+        &[0x5000_0002, 0xf000_0000, 0x6000_0200],
+    );
+    load_case(
+        b"no checks, a split: ",
+        &[0x5000_0002, 0x6000_0200, 0xf000_0000],
+    );
+}
+
+// Too short by one for E with its splits, and a matrix that no split made, with no room either.
+fn short_thirds() {
+    let mut words = [0u64; 4096];
+    let source = E3;
+    record::load(&source, &mut words);
+    let mut short = [7u32; 11];
+    io::write_all(1, b"E with its splits, one word short: ");
+    writes(record::write(&words, 3, 2, 2, &mut short));
+    let mut none: [u32; 0] = [];
+    io::write_all(1, b"\nno split made it, no room: ");
+    let mut alone = [0u64; 4096];
+    alone[0] = 7;
+    writes(record::write(&alone, 2, 0, 1, &mut none));
+    io::write_all(1, b"\n");
 }
 
 // The full record, with check 119 numbered otherwise, and with kind 1 in its first word.
@@ -463,6 +553,8 @@ fn main() {
     last_numbers(&all);
     firsts();
     numbers();
+    splits();
+    short_thirds();
     io::write_all(1, b"C with\n");
     all_replaced(false);
     io::write_all(1, b"C, second form, with\n");

@@ -20,9 +20,10 @@ fn refused(why: Refusal) {
 
 pub fn loads(r: Loading) {
     match r {
-        Loading::Loaded { n, m } => {
+        Loading::Loaded { n, m, k } => {
             number(b"n = ", n as u64);
             number(b", m = ", m as u64);
+            number(b", k = ", k as u64);
         }
         Loading::Refused(why) => refused(why),
     }
@@ -38,7 +39,7 @@ pub fn writes(w: Writing) {
 // The place of the faulty word alone, and - where the record loads.
 pub fn place(r: Loading) {
     match r {
-        Loading::Loaded { n: _, m: _ } => {
+        Loading::Loaded { n: _, m: _, k: _ } => {
             io::write_all(1, b" -");
         }
         Loading::Refused(why) => {

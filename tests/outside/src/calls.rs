@@ -4,7 +4,7 @@ use crate::cases;
 use crate::compare::compare;
 use crate::elimination;
 use crate::generate;
-use crate::model::{self, Form, Kind, Lent, Matrix, FORMS, KINDS, WORDS};
+use crate::model::{self, Kind, Lent, Matrix, FORMS, KINDS, WORDS};
 use crate::random::Random;
 use crate::stack;
 use std::thread;
@@ -196,12 +196,16 @@ fn good(r: &mut Random, kind: Kind, sample: &Sample) -> Lent {
     let mut lent = cases::lend(kind, matrix);
     match kind {
         Kind::Load => {
-            lent.record = model::record(matrix, r.pick(&FORMS));
+            lent.record = match matrix.unsplit() {
+                Some((base, splits)) if matrix.k > 0 => model::record_with(&base, &splits),
+                Some((base, _)) => model::record(&base, r.pick(&FORMS)),
+                None => vec![0x5000_0000],
+            };
             lent.words = vec![r.next(); WORDS];
-            (lent.n, lent.m) = (0, 0);
+            (lent.n, lent.m, lent.k) = (0, 0, 0);
         }
         Kind::Write => {
-            let needed = model::record(matrix, Form::Second).len();
+            let needed = model::written(matrix).map_or(9, |record| record.len());
             let more = if r.chance(300) { 0 } else { r.below(6) };
             lent.record = (0..needed + more).map(|_| r.next() as u32).collect();
         }
@@ -292,7 +296,7 @@ fn damages(kind: Kind) -> Vec<Damage> {
     let mut list = vec![WordsLength, Numbers, Near, Outside, RuleA, RuleA];
     list.extend_from_slice(match kind {
         Kind::Load | Kind::Count | Kind::HouseCode => &[],
-        Kind::Write => &[Extended, RecordShort, RecordShort],
+        Kind::Write => &[NotBack, NotBack, RecordShort, RecordShort],
         Kind::Share => &[Pair, Pair],
         Kind::Split => &[Pair, LowShare, LowShare, Full],
         Kind::TakeBack => &[Nothing, Nothing, NotBack, NotBack, NotBack],
@@ -447,6 +451,25 @@ fn bad_bytes(r: &mut Random, bytes: &mut [u8], most: u8) {
     }
 }
 
+/// One of the splits between two places is changed, made twice, taken out or exchanged with another.
+fn damage_split(r: &mut Random, record: &mut Vec<u32>, from: usize, last: usize) {
+    let (place, other) = (r.between(from, last), r.between(from, last));
+    let (lower, higher) = (record[place] & 511, record[place] >> 9 & 511);
+    let pair = |lower: u32, higher: u32| 0x6000_0000 | (higher & 511) << 9 | lower & 511;
+    match r.below(8) {
+        0 => record[place] = pair(higher, lower),
+        1 => record[place] = pair(lower, lower),
+        2 => record[place] |= 1 << r.between(18, 27),
+        3 => record[place] = pair(lower, r.pick(&[higher + 1, 511, higher.wrapping_sub(1)])),
+        4 => record[place] = pair(r.pick(&[lower + 1, 0, lower.wrapping_sub(1)]), higher),
+        5 => record.insert(place, record[other]),
+        6 => record.swap(place, other),
+        _ => {
+            record.remove(place);
+        }
+    }
+}
+
 /// A record with one or more words changed, taken out or put in.
 pub fn damage_record(r: &mut Random, record: &mut Vec<u32>, n: usize) {
     for _ in 0..r.pick(&[1, 1, 1, 1, 2, 3]) {
@@ -454,14 +477,14 @@ pub fn damage_record(r: &mut Random, record: &mut Vec<u32>, n: usize) {
         let kind = r.below(16) as u32;
         let byte = r.below(256) as u32;
         let low = r.pick(&[0, 1, n.saturating_sub(1) as u32, n as u32, n as u32 + 1, 120, 121, 255, byte]);
-        let (named, random) = (r.pick(&[1, 2, 3, 4, 15]), r.next() as u32);
+        let (named, random) = (r.pick(&[1, 2, 3, 4, 5, 6, 15]), r.next() as u32);
         let any = r.pick(&[kind << 28 | low, named << 28 | low, random]);
         if place == record.len() {
             record.push(r.pick(&[any, 0xF000_0000, 0]));
             continue;
         }
         let other = r.below(record.len());
-        match r.below(14) {
+        match r.below(17) {
             0 => record[place] ^= 1 << r.below(32),
             1 => record[place] = record[place] & 0x0FFF_FFFF | kind << 28,
             2 => record[place] |= 1 << r.between(8, 27),
@@ -474,12 +497,20 @@ pub fn damage_record(r: &mut Random, record: &mut Vec<u32>, n: usize) {
             7 => record[place] = record[place] & !255 | low,
             8 => record[place] = record[place] & !255 | record[place].wrapping_add(r.pick(&[1, 255])) & 255,
             9 => record.swap(place, other),
-            10 => record[0] = r.pick(&[1, 4]) << 28 | r.pick(&[0, 1, 120, 121, 255, 256]) << 8 | low,
+            10 => record[0] = r.pick(&[1, 4, 5]) << 28 | r.pick(&[0, 1, 120, 121, 255, 256]) << 8 | low,
             11 => {
                 let near = record[place].wrapping_add(r.pick(&[256, 0xFF00])) >> 8 & 255;
                 record[place] = record[place] & !0xFF00 | r.pick(&[low, near, near]) << 8;
             }
-            12 => record[0] ^= 0x5000_0000,
+            12 => record[0] ^= r.pick(&[0x5000_0000, 0x4000_0000, 0x1000_0000]),
+            // A split, mostly of bits that are there.
+            13 => record.insert(place, 0x6000_0000 | (r.below(n + 4) as u32) << 9 | r.below(n + 2) as u32),
+            14 | 15 => {
+                if let Some(last) = (0..record.len()).rev().find(|&place| record[place] >> 28 == 6) {
+                    let from = (0..=last).find(|&place| record[place] >> 28 == 6).unwrap();
+                    damage_split(r, record, from, last);
+                }
+            }
             _ => record[place] = any,
         }
         if record.is_empty() {
@@ -565,7 +596,7 @@ fn apply(r: &mut Random, damage: Damage, matrix: &Matrix, lent: &mut Lent) {
             }
         }
         Damage::RecordShort => {
-            let needed = model::record(matrix, Form::Second).len();
+            let needed = model::written(matrix).map_or(9, |record| record.len());
             let any = r.below(needed);
             lent.record.resize(r.pick(&[needed - 1, needed - 1, 0, 1, any]), 7);
         }
@@ -577,7 +608,7 @@ fn apply(r: &mut Random, damage: Damage, matrix: &Matrix, lent: &mut Lent) {
 }
 
 fn one_call(r: &mut Random, kind: Kind, pools: &Pools) -> Lent {
-    let zero = matches!(kind, Kind::Load | Kind::Write | Kind::Rank | Kind::Encode);
+    let zero = matches!(kind, Kind::Rank | Kind::Encode);
     let usual = match kind {
         Kind::TakeBack => Added::Some,
         _ if zero => Added::None,
@@ -585,9 +616,14 @@ fn one_call(r: &mut Random, kind: Kind, pools: &Pools) -> Lent {
     };
     if r.chance(510) {
         let mut sample = pools.choose(r, kind, usual);
-        // A split needs a pair; another matrix is tried a few times.
+        // A split needs a pair, and a record a matrix that splits made; another matrix is tried a few times.
         for _ in 0..8 {
-            if kind != Kind::Split || sample.matrix.next_pair().is_some() {
+            let fits = match kind {
+                Kind::Split => sample.matrix.next_pair().is_some(),
+                Kind::Load | Kind::Write => sample.matrix.unsplit().is_some(),
+                _ => true,
+            };
+            if fits {
                 break;
             }
             sample = pools.choose(r, kind, usual);
@@ -626,11 +662,10 @@ fn one_call(r: &mut Random, kind: Kind, pools: &Pools) -> Lent {
     lent
 }
 
-/// A call of write, rank or encode with k above 0.
+/// A call of rank or encode with k above 0.
 fn lend_extended(r: &mut Random, kind: Kind, matrix: &Matrix) -> Lent {
     let mut lent = cases::lend(kind, matrix);
     match kind {
-        Kind::Write => lent.record = vec![7; r.pick(&[0, 1, 14_522])],
         Kind::Encode => {
             lent.input = r.bits(matrix.n - matrix.n.min(matrix.m));
             lent.word = r.bytes(matrix.n);
@@ -640,7 +675,7 @@ fn lend_extended(r: &mut Random, kind: Kind, matrix: &Matrix) -> Lent {
     lent
 }
 
-/// Every record word of small records of both forms changed in every way.
+/// Every record word of small records of the three forms changed in every way.
 fn every_record(r: &mut Random) -> Result<usize, String> {
     let matrices = [
         cases::a(),
@@ -651,10 +686,16 @@ fn every_record(r: &mut Random) -> Result<usize, String> {
         Matrix::given(120, &[vec![0, 63, 64, 119], vec![], vec![119]]),
         Matrix::given(3, &[vec![2], vec![0, 1, 2], vec![0]]),
     ];
+    let mut wholes: Vec<(u32, Vec<u32>)> = Vec::new();
+    for matrix in &matrices {
+        wholes.extend(FORMS.map(|form| (matrix.n as u32, model::record(matrix, form))));
+    }
+    // Two and three splits: E orthogonalised, and A's and C's one with a check twice.
+    wholes.push((3, model::record_with(&cases::e(), &[(0, 1), (2, 3)])));
+    let four = Matrix::given(4, &[vec![0, 1, 2, 3], vec![0, 1, 2, 3], vec![0, 1]]);
+    wholes.push((4, model::record_with(&four, &[(0, 1), (2, 3), (4, 5)])));
     let mut done = 0;
-    for (matrix, form) in matrices.iter().flat_map(|matrix| FORMS.map(|form| (matrix, form))) {
-        let whole = model::record(matrix, form);
-        let n = matrix.n as u32;
+    for (n, whole) in wholes {
         let mut records = vec![whole.clone()];
         for place in 0..=whole.len() {
             let mut put = |word: u32, instead: bool| {
@@ -680,6 +721,10 @@ fn every_record(r: &mut Random) -> Result<usize, String> {
             for low in 0..256 {
                 put(now & !255 | low, true);
                 put(now & !0xFF00 | low << 8, true);
+            }
+            for pair in 0..64 {
+                put(0x6000_0000 | (pair / 8) << 9 | pair % 8, true);
+                put(0x6000_0000 | (pair / 8) << 9 | pair % 8, false);
             }
             records.push(whole[..place].to_vec());
             if place < whole.len() {

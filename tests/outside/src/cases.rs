@@ -182,13 +182,13 @@ fn bench(t: &mut Tally) -> Result<(), String> {
     t.same("11 checks of L, rank", l(11).rank(), 11)?;
 
     for (first, due) in
-        [(0x1000_0078, reply(0, &[120, 0])), (0x1000_0079, reply(5, &[0])), (0x1000_0000, reply(5, &[0]))]
+        [(0x1000_0078, reply(0, &[120, 0, 0])), (0x1000_0079, reply(5, &[0])), (0x1000_0000, reply(5, &[0]))]
     {
         lent.record = vec![first, 0xF000_0000];
         t.same("n = 120 loads, n = 121 does not", call(&mut lent), due)?;
     }
     lent.record = RECORD_C.to_vec();
-    t.same("the record of C", call(&mut lent), reply(0, &[7, 3]))?;
+    t.same("the record of C", call(&mut lent), reply(0, &[7, 3, 0]))?;
     t.same("the record of C, words", &lent.words, &c().pack())?;
     t.same("the first form of C", model::record(&c(), Form::First), RECORD_C.to_vec())?;
     let second: Vec<u32> = [(0, 0x4000_0307), (6, 0x2000_0104), (11, 0x2000_0203)].iter().fold(
@@ -200,12 +200,28 @@ fn bench(t: &mut Tally) -> Result<(), String> {
     );
     t.same("C written", &model::record(&c(), Form::Second), &second)?;
     lent.record = second;
-    t.same("the second form of C", call(&mut lent), reply(0, &[7, 3]))?;
+    t.same("the second form of C", call(&mut lent), reply(0, &[7, 3, 0]))?;
     t.same("the second form of C, words", &lent.words, &c().pack())?;
     let full: Vec<Vec<usize>> = vec![(0..120).collect(); 120];
-    t.same("the longest record", model::record(&Matrix::given(120, &full), Form::Second).len(), 14_522)?;
+    t.same("the longest record without splits", model::record(&Matrix::given(120, &full), Form::Second).len(), 14_522)?;
+    // C orthogonalised: one split, of bits 0 and 1.
+    let third = model::record_with(&c(), &[(0, 1)]);
+    t.same("D's record, its last words", &third[third.len() - 2..], &[0x6000_0200, 0xF000_0000])?;
+    lent.record = third.clone();
+    t.same("C with its split", call(&mut lent), reply(0, &[7, 3, 1]))?;
+    let mut d = c();
+    d.orthogonalise();
+    t.same("C with its split, words", &lent.words, &d.pack())?;
+    t.same("D written", model::written(&d), Some(third))?;
+    // Accepted matrices that no splits made: a taking back breaks rule A; a share of 0.
+    let mut stuck = Matrix::given(5, &[vec![1, 4], vec![0, 1, 3], vec![0, 2, 4]]);
+    (stuck.n, stuck.m, stuck.k) = (3, 1, 2);
+    t.same("rule A breaks on the way", (stuck.rule_a(), model::written(&stuck)), (true, None))?;
+    let mut alone = Matrix::given(3, &[vec![0, 1, 2]]);
+    (alone.n, alone.m, alone.k) = (2, 0, 1);
+    t.same("a share of 0 does not rebuild", (alone.rule_a(), model::written(&alone)), (true, None))?;
     // The first record word that breaks the form, one example for each way.
-    let faulty: [(&[u32], u64); 19] = [
+    let faulty: [(&[u32], u64); 28] = [
         (&[0x1000_0003], 1),
         (&[0x1000_0103, 0x2000_0004], 1),
         (&[0x1000_0103, 0x2000_0003, 0x3000_0002, 0x3000_0001], 3),
@@ -224,7 +240,30 @@ fn bench(t: &mut Tally) -> Result<(), String> {
         (&[0x4000_0203, 0x2000_0000, 0x2000_0200, 0xF000_0000], 2),
         (&[0x4000_0203, 0x2000_0000, 0x2001_0100, 0xF000_0000], 2),
         (&[0x1000_0203, 0x2000_0000, 0x2000_0100, 0xF000_0000], 2),
-        (&[0x5000_0003, 0xF000_0000], 0),
+        (&[0x6000_0003, 0xF000_0000], 0),
+        (&[0x5000_0003], 1),
+        (&[0x5000_0103, 0x6000_0200, 0x2000_0000, 0xF000_0000], 1),
+        (&[0x1000_0003, 0x6000_0200, 0xF000_0000], 1),
+        (&[0x4000_0003, 0x6000_0200, 0xF000_0000], 1),
+        (&[0x5000_0003, 0x6000_0200, 0xF000_0000], 1),
+        (&[0x5000_0202, 0x2000_0002, 0x3000_0000, 0x3000_0001, 0x2000_0102, 0x3000_0000, 0x3000_0001, 0x6000_0001], 7),
+        (&[0x5000_0202, 0x2000_0002, 0x3000_0000, 0x3000_0001, 0x2000_0102, 0x3000_0000, 0x3000_0001, 0x6004_0200], 7),
+        (&[0x5000_0202, 0x2000_0002, 0x3000_0000, 0x3000_0001, 0x2000_0102, 0x3000_0000, 0x3000_0001, 0x6000_0200], 8),
+        (
+            &[
+                0x5000_0202,
+                0x2000_0002,
+                0x3000_0000,
+                0x3000_0001,
+                0x2000_0102,
+                0x3000_0000,
+                0x3000_0001,
+                0x6000_0200,
+                0x6000_0200,
+                0xF000_0000,
+            ],
+            8,
+        ),
     ];
     for (record, place) in faulty {
         lent.record = record.to_vec();
@@ -407,6 +446,9 @@ fn methods(t: &mut Tally) -> Result<(), String> {
             for form in FORMS {
                 t.same("load after write", &model::load(&model::record(&matrix, form)), &Ok(matrix.clone()))?;
             }
+        }
+        if let Some((base, splits)) = matrix.unsplit() {
+            t.same("load after write, splits", &model::load(&model::record_with(&base, &splits)), &Ok(matrix.clone()))?;
         }
         t.same("read after pack", &Matrix::read(&matrix.pack(), matrix.n, matrix.m, matrix.k), &matrix)?;
     }

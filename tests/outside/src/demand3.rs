@@ -1,12 +1,13 @@
 //! Demand 3's facts on random matrices and random lists of splits, orthogonalisings and takings back: by trying all words
-//! at small sizes, by rank at full size.
+//! at small sizes, by rank at full size. Half of the small lists start at the load of a third-form record (M-107): the
+//! facts are then about its checks before the splits, and what stands after the list is written and loaded back.
 
 use crate::calls::erase;
 use crate::cases;
 use crate::compare::{compare, describe};
 use crate::elimination;
 use crate::generate;
-use crate::model::{losses, twos, Kind, Matrix};
+use crate::model::{self, losses, twos, Kind, Matrix};
 use crate::random::Random;
 use parity::{Peeled, Refusal, TakenBack};
 
@@ -29,6 +30,10 @@ struct Tally {
     nothing: usize,
     /// Takings back after which what stood before a split or an orthogonalise stands again.
     again: usize,
+    /// Lists that start at a load, the splits loaded, and those with splits after the list.
+    loads: usize,
+    loaded: usize,
+    written: usize,
 }
 
 /// The given matrix, the extended one as it stands after the list, and what the list's calls carried.
@@ -52,6 +57,47 @@ impl Run {
         let tally = Tally { lists: 1, ..Tally::default() };
         let (list, marks) = (Vec::new(), Vec::new());
         Run { given, given_words: words.clone(), words, k: 0, sum: 0, last: None, list, marks, tally }
+    }
+
+    /// What stands after the load of the given matrix with some splits: the carried sum is theirs.
+    fn load(given: Matrix, splits: &[(usize, usize)]) -> Result<Run, String> {
+        let mut run = Run::new(given);
+        let mut matrix = run.given.clone();
+        for &(u, v) in splits {
+            run.marks.push(Mark { words: matrix.pack(), k: matrix.k, sum: run.sum, orthogonalise: false });
+            run.sum += (0..matrix.share(u, v)).sum::<u64>();
+            matrix.split(u, v);
+        }
+        run.list.push(format!("load {splits:?}"));
+        (run.tally.loads, run.tally.loaded) = (1, splits.len());
+        match parity::load(&model::record_with(&run.given, splits), &mut run.words) {
+            Ok(loaded) => run.k = loaded.k,
+            Err(refused) => return run.fail(&format!("loading the record with its splits: {refused}")),
+        }
+        let same = run.k == splits.len() && run.words == matrix.pack();
+        run.fact(same, || "loading does not perform the splits".to_string())?;
+        Ok(run)
+    }
+
+    /// What stands is written, which is not refused, and loads to the same words and k; its checks are the given ones.
+    fn there_and_back(&mut self) -> Result<(), String> {
+        let (n, m, k) = (self.given.n, self.given.m, self.k);
+        let mut record = vec![0; 14_914];
+        let used = match parity::write(&self.words, n, m, k, &mut record) {
+            Ok(used) => used,
+            Err(refused) => return self.fail(&format!("writing what stands: {refused}")),
+        };
+        let mut words = vec![7; 4096];
+        let again = parity::load(&record[..used], &mut words).map(|loaded| (loaded.n, loaded.m, loaded.k));
+        let same = again == Ok((n, m, k)) && words == self.words;
+        self.fact(same, || "what was written loads to another matrix".to_string())?;
+        record.truncate(used);
+        record.retain(|word| word >> 28 != 6);
+        let given = parity::load(&record, &mut words).map(|loaded| loaded.k);
+        let same = given == Ok(0) && words == self.given_words;
+        self.fact(same, || "the checks that are written are not those before the splits".to_string())?;
+        self.tally.written += (k > 0) as usize;
+        Ok(())
     }
 
     fn fail<T>(&self, what: &str) -> Result<T, String> {
@@ -317,9 +363,18 @@ fn some_pair(r: &mut Random, matrix: &Matrix) -> (usize, usize) {
 /// How many of 1,000 calls of a list are takings back where k is above 0; where it is 0, a quarter of that.
 const BACK: [usize; 4] = [0, 300, 500, 700];
 
-fn small(r: &mut Random) -> Result<Tally, String> {
+fn small(r: &mut Random, from_a_load: bool) -> Result<Tally, String> {
     let (n, m, part) = (r.between(1, 7), r.below(8), r.pick(&[150, 300, 500, 700, 900, 1000]));
-    let mut run = Run::new(generate::given(r, n, m, part));
+    let given = generate::given(r, n, m, part);
+    let mut run = if from_a_load {
+        let mut extended = given.clone();
+        let most = r.below(6);
+        generate::split_some(r, &mut extended, most);
+        let (_, splits) = extended.unsplit().expect("splits made it");
+        Run::load(given, &splits)?
+    } else {
+        Run::new(given)
+    };
     let back = r.pick(&BACK);
     for _ in 0..r.below(13) {
         // Each call of the list is compared with the model too.
@@ -346,6 +401,7 @@ fn small(r: &mut Random) -> Result<Tally, String> {
     if r.chance(60) {
         run.take_all_back()?;
     }
+    run.there_and_back()?;
     run.cycles(r)?;
     let bits = n + run.k;
     let codewords = run.all_words(bits <= 10 || bits <= 12 && r.chance(200))?;
@@ -425,6 +481,7 @@ fn large(r: &mut Random, given: Matrix, way: usize) -> Result<Tally, String> {
         }
         _ => run.orthogonalise()?,
     }
+    run.there_and_back()?;
     run.cycles(r)?;
     let codewords = run.by_rank(r)?;
     let extended = Matrix::read(&run.words, n, run.given.m, run.k);
@@ -452,9 +509,13 @@ pub fn run() -> Result<(usize, String), String> {
         all.inside += tally.inside;
         all.nothing += tally.nothing;
         all.again += tally.again;
+        all.loads += tally.loads;
+        all.loaded += tally.loaded;
+        all.written += tally.written;
     };
     for _ in 0..5000 {
-        add(small(r)?);
+        add(small(r, false)?);
+        add(small(r, true)?);
     }
     for way in 0..WAYS {
         let mut matrices = vec![generate::sparse(r), cases::l(23), cases::l(11)];
@@ -467,12 +528,13 @@ pub fn run() -> Result<(usize, String), String> {
             add(large(r, matrix, way)?);
         }
     }
-    let Tally { facts, lists, back, inside, nothing, again } = all;
-    if inside < 1000 || back - inside < 1000 || nothing < 1000 || again < 1000 {
+    let Tally { facts, lists, back, inside, nothing, again, loads, loaded, written } = all;
+    if inside < 1000 || back - inside < 1000 || nothing < 1000 || again < 1000 || loaded < 1000 || written < 1000 {
         return Err(format!("{back} takings back, {inside} inside, {nothing} of nothing: a fault of this program"));
     }
     let note = format!(
-        "{lists} lists; {back} takings back made, {inside} of them of splits inside an orthogonalise, {nothing} refused 15"
+        "{lists} lists, {loads} of them from a load, with {loaded} splits; {written} written with splits and loaded back; \
+         {back} takings back made, {inside} of them of splits inside an orthogonalise, {nothing} refused 15"
     );
     Ok((facts, note))
 }

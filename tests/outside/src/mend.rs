@@ -113,7 +113,16 @@ fn matrix(r: &mut Random, large: &[Matrix]) -> Matrix {
 fn random_input(r: &mut Random, large: &[Matrix]) -> Vec<u8> {
     let matrix = matrix(r, large);
     let mut word = received(r, &matrix);
-    let mut record = model::record(&matrix, r.pick(&FORMS));
+    let mut record = match r.pick(&FORMS) {
+        Form::Third => {
+            let mut extended = matrix.clone();
+            let most = r.below(6);
+            generate::split_some(r, &mut extended, most);
+            let (base, splits) = extended.unsplit().expect("splits made it");
+            model::record_with(&base, &splits)
+        }
+        form => model::record(&matrix, form),
+    };
     let mut count = record.len() as u32;
     match r.below(20) {
         // Good inputs.
@@ -177,6 +186,9 @@ fn chosen(r: &mut Random) -> Vec<Vec<u8>> {
     let word = received(r, &ones);
     all.push(whole(&ones, &word));
     all.push(whole(&ones, &[2; 120]));
+    // C with its split: nothing is left to split, and the word is mended as by C.
+    let split = model::record_with(&cases::c(), &[(0, 1)]);
+    all.push(bytes(split.len() as u32, &split, &[2, 2, 2, 1, 1, 1, 1]));
     let dense = generate::given(r, 120, 120, 500);
     all.push(whole(&dense, &[0; 120]));
     all.push(whole(&dense, &[9; 7]));

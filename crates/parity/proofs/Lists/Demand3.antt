@@ -164,7 +164,7 @@ module _ (given : List ℕ) (n m : ℕ) (A₀ : Accepted given n m 0) (s : Stand
       peelings = λ e. both e v;
     }
 
-  keeps : Keeps given n m s
+  pub keeps : Keeps given n m s
   keeps = record {
     accepted = accepts (s .words) n m k .1 A;
     other-k = λ j d. other-k (s .words) n m k A j d;

@@ -1,6 +1,6 @@
 -- Loading what was written gives the matrix that was written. Assumes nothing.
 use mathlib.Core.Path.{_≡_, _∙_}
-use mathlib.Core.Bool.{true}
+use mathlib.Core.Bool.{true, false}
 use mathlib.Core.List.{List, [], _∷_, _++_, append-nil, append-assoc}
 use Prim.Native.Nat.{ℕ, zero, suc, _+_, _*_, _-_, _/_, _%_, _^_, _≤_, _<_}
 use native.Mathlib.Nat.{add-zero, zero-add}
@@ -8,18 +8,18 @@ use native.Mathlib.Omega.{arith}
 use borrow.Author.Tests.{eq-eqb, lt-ltb, le-ltb}
 use Rattle.parity.specs.Finite.{one, sum, count}
 use Rattle.parity.specs.Matrix.{Matrix, put}
-use Rattle.parity.specs.Record.{kindOf, payload, headKind, formOf, headWord, numberIn, openWord, bitWord, endWord, Loaded, loaded, ending, reading, loading, bitWords, opening, checkWords, recordOf}
+use Rattle.parity.specs.Record.{kindOf, payload, headKind, formOf, headWord, numberIn, openWord, bitWord, Checked, checked, reading, bitWords, opening, checkWords}
 use Rattle.parity.specs.declared.Form.{Form}
-use Rattle.parity.specs.declared.Form.the-variants.{First, Second}
+use Rattle.parity.specs.declared.Form.the-variants.{First, Second, Third}
 use Rattle.parity.proofs.Finite.Sums.{is-true, is-false, is, count-bound}
 use Rattle.parity.proofs.Matrix.Sound.{Sound}
 use Rattle.parity.proofs.Matrix.Accept.{ranges}
-use Rattle.parity.proofs.Record.Reading.{word-kind, word-payload, number-most, open-yes, bit-yes, end-yes}
+use Rattle.parity.proofs.Record.Reading.{word-kind, word-payload, number-most, open-yes, bit-yes, checks-done}
 use Rattle.parity.proofs.Record.Writing.{check-after}
 use Rattle.parity.proofs.Record.ReadPart.{cut, Inside, cut-none, cut-put, cut-skip, cut-row, cut-all}
 
 -- Reading comes to the words ws with due ones of check c - 1 to come, and g read.
-pub record Comes (f : Form) (n m : ℕ) (r : Loaded) (ws : List ℕ) (c due top : ℕ) (g : Matrix) : Type 0 where
+pub record Comes (f : Form) (n m : ℕ) (r : Checked) (ws : List ℕ) (c due top : ℕ) (g : Matrix) : Type 0 where
   pub place : ℕ
   pub low : ℕ
   pub under : low ≤ top
@@ -36,7 +36,7 @@ opening-made f c x k l =
     (rw t (word-kind 2 (numberIn f c * 256 + x) (omega arith)), rw e (omega arith), rw e (omega arith))
 
 -- what one written word does
-module _ (f : Form) (n m : ℕ) (r : Loaded) (ws : List ℕ) (c : ℕ) (g : Matrix) where
+module _ (f : Form) (n m : ℕ) (r : Checked) (ws : List ℕ) (c : ℕ) (g : Matrix) where
   come-open : (x top : ℕ) → c < m → x ≤ n → n ≤ 120 → m ≤ 120 → Comes f n m r (opening f c x ∷ ws) c 0 top g → Comes f n m r ws (suc c) x 0 g
   unfolding reading
   come-open x top l k q t C =
@@ -52,18 +52,12 @@ module _ (f : Form) (n m : ℕ) (r : Loaded) (ws : List ℕ) (c : ℕ) (g : Matr
       let o : bitWord n (C .low) (3 * 2 ^ 28 + b) ≡ true = bit-yes n (C .low) (3 * 2 ^ 28 + b) (word-kind 3 b (omega arith)) (rw e (C .under)) (rw e k) in
       record { place = suc (C .place); low = suc b; under = omega arith; comes = C .comes ∙ rw (o, e, s) }
 
-come-end : (f : Form) (n m : ℕ) (r : Loaded) (top : ℕ) (g : Matrix) → Comes f n m r ((15 * 2 ^ 28) ∷ []) m 0 top g → r ≡ loaded n m g
-unfolding reading ending
-come-end f n m r top g C =
-    let o : endWord (15 * 2 ^ 28) ≡ true = end-yes (15 * 2 ^ 28) (word-kind 15 0 (omega arith)) (word-payload 15 0 (omega arith)) in
-    C .comes ∙ rw (le-ltb m m (omega arith), o)
-
-none-written : (f : Form) (h : Matrix) (n m : ℕ) (r : Loaded) (ws : List ℕ) → Comes f n m r (checkWords f h n 0 ++ ws) 0 0 0 (cut h 0 0) → Comes f n m r ws 0 0 n (cut h 0 0)
+none-written : (f : Form) (h : Matrix) (n m : ℕ) (r : Checked) (ws : List ℕ) → Comes f n m r (checkWords f h n 0 ++ ws) 0 0 0 (cut h 0 0) → Comes f n m r ws 0 0 n (cut h 0 0)
 unfolding checkWords
 none-written f h n m r ws C = record { place = C .place; low = C .low; under = omega (arith, C .under); comes = C .comes }
 
 -- reading the written words of a matrix
-module _ (f : Form) (n m : ℕ) (few : m ≤ 120) (h : Matrix) (I : Inside n h) (r : Loaded) where
+module _ (f : Form) (n m : ℕ) (few : m ≤ 120) (h : Matrix) (I : Inside n h) (r : Checked) where
   come-bits : (c b due : ℕ) (ws : List ℕ) → b ≤ n → Comes f n m r (bitWords (h c) b ++ ws) (suc c) (count b (h c) + due) 0 (cut h c 0)
       → Comes f n m r ws (suc c) due b (cut h c b)
   unfolding bitWords count sum
@@ -98,14 +92,16 @@ inside h n m S = record { few = S .n120; none = λ d a k. S .clean .bits d a (om
 pub kind-most : (f : Form) → headKind f ≤ 15
 kind-most First = omega arith
 kind-most Second = omega arith
+kind-most Third = omega arith
 
 -- the first word says its form
 pub form-head : (f : Form) (w : ℕ) → kindOf w ≡ headKind f → formOf w ≡ f
 unfolding formOf
 form-head First w e = rw e
 form-head Second w e = rw e
+form-head Third w e = rw e
 
-head-made : (f : Form) (n m : ℕ) → 1 ≤ n → n ≤ 120 → m ≤ 120
+pub head-made : (f : Form) (n m : ℕ) → 1 ≤ n → n ≤ 120 → m ≤ 120
     → let w = headKind f * 2 ^ 28 + m * 256 + n in
     (formOf w ≡ f) × (headWord f w ≡ true) × (payload w % 256 ≡ n) × (payload w / 256 ≡ m)
 unfolding headWord
@@ -118,13 +114,18 @@ head-made f n m a b c =
     let q : (m * 256 + n) / 256 ≡ m = omega arith in
     (form-head f w d, rw (eq-eqb (kindOf w) (headKind f) d, e, p, q, ranges n m 0 .1 (a, b, c, omega arith)), rw (e, p), rw (e, q))
 
--- A record of either form loads to the matrix that it was made of.
-pub loading-record : (f : Form) (h : Matrix) (n m : ℕ) → Sound h n m 0 → loading (recordOf f h n m) ≡ loaded n m h
-unfolding loading recordOf
-loading-record f h n m S =
+-- The checks of a record, of whichever form, are those of the matrix that it was made of.
+pub record Read (f : Form) (n m : ℕ) (h : Matrix) (rest : List ℕ) : Type 0 where
+  pub place : ℕ
+  pub reads : reading f n m (checkWords f h n m ++ rest) 1 0 0 0 (λ c b. false) ≡ checked rest place h
+
+pub read-checks : (f : Form) (h : Matrix) (n m : ℕ) → Sound h n m 0 → (rest : List ℕ) → Read f n m h rest
+read-checks f h n m S rest =
     let I = inside h n m S in
-    let (g, o, p, q) = head-made f n m (S .n1) (S .n120) (S .m120) in
-    let C : Comes f n m (loading (recordOf f h n m)) (checkWords f h n m ++ ((15 * 2 ^ 28) ∷ [])) 0 0 0 (cut h 0 0) =
-    record { place = 1; low = 0; under = omega arith; comes = rw (g, o, p, q, cut-none h) } in
-    come-end f n m (loading (recordOf f h n m)) n (cut h m 0) (come-checks f n m (S .m120) h I _ m ((15 * 2 ^ 28) ∷ []) (omega arith) C)
-    ∙ rw (cut-all n h I m (λ d a k. S .clean .checks d a (omega arith)))
+    let r = reading f n m (checkWords f h n m ++ rest) 1 0 0 0 (λ c b. false) in
+    let C : Comes f n m r (checkWords f h n m ++ rest) 0 0 0 (cut h 0 0) = record { place = 1; low = 0; under = omega arith; comes = rw (cut-none h) } in
+    let D = come-checks f n m (S .m120) h I r m rest (omega arith) C in
+    record {
+      place = D .place;
+      reads = D .comes ∙ checks-done f n m rest (D .place) m (D .low) (cut h m 0) (omega arith) ∙ rw (cut-all n h I m (λ d a k. S .clean .checks d a (omega arith)));
+    }

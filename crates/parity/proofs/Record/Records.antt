@@ -1,11 +1,13 @@
 -- What loading and writing answer and leave, by the cause that decides. Assumes nothing.
 use mathlib.Core.Path.{_≡_, ap, _∙_}
+use mathlib.Core.Bool.{true, false}
 use mathlib.Core.List.{List, [], _∷_, _++_}
 use Prim.Native.Nat.{ℕ, _≤_, _<_}
 use native.Mathlib.Omega.{arith}
 use lib.ListN.{length, drop}
 use borrow.Author.Tests.{eq-eqb, ne-eqb, lt-ltb, le-ltb}
 use Rattle.parity.specs.Matrix.{Matrix, lent, pack, cause}
+use Rattle.parity.specs.Splits.{notBuilt}
 use Rattle.parity.specs.Record.{faulty, loaded, loading, written}
 use Rattle.parity.specs.Causes.{Reply, answer, refusal, refusalOf}
 use Rattle.parity.specs.Calls.{acceptReply, loadedReply, loadedWords, loadOutcome, writeOutcome}
@@ -23,10 +25,10 @@ module _ (source ws : List ℕ) where
   unfolding loadOutcome loadedReply loadedWords
   load-faulty place e f = rw (eq-eqb (length ws) 4096 e, f)
 
-  pub load-right : (n m : ℕ) (h : Matrix) → length ws ≡ 4096 → loading source ≡ loaded n m h
-      → loadOutcome source ws ≡ record { reply = answer (n ∷ m ∷ []); after = pack 8 h }
+  pub load-right : (n m k : ℕ) (h : Matrix) → length ws ≡ 4096 → loading source ≡ loaded n m k h
+      → loadOutcome source ws ≡ record { reply = answer (n ∷ m ∷ k ∷ []); after = pack 8 h }
   unfolding loadOutcome loadedReply loadedWords
-  load-right n m h e f = rw (eq-eqb (length ws) 4096 e, f)
+  load-right n m k h e f = rw (eq-eqb (length ws) 4096 e, f)
 
 module _ (ws : List ℕ) (n m k : ℕ) (target : List ℕ) where
   pub write-refused : (r : Refusal) → refusalOf r ≡ acceptReply ws n m k → writeOutcome ws n m k target ≡ record { reply = refusalOf r; after = target }
@@ -41,20 +43,20 @@ module _ (ws : List ℕ) (n m k : ℕ) (target : List ℕ) where
       rw (accepting-refuses ws n m k _ d, ne-eqb (cause ws n m k) 0 d, f)
 
   module _ (a : cause ws n m k ≡ 0) where
-    pub write-added : 0 < k → writeOutcome ws n m k target ≡ record { reply = refusal 13 []; after = target }
+    pub write-unbuilt : notBuilt (lent 8 ws) n m k ≡ true → writeOutcome ws n m k target ≡ record { reply = refusal 16 []; after = target }
     unfolding writeOutcome
-    write-added l = rw (accepting-answers ws n m k _ a, lt-ltb 0 k l)
+    write-unbuilt e = rw (accepting-answers ws n m k _ a, e)
 
-    module _ (z : k ≡ 0) where
-      pub write-short : length target < length (written (lent 8 ws) n m)
-          → writeOutcome ws n m k target ≡ record { reply = refusal 6 (length (written (lent 8 ws) n m) ∷ []); after = target }
+    module _ (b : notBuilt (lent 8 ws) n m k ≡ false) where
+      pub write-short : length target < length (written (lent 8 ws) n m k)
+          → writeOutcome ws n m k target ≡ record { reply = refusal 6 (length (written (lent 8 ws) n m k) ∷ []); after = target }
       unfolding writeOutcome
-      write-short l = rw (accepting-answers ws n m k _ a, le-ltb 0 k (omega arith), lt-ltb (length target) (length (written (lent 8 ws) n m)) l)
+      write-short l = rw (accepting-answers ws n m k _ a, b, lt-ltb (length target) (length (written (lent 8 ws) n m k)) l)
 
-      pub write-made : length (written (lent 8 ws) n m) ≤ length target
+      pub write-made : length (written (lent 8 ws) n m k) ≤ length target
           → writeOutcome ws n m k target ≡ record {
-            reply = answer (length (written (lent 8 ws) n m) ∷ []);
-            after = written (lent 8 ws) n m ++ drop (length (written (lent 8 ws) n m)) target;
+            reply = answer (length (written (lent 8 ws) n m k) ∷ []);
+            after = written (lent 8 ws) n m k ++ drop (length (written (lent 8 ws) n m k)) target;
           }
       unfolding writeOutcome
-      write-made l = rw (accepting-answers ws n m k _ a, le-ltb 0 k (omega arith), le-ltb (length target) (length (written (lent 8 ws) n m)) l)
+      write-made l = rw (accepting-answers ws n m k _ a, b, le-ltb (length target) (length (written (lent 8 ws) n m k)) l)

@@ -9,9 +9,9 @@ use lib.Arith.{le-zero}
 use lib.ListN.{length, length-append}
 use Rattle.parity.specs.Finite.{one, sum, count}
 use Rattle.parity.specs.Matrix.{Matrix}
-use Rattle.parity.specs.Record.{bitWords, opening, checkWords, recordOf, written}
+use Rattle.parity.specs.Splits.{Pair}
+use Rattle.parity.specs.Record.{bitWords, opening, checkWords, splitting, splitWords, recordOf}
 use Rattle.parity.specs.declared.Form.{Form}
-use Rattle.parity.specs.declared.Form.the-variants.{Second}
 use Rattle.parity.proofs.Finite.Sums.{count-bound, count-end}
 
 pub length-one : (b : Bool) (w : ℕ) → length (cond b (w ∷ []) []) ≡ one b
@@ -32,17 +32,24 @@ unfolding sum
 length-checks f h n zero = unfold checkWords in refl
 length-checks f h n (suc c) = length-check f h n c ∙ ap (λ (x : ℕ). x + (1 + count n (h c))) (length-checks f h n c)
 
-pub length-record : (f : Form) (h : Matrix) (n m : ℕ) → length (recordOf f h n m) ≡ length (checkWords f h n m) + 2
-unfolding recordOf
-length-record f h n m = omega (arith, length-append (checkWords f h n m) ((15 * 2 ^ 28) ∷ []))
+pub length-splits : (ps : List Pair) → length (splitWords ps) ≡ length ps
+unfolding splitWords
+length-splits [] = refl
+length-splits (p ∷ ps) = length-append (splitWords ps) (splitting p ∷ []) ∙ omega (arith, length-splits ps)
 
--- At most 14,522 words are used.
+pub length-record : (f : Form) (h : Matrix) (n m : ℕ) (ps : List Pair) → length (recordOf f h n m ps) ≡ length (checkWords f h n m) + length ps + 2
+unfolding recordOf
+length-record f h n m ps =
+    let a = length-append (checkWords f h n m) (splitWords ps ++ ((15 * 2 ^ 28) ∷ [])) in
+    omega (arith, length-append (splitWords ps) ((15 * 2 ^ 28) ∷ []), length-splits ps)
+
+-- At most 14,914 words are used.
 checks-most : (f : Form) (h : Matrix) (n c : ℕ) → n ≤ 120 → length (checkWords f h n c) ≤ c * 121
 checks-most f h n zero k = unfold checkWords in omega arith
 checks-most f h n (suc c) k = omega (arith, length-check f h n c, checks-most f h n c k, count-bound n (h c))
 
-pub written-most : (h : Matrix) (n m : ℕ) → n ≤ 120 → m ≤ 120 → length (written h n m) ≤ 14522
-written-most h n m k l = omega (arith, length-record Second h n m, checks-most Second h n m k)
+pub record-most : (f : Form) (h : Matrix) (n m : ℕ) (ps : List Pair) → n ≤ 120 → m ≤ 120 → length ps ≤ 392 → length (recordOf f h n m ps) ≤ 14914
+record-most f h n m ps k l q = omega (arith, length-record f h n m ps, checks-most f h n m k)
 
 -- none of the bits from a on
 no-word : (s : ℕ → Bool) (b : ℕ) → s b ≡ false → bitWords s (suc b) ≡ bitWords s b
@@ -86,3 +93,8 @@ check-after f h n c ws = append-assoc (checkWords f h n c) _ ws
 pub no-checks : (f : Form) (h : Matrix) (n : ℕ) (ws : List ℕ) → checkWords f h n 0 ++ ws ≡ ws
 unfolding checkWords
 no-checks f h n ws = refl
+
+-- the words of the splits, the newest one apart
+pub split-after : (p : Pair) (ps : List Pair) (ws : List ℕ) → splitWords (p ∷ ps) ++ ws ≡ splitWords ps ++ (splitting p ∷ ws)
+unfolding splitWords
+split-after p ps ws = append-assoc (splitWords ps) (splitting p ∷ []) ws

@@ -1,10 +1,7 @@
 -- `load` meets its contract. Assumes nothing.
-use mathlib.Core.Path.{sym, ap, _∙_}
-use lib.Dec.{lit<}
-use Rattle.parity.specs.Matrix.{pack}
+use mathlib.Core.Path.{_≡_, sym, ap}
 use Rattle.parity.specs.Causes.{Outcome}
-use Rattle.parity.proofs.Matrix.Packing.{pack-lent}
-use Rattle.parity.proofs.Record.Records.{load-length, load-faulty, load-right}
+use Rattle.parity.proofs.Record.Records.{load-length, load-faulty}
 use borrow.Author.Needs.{needs}
 use Rattle.record.proofs.load.Statement.{statement}
 use Rattle.record.proofs.load.Tie as tie
@@ -20,13 +17,32 @@ judge-requires c κs = search needs
 enum-known-place : tie.Need-enum-known-place
 enum-known-place c = search needs
 
-enum-known-n : tie.Need-enum-known-n
-enum-known-n c = search needs
+enum-known-form : tie.Need-enum-known-form
+enum-known-form c = search needs
 
-fill-requires : tie.Need-fill-requires
-fill-requires c κs =
-    let J = rw (c .before .before .n .given .1) at (c .before .before .before .before .judge .ensures) in
-    (c .before .before .before .before .before .if1 .left, record { n = c .before .before .n .given .0 .0; loads = J })
+enum-told : tie.Need-enum-told
+enum-told c = search needs
+
+load-plain-requires : tie.Need-load-plain-requires
+load-plain-requires c κs =
+    let J = rw (c .before .before .before .before .form .given .1) at (c .before .before .before .before .before .before .judge .ensures) in
+    (c .before .before .before .before .before .before .before .if1 .left, rw (c .before .enum-told .given .1), J)
+
+enum-told-2 : tie.Need-enum-told-2
+enum-told-2 c = search needs
+
+load-plain-requires-2 : tie.Need-load-plain-requires-2
+load-plain-requires-2 c κs =
+    let J = rw (c .before .before .before .before .form .given .1) at (c .before .before .before .before .before .before .judge .ensures) in
+    (c .before .before .before .before .before .before .before .if1 .left, rw (c .before .enum-told2 .given .1), J)
+
+enum-told-3 : tie.Need-enum-told-3
+enum-told-3 c = search needs
+
+load-splits-requires : tie.Need-load-splits-requires
+load-splits-requires c κs =
+    let J = rw (c .before .before .before .before .form .given .1) at (c .before .before .before .before .before .before .judge .ensures) in
+    (c .before .before .before .before .before .before .before .if1 .left, rw (c .before .enum-told3 .given .1) at J)
 
 returns-2 : tie.Need-returns-2
 returns-2 c =
@@ -38,15 +54,19 @@ same-length : tie.Need-same-length
 same-length c = search needs
 
 returns-3 : tie.Need-returns-3
-returns-3 c =
-    let J = rw (c .before .before .before .before .before .n .given .1) at (c .before .before .before .before .before .before .before .judge .ensures) in
-    let l = c .before .before .before .before .before .before .before .before .if1 .left in
-    let e = load-right _ _ _ _ _ l (J .loads) in
-    let f = c .before .before .fill .ensures .holds _ _ _ (J .loads) in
-    let ws = c .before .before .fill .last .1 .0 in (
-      sym (ap (λ (o : Outcome). o .reply) e),
-      sym (pack-lent 8 (lit< tt) ws (c .before .before .fill .kept .1 .0 ∙ l) (λ i. c .slice-known2 .given i .fits)) ∙ ap (pack 8) f ∙ sym (ap (λ (o : Outcome). o .after) e),
-    )
+returns-3 c = c .before .before .load-plain .ensures
+
+same-length-2 : tie.Need-same-length-2
+same-length-2 c = search needs
+
+returns-4 : tie.Need-returns-4
+returns-4 c = c .before .before .load-plain2 .ensures
+
+same-length-3 : tie.Need-same-length-3
+same-length-3 c = search needs
+
+returns-5 : tie.Need-returns-5
+returns-5 c = c .before .before .load-splits .ensures
 
 pub load-spec : {M : Type 1} → statement M
 load-spec =
@@ -55,8 +75,17 @@ load-spec =
     returns
     judge-requires
     enum-known-place
-    enum-known-n
-    fill-requires
+    enum-known-form
+    enum-told
+    load-plain-requires
+    enum-told-2
+    load-plain-requires-2
+    enum-told-3
+    load-splits-requires
     returns-2
     same-length
-    returns-3)
+    returns-3
+    same-length-2
+    returns-4
+    same-length-3
+    returns-5)

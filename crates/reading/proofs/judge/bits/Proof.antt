@@ -43,7 +43,7 @@ returns c =
       top = l .inv .0;
       low = l .low;
       rising = l .inv .1;
-      next = λ k. bit-kind _ _ _ (other-kind _ (c .before .read .result) (0 ∷ 1 ∷ 3 ∷ 4 ∷ []) 3 (c .before .read .ensures) (c .match .keys2) tt);
+      next = λ k. bit-kind _ _ _ (other-kind _ (c .before .read .result) (0 ∷ 1 ∷ 3 ∷ 4 ∷ 5 ∷ []) 3 (c .before .read .ensures) (c .match .keys2) tt);
     }
 
 returns-2 : tie.Need-returns-2 Inv-loop μ-loop

@@ -37,7 +37,7 @@ enum-known-x c = search needs
 returns-2 : tie.Need-returns-2
 returns-2 c =
     stop-open _ _ _ _ _ (omega arith)
-    (open-kind _ _ _ _ (other-kind _ (c .before .read .result) (0 ∷ 2 ∷ 3 ∷ 4 ∷ []) 2 (c .before .read .ensures) (c .match .keys2) tt))
+    (open-kind _ _ _ _ (other-kind _ (c .before .read .result) (0 ∷ 2 ∷ 3 ∷ 4 ∷ 5 ∷ []) 2 (c .before .read .ensures) (c .match .keys2) tt))
 
 number-in-requires : tie.Need-number-in-requires
 number-in-requires c κs = search needs

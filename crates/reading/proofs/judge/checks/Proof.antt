@@ -4,7 +4,7 @@ use Prim.Native.Nat.{_-_, _≤_}
 use native.Mathlib.Omega.{arith}
 use borrow.Author.Needs.{needs}
 use Rattle.reading.specs.Judge.{Reached}
-use Rattle.reading.proofs.Judging.{reach-next, reach-stop}
+use Rattle.reading.proofs.Judging.{reach-next, reach-stop, reach-all}
 use Rattle.reading.proofs.judge.checks.Statement.{statement}
 use Rattle.reading.proofs.judge.checks.Tie as tie
 
@@ -42,13 +42,10 @@ loop-again c =
     let C = rw (c .before .q .given .1) at (c .before .before .before .check .ensures) in
     (omega arith, reach-next _ _ _ _ _ _ _ (c .before .before .before .before .before .loop .inv .1) (omega arith) C)
 
-last-requires : tie.Need-last-requires Inv-loop μ-loop
-last-requires c κs =
-    let e : c .before .loop .c ≡ c .before .before .before .args .m = omega arith in
-    rw e at (c .before .loop .inv .1)
-
 returns-2 : tie.Need-returns-2 Inv-loop μ-loop
-returns-2 c = c .last .ensures
+returns-2 c =
+    let e : c .before .loop .c ≡ c .before .before .before .args .m = omega arith in
+    reach-all _ _ _ _ _ (rw e at (c .before .loop .inv .1))
 
 pub checks-spec : {M : Type 1} → statement M
 checks-spec =
@@ -64,5 +61,4 @@ checks-spec =
     add-c
     loop-less
     loop-again
-    last-requires
     returns-2)

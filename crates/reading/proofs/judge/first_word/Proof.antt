@@ -17,7 +17,7 @@ enum-known-form : tie.Need-enum-known-form
 enum-known-form c = search needs
 
 returns : tie.Need-returns
-returns c = head-kind _ (other-head _ (c .before .read .result) (1 ∷ 2 ∷ 3 ∷ 4 ∷ []) (c .before .read .ensures) (c .match .keys2) tt)
+returns c = head-kind _ (other-head _ (c .before .read .result) (1 ∷ 2 ∷ 3 ∷ 4 ∷ 5 ∷ []) (c .before .read .ensures) (c .match .keys2) tt)
 
 returns-2 : tie.Need-returns-2
 returns-2 c =

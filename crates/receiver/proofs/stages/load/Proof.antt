@@ -41,7 +41,7 @@ orthogonalise-requires c κs =
     let z = c .before .before .before .before .before .before .before .before .empty-words in
     let g = c .before .before .before .n .given in
     let e = sym (ap loadingReply (g .1)) ∙ p .ensures .0 in
-    rw (p .ensures .1, load-passes (z .result) (a .source .now) (a .sent .now) (g .0 .0) (g .0 .1 .0) e, load-zero (z .result) (a .source .now) (a .sent .now) (z .ensures)) (c .before .before .before .before .before .before .before .before .before .before .before .before .pre)
+    rw (p .ensures .1, load-passes (z .result) (a .source .now) (a .sent .now) (g .0 .0) (g .0 .1 .0) (g .0 .1 .1 .0) e, load-zero (z .result) (a .source .now) (a .sent .now) (z .ensures)) (c .before .before .before .before .before .before .before .before .before .before .before .before .pre)
 
 same-length : tie.Need-same-length
 same-length c = search needs
@@ -68,7 +68,7 @@ returns-2 c =
     let g = c .before .before .before .before .before .before .before .n .given in
     let e = sym (ap loadingReply (g .1)) ∙ p .ensures .0 in
     same-text
-    (rw (p .ensures .1) (load-passes (z .result) (a .source .now) (a .sent .now) (g .0 .0) (g .0 .1 .0) e ∙ load-zero (z .result) (a .source .now) (a .sent .now) (z .ensures)))
+    (rw (p .ensures .1) (load-passes (z .result) (a .source .now) (a .sent .now) (g .0 .0) (g .0 .1 .0) (g .0 .1 .1 .0) e ∙ load-zero (z .result) (a .source .now) (a .sent .now) (z .ensures)))
     (c .before .before .before .orthogonalise .ensures)
 
 pub load-spec : {M : Type 1} → statement M

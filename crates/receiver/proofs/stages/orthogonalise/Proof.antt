@@ -20,7 +20,7 @@ put-refused-requires c κs =
     let p = c .before .before .before .before .before .before .orthogonalise in
     let g = c .before .before .r .given in
     let e = sym (ap orthogonalisingReply (g .1)) ∙ p .ensures .0 in
-    rw (orthogonalise-refused (a .words .now) (a .n) (a .m) (a .sent .now) (g .0 .0) e) (c .before .before .before .before .before .before .before .before .before .before .before .pre)
+    rw (orthogonalise-refused (a .words .now) (a .n) (a .m) (a .j) (a .sent .now) (g .0 .0) e) (c .before .before .before .before .before .before .before .before .before .before .before .pre)
 
 enum-known-splits : tie.Need-enum-known-splits
 enum-known-splits c = search needs
@@ -31,8 +31,8 @@ peel-sent-requires c κs =
     let p = c .before .before .before .before .before .before .before .orthogonalise in
     let g = c .before .before .before .splits .given in
     let e = sym (ap orthogonalisingReply (g .1)) ∙ p .ensures .0 in (
-      rw (p .ensures .1, orthogonalise-passes (a .words .now) (a .n) (a .m) (g .0 .0) (g .0 .1 .0) (g .0 .1 .1 .0) (heldValues (g .0 .1 .1 .1 .0)) e (a .sent .now)) (c .before .before .before .before .before .before .before .before .before .before .before .before .pre),
-      rw (p .ensures .1) (orthogonalise-accepted (a .words .now) (a .n) (a .m) (g .0 .0) (g .0 .1 .0) (g .0 .1 .1 .0) (heldValues (g .0 .1 .1 .1 .0)) e),
+      rw (p .ensures .1, orthogonalise-passes (a .words .now) (a .n) (a .m) (a .j) (g .0 .0) (g .0 .1 .0) (g .0 .1 .1 .0) (heldValues (g .0 .1 .1 .1 .0)) e (a .sent .now)) (c .before .before .before .before .before .before .before .before .before .before .before .before .pre),
+      rw (p .ensures .1) (orthogonalise-accepted (a .words .now) (a .n) (a .m) (a .j) (g .0 .0) (g .0 .1 .0) (g .0 .1 .1 .0) (heldValues (g .0 .1 .1 .1 .0)) e),
     )
 
 same-length : tie.Need-same-length
@@ -48,7 +48,7 @@ returns c =
     let g = c .before .before .before .before .before .r .given in
     let e = sym (ap orthogonalisingReply (g .1)) ∙ p .ensures .0 in
     same-text
-    (orthogonalise-refused (a .words .now) (a .n) (a .m) (a .sent .now) (g .0 .0) e)
+    (orthogonalise-refused (a .words .now) (a .n) (a .m) (a .j) (a .sent .now) (g .0 .0) e)
     (c .before .before .put-refused .ensures)
 
 same-length-3 : tie.Need-same-length-3
@@ -64,7 +64,7 @@ returns-2 c =
     let g = c .before .before .before .before .before .before .splits .given in
     let e = sym (ap orthogonalisingReply (g .1)) ∙ p .ensures .0 in
     same-text
-    (rw (p .ensures .1) (orthogonalise-passes (a .words .now) (a .n) (a .m) (g .0 .0) (g .0 .1 .0) (g .0 .1 .1 .0) (heldValues (g .0 .1 .1 .1 .0)) e (a .sent .now)))
+    (rw (p .ensures .1) (orthogonalise-passes (a .words .now) (a .n) (a .m) (a .j) (g .0 .0) (g .0 .1 .0) (g .0 .1 .1 .0) (heldValues (g .0 .1 .1 .1 .0)) e (a .sent .now)))
     (c .before .before .peel-sent .ensures)
 
 pub orthogonalise-spec : {M : Type 1} → statement M

@@ -1,0 +1,2 @@
+pub mod Perform
+pub mod Recover

@@ -1,0 +1,37 @@
+-- What taking all splits back comes to. Assumes nothing.
+use mathlib.Core.Path.{_≡_}
+use mathlib.Core.Bool.{Bool, true, false, not, _&&_}
+use Prim.Native.Nat.{ℕ, _+_, _≤_, _<_}
+use lib.Dec.{eqb}
+use Rattle.parity.specs.Matrix.{Matrix}
+use Rattle.parity.specs.Cycles.{share, takenBack, others}
+use Rattle.parity.specs.Splits.{allBack, notBuilt}
+use Rattle.parity.proofs.Matrix.Clean.{Clean}
+use Rattle.parity.proofs.Matrix.Sound.{Sound}
+use Rattle.parity.proofs.Splits.Undo.{Newest}
+
+-- no two of three bits share one of the first m checks
+unfoldable pub allApart : Matrix → ℕ → ℕ → ℕ → ℕ → Bool
+allApart h m u v z = eqb (share h m u v) 0 && eqb (share h m u z) 0 && eqb (share h m v z) 0
+
+-- Some splits of an accepted matrix are taken back, and k are left in g: the added checks that are left are as they were. Whether the newest of
+-- them keeps rule A is not known.
+pub record Raw (g : Matrix) (n m k : ℕ) : Type 0 where
+  pub origin : Matrix
+  pub size : ℕ
+  pub sound : Sound origin n m size
+  pub less : k ≤ size
+  pub clean : Clean g (n + k) (m + k)
+  pub added : (i b : ℕ) → i < k → g (m + i) b ≡ origin (m + i) b
+
+-- r says whether the newest added check M of g keeps rule A and two or more other checks contain its bit N; it is taken back then
+pub record BackOne (g g′ : Matrix) (N M : ℕ) (r : Bool) : Type 0 where
+  pub newest : r ≡ true → Newest g N M
+  pub two : r ≡ true → 2 ≤ others g N M
+  pub matrix : r ≡ true → g′ ≡ takenBack g N M
+  pub stops : r ≡ false → Newest g N M → others g N M < 2
+
+-- r says whether splits made h, and g is the matrix before them if they did
+pub record AllBack (h g : Matrix) (n m k : ℕ) (r : Bool) : Type 0 where
+  pub decides : notBuilt h n m k ≡ not r
+  pub matrix : r ≡ true → g ≡ allBack h n m k

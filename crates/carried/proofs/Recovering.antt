@@ -1,18 +1,16 @@
 -- Taking all splits back: the rule of the newest added check alone decides, at each step, whether splits made the matrix. Assumes nothing.
-use mathlib.Core.Path.{_≡_, refl, sym, ap, _∙_, fun-ext}
-use mathlib.Core.Bool.{Bool, true, false, not, _&&_, or-false, and-false, and-eq-true-iff, true≢false, false≢true}
+use mathlib.Core.Path.{_≡_, refl, sym, ap, _∙_}
+use mathlib.Core.Bool.{Bool, true, false, _&&_, or-false, and-false, and-eq-true-iff, true≢false, false≢true}
 use mathlib.Core.List.{List}
-use Prim.Native.Nat.{ℕ, zero, suc, _+_, _*_, _-_, _≤_, _<_}
+use Prim.Native.Nat.{ℕ, suc, _+_, _*_, _-_, _≤_, _<_}
 use native.Mathlib.Nat.{add-suc}
-use native.Mathlib.Numerals.{add-one}
 use native.Mathlib.Omega.{arith}
 use native.Mathlib.Decide.{ℕ-discrete, decLt}
-use lib.Dec.{eqb, ltb, leb}
-use lib.ListN.{length}
+use lib.Dec.{eqb, leb}
 use borrow.Author.Tests.{eq-eqb, ne-eqb, eqb-true, lt-ltb, le-ltb, le-leb, leb-true}
 use Rattle.parity.specs.Finite.{count}
 use Rattle.parity.specs.Matrix.{Matrix, lent}
-use Rattle.parity.specs.Cycles.{share, splitOf, takenBack, others, lowerOf, higherOf}
+use Rattle.parity.specs.Cycles.{share, takenBack, others, lowerOf, higherOf}
 use Rattle.parity.specs.Splits.{allBack, notBuilt}
 use Rattle.parity.proofs.Finite.Sums.{is-true, is-false, is, count-cong, count-suc, count-mono, count-end, count-pos}
 use Rattle.parity.proofs.Matrix.Clean.{Clean}

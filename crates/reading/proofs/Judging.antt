@@ -10,7 +10,7 @@ use lib.Dec.{eqb}
 use lib.ListN.{getD, length, drop}
 use borrow.Author.Tests.{eq-eqb, ne-eqb}
 use Rattle.parity.specs.Matrix.{Matrix, inRange}
-use Rattle.parity.specs.Record.{kindOf, payload, headKind, formOf, headWord, openWord, splitWord, endWord, faulty, behind, loading}
+use Rattle.parity.specs.Record.{kindOf, payload, headKind, formOf, headWord, openWord, endWord, faulty, behind, loading}
 use Rattle.parity.specs.declared.Form.{Form}
 use Rattle.parity.proofs.Finite.Sums.{is-true, is-false, is}
 use Rattle.parity.proofs.Matrix.Accept.{ranges}

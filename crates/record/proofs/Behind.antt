@@ -1,13 +1,11 @@
 -- What loading comes to behind the checks, and what writing starts from. Assumes nothing.
-use mathlib.Core.Path.{_≡_, refl, sym, ap, _∙_}
+use mathlib.Core.Path.{_≡_, refl, _∙_}
 use mathlib.Core.Bool.{false}
 use mathlib.Core.List.{List}
-use Prim.Native.Nat.{ℕ, zero, suc, _+_, _≤_, _<_}
-use native.Mathlib.Omega.{arith}
-use native.Mathlib.Decide.{ℕ-discrete}
-use lib.ListN.{getD, length, set, drop, length-set}
-use lib.Seq.{getD-set-same, getD-set-other, ext-getD}
+use Prim.Native.Nat.{ℕ, zero, suc, _+_}
+use lib.ListN.{getD, drop}
 use Rattle.parity.specs.Matrix.{Matrix, lent}
+use Rattle.parity.specs.Splits.{allBack}
 use Rattle.parity.specs.Record.{carries, faulty, loaded, loading, formFor}
 use Rattle.parity.specs.declared.Form.{Form}
 use Rattle.parity.specs.declared.Form.the-variants.{Second, Third}
@@ -40,25 +38,10 @@ module _ (n m : ℕ) (source : List ℕ) (p : ℕ) (R : ChecksRight Third n m so
   pub splits-breaks : (q : ℕ) → Breaks source (p + k) q → loading source ≡ faulty q
   splits-breaks q E = R .loads ∙ (rw e at (P .goes)) ∙ E .breaks Third n m k h (P .next)
 
--- words that are put, the first i of them
-pub record Putting (from old new : List ℕ) (i : ℕ) : Type 0 where
-  pub same : length new ≡ length old
-  pub done : (j : ℕ) → j < i → getD new j 0 ≡ getD from j 0
-
-pub putting-none : (from old : List ℕ) → Putting from old old 0
-putting-none from old = record { same = refl; done = λ j l. absurd (omega arith) }
-
-pub putting-next : (from old new : List ℕ) (i : ℕ) → i < length old → Putting from old new i → Putting from old (set new i (getD from i 0)) (i + 1)
-putting-next from old new i l P = record {
-  same = length-set new i (getD from i 0) ∙ P .same;
-  done = λ j k. elim (ℕ-discrete j i) [
-    | yes q ↦ rw q (getD-set-same new i (getD from i 0) 0 (omega (arith, P .same)))
-    | no d ↦ getD-set-other new i j (getD from i 0) 0 d ∙ P .done j (omega arith)
-  ];
-}
-
-pub putting-end : (from old new : List ℕ) (i : ℕ) → i ≡ length old → length from ≡ length old → Putting from old new i → new ≡ from
-putting-end from old new i e f P = ext-getD 0 new from (P .same ∙ sym f) (λ j l. P .done j (omega (arith, P .same)))
+-- nothing is taken back where k = 0
+pub none-back : (h : Matrix) (n m k : ℕ) → k ≡ 0 → h ≡ allBack h n m k
+unfolding allBack
+none-back h n m k e = rw e refl
 
 -- the form that is written: k = 0, or above
 pub zero-form : (k : ℕ) → k ≡ 0 → Second ≡ formFor k

@@ -9,7 +9,7 @@ use native.Mathlib.Decide.{ℕ-discrete, decLt}
 use native.Mathlib.Omega.{arith}
 use lib.Bits.{bitOr}
 use lib.ListN.{getD, length, set, length-set, drop, List·getD-eq-default}
-use lib.Seq.{getD-set-same, getD-set-other, set-getD, set-set}
+use lib.Seq.{getD-set-same, set-getD, set-set}
 use Rattle.parity.specs.Matrix.{Matrix, lent}
 use Rattle.parity.specs.Record.{payload, formOf, openWord, checked}
 use Rattle.parity.specs.declared.Form.{Form}

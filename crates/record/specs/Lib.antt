@@ -1,3 +1,2 @@
 pub mod Fill
 pub mod Answers
-pub mod Write

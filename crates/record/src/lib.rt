@@ -1,16 +1,10 @@
 // Records: a matrix is loaded from one, and written as one.
-mod emit;
 mod fill;
-mod words;
 
-use crate::emit::needed;
-use crate::emit::put_record;
 use crate::fill::fill;
-use crate::words::copied;
-use crate::words::no_words;
-use crate::words::put_words;
 use carried::perform::perform;
-use carried::recover::all_back;
+use carried::words::no_words;
+use carried::words::put_words;
 use matrix::Accepting;
 use matrix::accept;
 use parity::Form;
@@ -19,29 +13,22 @@ use reading::judge::Ending;
 use reading::judge::Judged;
 use reading::judge::end;
 use reading::judge::judge;
+use writing::Writing;
+use writing::write_accepted;
+use writing::write_checks;
 ghost use mathlib.Core.Path.{_≡_};
 ghost use mathlib.Core.Bool.{false};
 ghost use lib.ListN.{length};
-ghost use Rattle.parity.specs.Matrix.{lent, cause};
-ghost use Rattle.parity.specs.Splits.{allBack, notBuilt};
-ghost use Rattle.parity.specs.Record.{carries, formFor};
+ghost use Rattle.parity.specs.Record.{carries};
 ghost use Rattle.parity.specs.Calls.{loadOutcome, writeOutcome};
 ghost use Rattle.parity.specs.declared.Form.the-variants.{Third};
 ghost use Rattle.reading.specs.Judge.{ChecksRight};
-ghost use Rattle.record.specs.Answers.{loadingReply, writingReply};
-
-// How many words of a check may have ones where k = 0, so that its bits are below 120.
-const IN_USE: usize = 2;
+ghost use Rattle.writing.specs.Answers.{writingReply};
+ghost use Rattle.record.specs.Answers.{loadingReply};
 
 // What loading answers.
 pub enum Loading {
     Loaded { n: usize, m: usize, k: usize },
-    Refused(Refusal),
-}
-
-// What writing answers.
-pub enum Writing {
-    Written { used: usize },
     Refused(Refusal),
 }
 
@@ -103,50 +90,6 @@ pub fn load(record: &[u32], words: &mut [u64]) -> Loading
     }
 }
 
-// Writes the record of an accepted matrix that splits made: `checks` are its checks before the splits.
-fn write_checks(
-    checks: &[u64],
-    words: &[u64],
-    form: Form,
-    n: usize,
-    m: usize,
-    k: usize,
-    record: &mut [u32],
-) -> Writing
-    requires { ⌜ (length (now checks) ≡ 4096) × (cause (now words) n m k ≡ 0) × (notBuilt (lent 8 (now words)) n m k ≡ false) ⌝ }
-    requires { ⌜ (lent 8 (now checks) ≡ allBack (lent 8 (now words)) n m k) × (form ≡ formFor k) ⌝ }
-    ensures { λ r. ⌜ writingReply r ≡ writeOutcome (now (words .entry)) n m k (now («record» .entry)) .reply ⌝ }
-    ensures { λ r. ⌜ now («record» .exit) ≡ writeOutcome (now (words .entry)) n m k (now («record» .entry)) .after ⌝ }
-{
-    let used = needed(checks, IN_USE, m) + k;
-    if record.len() < used {
-        return Writing::Refused(Refusal::RecordTooShort { needed: used });
-    }
-    put_record(checks, IN_USE, words, form, n, m, k, record);
-    Writing::Written { used }
-}
-
-// Writes an accepted matrix in a form: all splits are taken back in a working copy. It is made after acceptance has returned, so that both do not stand on
-// the stack at once.
-fn write_accepted(
-    words: &[u64],
-    form: Form,
-    n: usize,
-    m: usize,
-    k: usize,
-    record: &mut [u32],
-) -> Writing
-    requires { ⌜ (cause (now words) n m k ≡ 0) × (form ≡ formFor k) ⌝ }
-    ensures { λ r. ⌜ writingReply r ≡ writeOutcome (now (words .entry)) n m k (now («record» .entry)) .reply ⌝ }
-    ensures { λ r. ⌜ now («record» .exit) ≡ writeOutcome (now (words .entry)) n m k (now («record» .entry)) .after ⌝ }
-{
-    let mut checks = copied(words);
-    if !all_back(&mut checks, n, m, k) {
-        return Writing::Refused(Refusal::CannotTakeBack);
-    }
-    write_checks(&checks, words, form, n, m, k, record)
-}
-
 // Writes a matrix into the first words of a record, which is of the second form where k = 0 and else of the third.
 pub fn write(words: &[u64], n: usize, m: usize, k: usize, record: &mut [u32]) -> Writing
     ensures { λ r. ⌜ writingReply r ≡ writeOutcome (now (words .entry)) n m k (now («record» .entry)) .reply ⌝ }
@@ -157,7 +100,7 @@ pub fn write(words: &[u64], n: usize, m: usize, k: usize, record: &mut [u32]) ->
         return Writing::Refused(why);
     }
     if k == 0 {
-        return write_accepted(words, Form::Second, n, m, k, record);
+        return write_checks(words, words, Form::Second, n, m, k, record);
     }
     write_accepted(words, Form::Third, n, m, k, record)
 }

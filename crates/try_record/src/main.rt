@@ -13,7 +13,7 @@ use crate::say::number;
 use crate::say::place;
 use crate::say::writes;
 use record::Loading;
-use record::Writing;
+use writing::Writing;
 ghost use mathlib.Core.Path.{_≡_};
 ghost use Prim.Native.Nat.{_<_, _≤_};
 ghost use lib.ListN.{length};

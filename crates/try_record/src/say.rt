@@ -1,7 +1,7 @@
 // Replies as lines.
 use parity::Refusal;
 use record::Loading;
-use record::Writing;
+use writing::Writing;
 
 pub fn number(head: &[u8], x: u64) {
     io::write_all(1, head);

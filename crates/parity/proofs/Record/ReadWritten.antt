@@ -1,11 +1,11 @@
 -- Loading what was written gives the matrix that was written. Assumes nothing.
 use mathlib.Core.Path.{_≡_, _∙_}
 use mathlib.Core.Bool.{true, false}
-use mathlib.Core.List.{List, [], _∷_, _++_, append-nil, append-assoc}
+use mathlib.Core.List.{List, _∷_, _++_, append-nil, append-assoc}
 use Prim.Native.Nat.{ℕ, zero, suc, _+_, _*_, _-_, _/_, _%_, _^_, _≤_, _<_}
 use native.Mathlib.Nat.{add-zero, zero-add}
 use native.Mathlib.Omega.{arith}
-use borrow.Author.Tests.{eq-eqb, lt-ltb, le-ltb}
+use borrow.Author.Tests.{eq-eqb, lt-ltb}
 use Rattle.parity.specs.Finite.{one, sum, count}
 use Rattle.parity.specs.Matrix.{Matrix, put}
 use Rattle.parity.specs.Record.{kindOf, payload, headKind, formOf, headWord, numberIn, openWord, bitWord, Checked, checked, reading, bitWords, opening, checkWords}

@@ -1,20 +1,19 @@
 -- Lists of calls that start at a load (M-107): demand 3 of the checks before the splits, and the matrix is written and loaded back. Assumes nothing.
-use mathlib.Core.Path.{_≡_, refl, sym, ap, _∙_}
+use mathlib.Core.Path.{_≡_, ap}
 use mathlib.Core.Bool.{false}
 use mathlib.Core.List.{List}
 use Prim.Native.Nat.{ℕ}
 use native.Mathlib.Omega.{arith}
 use native.Mathlib.Decide.{decLt}
 use lib.ListN.{length}
-use Rattle.parity.specs.Matrix.{Matrix, lent, pack, cause}
-use Rattle.parity.specs.Splits.{allBack, splitsSum, notBuilt}
+use Rattle.parity.specs.Matrix.{lent}
+use Rattle.parity.specs.Splits.{allBack, notBuilt}
 use Rattle.parity.specs.Record.{written}
 use Rattle.parity.specs.Causes.{Outcome}
-use Rattle.parity.specs.Calls.{loadOutcome, writeOutcome}
+use Rattle.parity.specs.Calls.{loadOutcome}
 use Rattle.parity.specs.Demand3.{Stand, runs}
 use Rattle.parity.specs.Promises.{checksBefore, loadedStart, Relayed, Relays}
 use Rattle.parity.proofs.Matrix.Accept.{Accepted, accepts, pack-same, pack-accepted, pack-words}
-use Rattle.parity.proofs.Lists.Built.{Built}
 use Rattle.parity.proofs.Lists.Rebuilt.{built-recovers, all-sound, built-written, written-built}
 use Rattle.parity.proofs.Lists.Chain.{Stands, other-last, stands-runs}
 use Rattle.parity.proofs.Lists.Demand3.{keeps}

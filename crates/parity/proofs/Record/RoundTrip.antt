@@ -9,7 +9,7 @@ use lib.ListN.{getD, length, drop, take}
 use lib.Seq.{take-at}
 use borrow.Author.Tests.{lt-ltb}
 use Rattle.parity.specs.Matrix.{Matrix, lent, pack, cause}
-use Rattle.parity.specs.Splits.{Pair, splitAll, sumAll, allBack, recovered, notBuilt}
+use Rattle.parity.specs.Splits.{Pair, sumAll, allBack, recovered, notBuilt}
 use Rattle.parity.specs.Record.{Loaded, faulty, loaded, loading, recordOf, formFor, written, secondForm}
 use Rattle.parity.specs.declared.Form.the-variants.{First, Second, Third}
 use Rattle.parity.specs.Causes.{Reply, answer, Outcome}

@@ -1,5 +1,5 @@
 -- `load` meets its contract. Assumes nothing.
-use mathlib.Core.Path.{_≡_, sym, ap}
+use mathlib.Core.Path.{sym, ap}
 use Rattle.parity.specs.Causes.{Outcome}
 use Rattle.parity.proofs.Record.Records.{load-length, load-faulty}
 use borrow.Author.Needs.{needs}

@@ -1,5 +1,5 @@
 -- `load_plain` meets its contract. Assumes nothing.
-use mathlib.Core.Path.{_≡_, sym, ap, _∙_}
+use mathlib.Core.Path.{sym, ap, _∙_}
 use lib.Dec.{lit<}
 use Rattle.parity.specs.Matrix.{pack}
 use Rattle.parity.specs.Causes.{Outcome}

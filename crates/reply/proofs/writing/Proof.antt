@@ -1,7 +1,7 @@
 -- `reply::writing` meets its contract. Assumes nothing.
 use borrow.Author.Needs.{needs}
 use mathlib.Core.Path.{sym, ap, _∙_}
-use Rattle.record.specs.Answers.{writingReply}
+use Rattle.writing.specs.Answers.{writingReply}
 use Rattle.reply.proofs.writing.Statement.{statement}
 use Rattle.reply.proofs.writing.Tie as tie
 

@@ -19,6 +19,7 @@ use Rattle.parity.proofs.Finite.Sums.{one≤1}
 use Rattle.parity.proofs.Matrix.Packing.{length-listFrom, at-listFrom}
 use Rattle.parity.proofs.Matrix.Accept.{Accepted, accepts, accepting-answers, accepting-refuses}
 use Rattle.parity.proofs.Splits.Splitting.{orthogonalises, orthogonal-accepted}
+use Rattle.parity.proofs.Record.RoundTrip.{load-accepted}
 use Rattle.parity.proofs.Causes.Refused.{refused-number}
 use Rattle.parity.specs.declared.Refusal.the-variants.{WrongLength}
 use Rattle.receiver.specs.Placed.{placed}
@@ -44,6 +45,10 @@ module _ (ws source sent : List ℕ) where
   pub load-zero : ws ≡ replicate 4096 0 → loadInto ws source sent ≡ loadText source sent
   unfolding loadText
   load-zero e = ap (λ (l : List ℕ). loadInto l source sent) e
+
+-- what it loads is accepted
+pub load-cause : (ws source : List ℕ) (n m j : ℕ) → answer (n ∷ m ∷ j ∷ []) ≡ loadOutcome source ws .reply → cause (loadOutcome source ws .after) n m j ≡ 0
+load-cause ws source n m j e = accepts (loadOutcome source ws .after) n m j .1 (load-accepted source ws n m j (sym e))
 
 -- orthogonalising: its reply carries the splits, their sum and k, whether it finishes or not
 carried : (finished : Bool) (vs : List ℕ) → cond finished (answer vs) (refusal 9 vs) .values ≡ vs

@@ -77,7 +77,7 @@ fn peel_sent(
     peel_word(out, words, n, m, k, splits, sum, &mut word[..n + k])
 }
 
-// Orthogonalises the matrix from the loaded k, `j`, on, and goes on.
+// Orthogonalises the loaded matrix, which is accepted, from its k, `j`, on, and goes on.
 fn orthogonalise(
     out: &mut [u8],
     words: &mut [u64],
@@ -87,9 +87,10 @@ fn orthogonalise(
     sent: &[u8],
 ) -> usize
     requires { ⌜ length (orthogonaliseText (now words) n m j (now sent)) ≤ length (now out) ⌝ }
+    requires { ⌜ cause (now words) n m j ≡ 0 ⌝ }
     ensures { λ r. ⌜ Placed (now (out .entry)) 0 (orthogonaliseText (now (words .entry)) n m j (now (sent .entry))) (now (out .exit)) r ⌝ }
 {
-    match split::orthogonalise(words, n, m, j) {
+    match split::orthogonalise_accepted(words, n, m, j) {
         Orthogonalising::Refused(r) => put_refused(out, r),
         Orthogonalising::Finished {
             splits,

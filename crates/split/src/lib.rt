@@ -146,6 +146,15 @@ fn told(course: Course) -> Orthogonalising
     })
 }
 
+// Orthogonalising an accepted matrix, such as one that was just loaded.
+pub fn orthogonalise_accepted(words: &mut [u64], n: usize, m: usize, k: usize) -> Orthogonalising
+    requires { ⌜ cause (now words) n m k ≡ 0 ⌝ }
+    ensures { λ r. ⌜ orthogonalisingReply r ≡ orthogonaliseOutcome (now (words .entry)) n m k .reply ⌝ }
+    ensures { λ r. ⌜ now (words .exit) ≡ orthogonaliseOutcome (now (words .entry)) n m k .after ⌝ }
+{
+    told(repeat(words, n, m, k))
+}
+
 // Orthogonalising: repeats the split of the pair with the largest share, then the smallest lower bit, then the smallest higher bit,
 // until no pair has share two or more. Refused by causes 1 to 4, and by 9 after the splits made.
 pub fn orthogonalise(words: &mut [u64], n: usize, m: usize, k: usize) -> Orthogonalising
@@ -154,6 +163,6 @@ pub fn orthogonalise(words: &mut [u64], n: usize, m: usize, k: usize) -> Orthogo
 {
     match accept(words, n, m, k) {
         Accepting::Refused(r) => Orthogonalising::Refused(r),
-        Accepting::Accepted => told(repeat(words, n, m, k)),
+        Accepting::Accepted => orthogonalise_accepted(words, n, m, k),
     }
 }

@@ -3,7 +3,7 @@ use mathlib.Core.Path.{sym, ap, _∙_}
 use borrow.Author.Needs.{needs}
 use Rattle.record.specs.Answers.{loadingReply}
 use Rattle.receiver.proofs.Lines.{same-text}
-use Rattle.receiver.proofs.Passing.{load-refused, load-passes, load-zero}
+use Rattle.receiver.proofs.Passing.{load-refused, load-passes, load-cause, load-zero}
 use Rattle.receiver.proofs.stages.load.Statement.{statement}
 use Rattle.receiver.proofs.stages.load.Tie as tie
 
@@ -40,8 +40,10 @@ orthogonalise-requires c κs =
     let p = c .before .before .before .before .before .before .load in
     let z = c .before .before .before .before .before .before .before .before .empty-words in
     let g = c .before .before .before .n .given in
-    let e = sym (ap loadingReply (g .1)) ∙ p .ensures .0 in
-    rw (p .ensures .1, load-passes (z .result) (a .source .now) (a .sent .now) (g .0 .0) (g .0 .1 .0) (g .0 .1 .1 .0) e, load-zero (z .result) (a .source .now) (a .sent .now) (z .ensures)) (c .before .before .before .before .before .before .before .before .before .before .before .before .pre)
+    let e = sym (ap loadingReply (g .1)) ∙ p .ensures .0 in (
+      rw (p .ensures .1, load-passes (z .result) (a .source .now) (a .sent .now) (g .0 .0) (g .0 .1 .0) (g .0 .1 .1 .0) e, load-zero (z .result) (a .source .now) (a .sent .now) (z .ensures)) (c .before .before .before .before .before .before .before .before .before .before .before .before .pre),
+      rw (p .ensures .1) (load-cause (z .result) (a .source .now) (g .0 .0) (g .0 .1 .0) (g .0 .1 .1 .0) e),
+    )
 
 same-length : tie.Need-same-length
 same-length c = search needs

@@ -5,7 +5,6 @@ use mathlib.Core.List.{List}
 use Prim.Native.Nat.{ℕ, zero, suc, _+_}
 use lib.ListN.{getD, drop}
 use Rattle.parity.specs.Matrix.{Matrix, lent}
-use Rattle.parity.specs.Splits.{allBack}
 use Rattle.parity.specs.Record.{carries, faulty, loaded, loading, formFor}
 use Rattle.parity.specs.declared.Form.{Form}
 use Rattle.parity.specs.declared.Form.the-variants.{Second, Third}
@@ -37,11 +36,6 @@ module _ (n m : ℕ) (source : List ℕ) (p : ℕ) (R : ChecksRight Third n m so
 
   pub splits-breaks : (q : ℕ) → Breaks source (p + k) q → loading source ≡ faulty q
   splits-breaks q E = R .loads ∙ (rw e at (P .goes)) ∙ E .breaks Third n m k h (P .next)
-
--- nothing is taken back where k = 0
-pub none-back : (h : Matrix) (n m k : ℕ) → k ≡ 0 → h ≡ allBack h n m k
-unfolding allBack
-none-back h n m k e = rw e refl
 
 -- the form that is written: k = 0, or above
 pub zero-form : (k : ℕ) → k ≡ 0 → Second ≡ formFor k

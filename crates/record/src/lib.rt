@@ -15,7 +15,6 @@ use reading::judge::end;
 use reading::judge::judge;
 use writing::Writing;
 use writing::write_accepted;
-use writing::write_checks;
 ghost use mathlib.Core.Path.{_≡_};
 ghost use mathlib.Core.Bool.{false};
 ghost use lib.ListN.{length};
@@ -90,7 +89,8 @@ pub fn load(record: &[u32], words: &mut [u64]) -> Loading
     }
 }
 
-// Writes a matrix into the first words of a record, which is of the second form where k = 0 and else of the third.
+// Writes a matrix into the first words of a record, which is of the second form where k = 0 and else of the third. The call at two places keeps the working copy,
+// which is made there, out of this frame: it does not stand on the stack with acceptance.
 pub fn write(words: &[u64], n: usize, m: usize, k: usize, record: &mut [u32]) -> Writing
     ensures { λ r. ⌜ writingReply r ≡ writeOutcome (now (words .entry)) n m k (now («record» .entry)) .reply ⌝ }
     ensures { λ r. ⌜ now («record» .exit) ≡ writeOutcome (now (words .entry)) n m k (now («record» .entry)) .after ⌝ }
@@ -100,7 +100,7 @@ pub fn write(words: &[u64], n: usize, m: usize, k: usize, record: &mut [u32]) ->
         return Writing::Refused(why);
     }
     if k == 0 {
-        return write_checks(words, words, Form::Second, n, m, k, record);
+        return write_accepted(words, Form::Second, n, m, k, record);
     }
     write_accepted(words, Form::Third, n, m, k, record)
 }

@@ -1,4 +1,4 @@
-// Writing an accepted matrix as a record. It stands apart from `record`, so that its working copy and acceptance are not on the stack at once.
+// Writing an accepted matrix as a record.
 mod emit;
 
 use crate::emit::needed;
@@ -26,7 +26,7 @@ pub enum Writing {
 }
 
 // Writes the record of an accepted matrix that splits made: `checks` are its checks before the splits.
-pub fn write_checks(
+fn write_checks(
     checks: &[u64],
     words: &[u64],
     form: Form,

@@ -3,10 +3,7 @@ use mathlib.Core.Path.{sym, ap}
 use Rattle.parity.specs.Causes.{Outcome}
 use Rattle.parity.proofs.Causes.Refused.{accepted-cause}
 use Rattle.parity.proofs.Record.Records.{write-refused}
-use Rattle.parity.specs.Matrix.{lent}
-use Rattle.parity.proofs.Matrix.Accept.{accepts}
-use Rattle.parity.proofs.Lists.Rebuilt.{none-built}
-use Rattle.record.proofs.Behind.{zero-form, some-form, none-back}
+use Rattle.record.proofs.Behind.{zero-form, some-form}
 use borrow.Author.Needs.{needs}
 use Rattle.record.proofs.write.Statement.{statement}
 use Rattle.record.proofs.write.Tie as tie
@@ -27,28 +24,25 @@ returns c =
 enum-told : tie.Need-enum-told
 enum-told c = search needs
 
-write-checks-requires : tie.Need-write-checks-requires
-write-checks-requires c κs =
-    let s = c .before .before .before .before .before .before .before in
-    let e = c .before .if1 .taken in
-    let A = accepted-cause _ _ _ _ (rw (c .before .before .enum-told .given .1) at (c .before .before .before .before .accept .ensures)) in
-    ((accepts _ _ _ _ .0 A .words, A, rw e (none-built (s .args .n) (s .args .m) (lent 8 (s .args .words .now)))), (none-back _ _ _ _ e, zero-form _ e))
+write-accepted-requires : tie.Need-write-accepted-requires
+write-accepted-requires c κs =
+    (accepted-cause _ _ _ _ (rw (c .before .before .enum-told .given .1) at (c .before .before .before .before .accept .ensures)), zero-form _ (c .before .if1 .taken))
 
 same-length : tie.Need-same-length
 same-length c = search needs
 
 returns-2 : tie.Need-returns-2
-returns-2 c = c .before .before .write-checks .ensures
+returns-2 c = c .before .before .write-accepted .ensures
 
-write-accepted-requires : tie.Need-write-accepted-requires
-write-accepted-requires c κs =
+write-accepted-requires-2 : tie.Need-write-accepted-requires-2
+write-accepted-requires-2 c κs =
     (accepted-cause _ _ _ _ (rw (c .before .before .enum-told .given .1) at (c .before .before .before .before .accept .ensures)), some-form _ (c .before .if1 .left))
 
 same-length-2 : tie.Need-same-length-2
 same-length-2 c = search needs
 
 returns-3 : tie.Need-returns-3
-returns-3 c = c .before .before .write-accepted .ensures
+returns-3 c = c .before .before .write-accepted2 .ensures
 
 pub write-spec : {M : Type 1} → statement M
 write-spec =
@@ -58,9 +52,9 @@ write-spec =
     enum-known-acceptance
     returns
     enum-told
-    write-checks-requires
+    write-accepted-requires
     same-length
     returns-2
-    write-accepted-requires
+    write-accepted-requires-2
     same-length-2
     returns-3)

@@ -9,3 +9,4 @@ pub mod Bytes
 pub mod Verifying
 pub mod Peeling
 pub mod Determining
+pub mod Solving

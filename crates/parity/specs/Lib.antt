@@ -10,5 +10,6 @@ pub mod Encoding
 pub mod House
 pub mod Causes
 pub mod Calls
+pub mod Solving
 pub mod Promises
 pub mod Mend

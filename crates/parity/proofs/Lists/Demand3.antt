@@ -1,9 +1,9 @@
 -- Demand 3, for every given matrix and every list of calls. Assumes nothing.
 use mathlib.Core.Path.{_≡_, refl, sym, ap, _∙_}
-use mathlib.Core.Logic.{_⊎_, inl, inr}
-use mathlib.Core.Bool.{Bool, true, false, cond}
+use mathlib.Core.Logic.{_⊎_, inl}
+use mathlib.Core.Bool.{Bool, true}
 use mathlib.Core.List.{List, [], _∷_, _++_}
-use Prim.Native.Nat.{ℕ, _+_, _-_, _≤_, _<_}
+use Prim.Native.Nat.{ℕ, _+_, _<_}
 use native.Mathlib.Nat.{add-zero, zero-add}
 use native.Mathlib.Omega.{arith}
 use native.Mathlib.Decide.{decLt}
@@ -23,28 +23,12 @@ use Rattle.parity.proofs.Splits.Split.{Even}
 use Rattle.parity.proofs.Matrix.Accept.{Accepted, accepts, other-k}
 use Rattle.parity.proofs.Words.Extend.{inside-cong, extend-base, extend-added}
 use Rattle.parity.proofs.Words.Residue.{residue-of, residue-at}
-use Rattle.parity.proofs.Words.Bytes.{Word, Codeword, take-word, take-even, longer-sent, longer-added, longer-size}
+use Rattle.parity.proofs.Words.Bytes.{Codeword, take-word, take-even, longer-sent, longer-added, longer-size, erased-got, erased-size}
 use Rattle.parity.proofs.Splits.Splitting.{counts}
 use Rattle.parity.proofs.Words.Verifying.{verified, verifies, extends, completes}
 use Rattle.parity.proofs.Words.Peeling.{Answered, left-is, erased-answered, recovers}
 use Rattle.parity.proofs.Lists.Built.{Good, good}
 use Rattle.parity.proofs.Lists.Chain.{Stands, stands-start, back-enough, stands-runs}
-
--- a byte that is made 2 or left
-made-or-left : (e : Bool) (a : ℕ) → (cond e 2 a ≡ 2) ⊎ (cond e 2 a ≡ a)
-made-or-left true a = inl refl
-made-or-left false a = inr refl
-
--- the word x in which the bytes of e are made 2
-module _ (n : ℕ) (x : List ℕ) (X : Word n 1 x) (e : ℕ → Bool) where
-  erased-at : (b : ℕ) → b < n → byteOf (erasing e x) b ≡ cond (e b) 2 (byteOf x b)
-  unfolding erasing
-  erased-at b l =
-      at-listFrom 0 (length x) (λ b. cond (e b) 2 (byteOf x b)) b (omega (arith, X .size)) ∙ rw (zero-add b)
-
-  erased-size : length (erasing e x) ≡ n
-  unfolding erasing
-  erased-size = length-listFrom 0 (length x) (λ b. cond (e b) 2 (byteOf x b)) ∙ X .size
 
 module _ (given : List ℕ) (n m : ℕ) (A₀ : Accepted given n m 0) (s : Stand) (S : Stands given n m s) where
   abbrev g : Matrix
@@ -117,7 +101,7 @@ module _ (given : List ℕ) (n m : ℕ) (A₀ : Accepted given n m 0) (s : Stand
       more = before ++ replicate k 2
 
       before-got : (b : ℕ) → b < n → (byteOf before b ≡ 2) ⊎ (byteOf before b ≡ byteOf x b)
-      before-got b l = rw (erased-at n x (C .word) e b l) (made-or-left (e b) (byteOf x b))
+      before-got = erased-got n x (C .word) e
 
       more-got : (b : ℕ) → b < N → (byteOf more b ≡ 2) ⊎ (byteOf more b ≡ byteOf y b)
       more-got b l =

@@ -1,21 +1,24 @@
 -- Words, messages and sets as lists of bytes: those that causes 10 and 11 do not refuse, codewords, and the first bytes of a longer word.
 -- Assumes nothing.
-use mathlib.Core.Path.{_≡_, sym, _∙_}
-use mathlib.Core.Logic.{_↔_}
-use mathlib.Core.Bool.{false, true≢false}
+use mathlib.Core.Path.{_≡_, refl, sym, ap, _∙_}
+use mathlib.Core.Logic.{_↔_, _⊎_, inl, inr}
+use mathlib.Core.Bool.{Bool, true, false, cond, true≢false}
 use mathlib.Core.List.{List, _++_}
 use Prim.Native.Nat.{ℕ, _+_, _-_, _≤_, _<_}
+use native.Mathlib.Nat.{zero-add}
 use native.Mathlib.Omega.{arith}
 use lib.Dec.{eqb, ltb}
 use lib.ListN.{length, take, replicate, length-append, length-replicate, getD-replicate, List·getD-append}
-use lib.Seq.{getD-take, getD-append-add, length-take-le}
+use lib.Seq.{getD-take, getD-append-add, length-take-le, ext-getD}
 use borrow.Author.Tests.{eqb-true, ltb-true, ltb-false}
-use Rattle.parity.specs.Finite.{any}
+use Rattle.parity.specs.Finite.{any, listFrom}
 use Rattle.parity.specs.Matrix.{Matrix}
 use Rattle.parity.specs.Words.{isOne, inside}
 use Rattle.parity.specs.Causes.{Reply}
 use Rattle.parity.specs.Calls.{byteOf, wrongByte, checkingBytes}
+use Rattle.parity.specs.Demand3.{erasing}
 use Rattle.parity.proofs.Finite.Sums.{is-true, is-false, is, any-of, any-at}
+use Rattle.parity.proofs.Matrix.Packing.{length-listFrom, at-listFrom}
 use Rattle.parity.proofs.Splits.Split.{Stops, Even}
 use Rattle.parity.proofs.Words.Extend.{inside-cong}
 
@@ -89,3 +92,25 @@ module _ (n : ℕ) (w : List ℕ) (size : length w ≡ n) (k : ℕ) where
 
   pub longer-size : length (w ++ replicate k 2) ≡ n + k
   longer-size = length-append w (replicate k 2) ∙ rw (size, length-replicate {A = ℕ} k 2)
+
+-- a list is that of its bytes
+pub list-bytes : (N : ℕ) (w : List ℕ) → length w ≡ N → listFrom 0 N (byteOf w) ≡ w
+list-bytes N w e =
+    sym (ext-getD 0 w (listFrom 0 N (byteOf w)) (e ∙ sym (length-listFrom 0 N (byteOf w))) (λ b l.
+    ap (byteOf w) (sym (zero-add b)) ∙ sym (at-listFrom 0 N (byteOf w) b (omega arith))))
+
+-- a byte that is made 2 or left
+made-or-left : (e : Bool) (a : ℕ) → (cond e 2 a ≡ 2) ⊎ (cond e 2 a ≡ a)
+made-or-left true a = inl refl
+made-or-left false a = inr refl
+
+-- the word x in which the bytes of e are made 2
+module _ (n : ℕ) (x : List ℕ) (X : Word n 1 x) (e : ℕ → Bool) where
+  pub erased-got : (b : ℕ) → b < n → (byteOf (erasing e x) b ≡ 2) ⊎ (byteOf (erasing e x) b ≡ byteOf x b)
+  unfolding erasing
+  erased-got b l =
+      rw (at-listFrom 0 (length x) (λ b. cond (e b) 2 (byteOf x b)) b (omega (arith, X .size)), zero-add b) (made-or-left (e b) (byteOf x b))
+
+  pub erased-size : length (erasing e x) ≡ n
+  unfolding erasing
+  erased-size = length-listFrom 0 (length x) (λ b. cond (e b) 2 (byteOf x b)) ∙ X .size

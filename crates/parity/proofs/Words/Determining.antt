@@ -1,6 +1,6 @@
 -- What determining promises of the lists that it is lent and leaves (M-105). Assumes nothing.
 use mathlib.Core.Path.{_≡_, refl, sym, ap, _∙_}
-use mathlib.Core.Logic.{_↔_}
+use mathlib.Core.Logic.{_↔_, ⊎-elim}
 use mathlib.Core.Bool.{Bool, true, false, not, cond, _&&_, and-not-self}
 use mathlib.Core.List.{List, [], _∷_}
 use Prim.Native.Nat.{ℕ, _+_, _≤_, _<_}
@@ -25,7 +25,7 @@ use Rattle.parity.proofs.Matrix.Accept.{Accepted, accepts, accepting-an
 use Rattle.parity.proofs.Causes.Admit.{accepted-number}
 use Rattle.parity.proofs.Words.Extend.{inside-cong}
 use Rattle.parity.proofs.Words.Agreeing.{Agree, some-of, some-at, none-of, open-at, written-value, known-value, determined-byte, agrees-peels, peeled-determined, some-same, determined-same}
-use Rattle.parity.proofs.Words.Bytes.{Word, right-bytes, read-word, word-right}
+use Rattle.parity.proofs.Words.Bytes.{Word, right-bytes, read-word, word-right, erased-got, erased-size}
 use Rattle.parity.proofs.Words.Verifying.{verifies, verified}
 
 -- the matrix and the word of a call that is not refused before 12
@@ -287,20 +287,13 @@ refused-with-peeling ws n m k w e =
     ]
 
 pub erased-codeword : ErasedCodeword
-unfolding erasing verifyReply
+unfolding verifyReply
 erased-codeword ws n m k x v e =
     let A = accepted-number ws n m k _ (ap (λ (r : Reply). r .number) v) in
     let C = verifies ws n m k A x v in
     let w = erasing e x in
-    let at : (b : ℕ) → b < n + k → byteOf w b ≡ cond (e b) 2 (byteOf x b) = λ b l. at-listFrom 0 (length x) (λ b. cond (e b) 2 (byteOf x b)) b (omega (arith, C .word .size)) ∙ rw (zero-add b) in
-    let a : Agreeing ws n m k w x = record {
-      codeword = v;
-      known = λ b l d. elim (is (e b)) [
-        | is-true q ↦ absurd (d (at b l ∙ rw q))
-        | is-false q ↦ sym (at b l ∙ rw q)
-      ];
-    } in
-    let T = agreeing-taken ws n m k w (length-listFrom 0 (length x) (λ b. cond (e b) 2 (byteOf x b)) ∙ C .word .size) x a in
+    let a : Agreeing ws n m k w x = record { codeword = v; known = λ b l d. ⊎-elim (λ q. absurd (d q)) (λ q. sym q) (erased-got (n + k) x (C .word) e b l) } in
+    let T = agreeing-taken ws n m k w (erased-size (n + k) x (C .word) e) x a in
     let s = some-of (lent 8 ws) (n + k) (m + k) (byteOf w) _ (agreeing-at ws n m k w A x a) in
     (ap (λ (o : Outcome). o .reply .number) (determine-made ws n m k w T s), λ b l d. determines ws n m k w T s .value b l d x a)
 

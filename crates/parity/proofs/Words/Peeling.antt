@@ -9,14 +9,13 @@ use native.Mathlib.Nat.{zero-add}
 use native.Mathlib.Omega.{arith}
 use lib.Dec.{eqb}
 use lib.ListN.{length, getD}
-use lib.Seq.{ext-getD}
 use borrow.Author.Tests.{eq-eqb, ne-eqb, eqb-true, eqb-false}
 use Rattle.parity.specs.Finite.{one, count, listFrom}
 use Rattle.parity.specs.Matrix.{Matrix, lent}
 use Rattle.parity.specs.Words.{erased, isOne, inside, residue, peels, peeled, recovered, losses, agrees}
 use Rattle.parity.specs.Causes.{Reply, answer, Outcome, refusal}
 use Rattle.parity.specs.Calls.{byteOf, verifyReply, isStoppingReply, peelReply, peelOutcome}
-use Rattle.parity.proofs.Finite.Sums.{is-true, is-false, is, one≤1, all-of, sum-zero, count-cong, count-part, byte-one, eqb-one}
+use Rattle.parity.proofs.Finite.Sums.{is-true, is-false, is, one≤1, all-of, sum-zero, count-cong, count-part, byte-one, eqb-one, eqb-two}
 use Rattle.parity.proofs.Matrix.Packing.{length-listFrom, at-listFrom, listFrom-cong}
 use Rattle.parity.proofs.Words.Extend.{inside-cong}
 use Rattle.parity.proofs.Words.Residue.{outside, anySet-at, residue-of, residue-within, residue-stops, Solves, solve}
@@ -24,7 +23,7 @@ use Rattle.parity.proofs.Words.Peel.{peels-solved, peeled-left, peeled-
 use Rattle.parity.proofs.Words.Steps.{stage-start, Ended, ended}
 use Rattle.parity.proofs.Matrix.Accept.{Accepted, passes}
 use Rattle.parity.proofs.Causes.Admit.{accepted-number}
-use Rattle.parity.proofs.Words.Bytes.{Word, read-word, word-right, Codeword}
+use Rattle.parity.proofs.Words.Bytes.{Word, read-word, word-right, Codeword, list-bytes}
 use Rattle.parity.proofs.Words.Verifying.{verifies, list-stops, stops-list}
 
 -- the four numbers depend on the bytes of n + k bits alone
@@ -36,10 +35,6 @@ losses-same n k before after end f =
     let c = count-cong n {p = erased after} {q = erased end} (λ b l. rw (f b (omega arith))) in
     let d = count-cong k {p = λ j. erased after (n + j)} {q = λ j. erased end (n + j)} (λ j l. rw (f (n + j) (omega arith))) in
     cc
-
-eqb-two : (a : Bool) → eqb (one a) 2 ≡ false
-eqb-two true = refl
-eqb-two false = refl
 
 -- Peeling, from the word at which steps end.
 module _ (ws : List ℕ) (n m k : ℕ) (A : Accepted ws n m k) (w : List ℕ) (W : Word (n + k) 2 w) (end : ℕ → ℕ)
@@ -241,16 +236,10 @@ module _ (ws : List ℕ) (n m k : ℕ) (w : List ℕ) where
         let e = peel-made ws n m k (A .accepted) left left-word (byteOf left) left-ended left-agrees in
         let p = nothing n (erased (byteOf left)) in
         let q = nothing k (λ j. erased (byteOf left) (n + j)) in
-        let t : listFrom 0 N (byteOf left) ≡ left = sym (listed left after-size) in
-        e ∙ rw (p, q, t)
+        e ∙ rw (p, q, list-bytes N left after-size)
       where
         nothing : (i : ℕ) (s : ℕ → Bool) → count i (λ b. s b && not (s b)) ≡ 0
         nothing i s = unfold count in sum-zero i (λ b l. rw (and-not-self (s b)))
-
-        listed : (v : List ℕ) → length v ≡ N → v ≡ listFrom 0 N (byteOf v)
-        listed v e =
-            ext-getD 0 v (listFrom 0 N (byteOf v)) (e ∙ sym (length-listFrom 0 N (byteOf v))) (λ b l.
-            ap (byteOf v) (sym (zero-add b)) ∙ sym (at-listFrom 0 N (byteOf v) b (omega arith)))
 
 -- a word that is got from a codeword x by erasing
 module _ (ws : List ℕ) (n m k : ℕ) (x : List ℕ) (v : verifyReply ws n m k x ≡ answer (1 ∷ [])) (w : List ℕ) (size : length w ≡ n + k)
@@ -259,7 +248,7 @@ module _ (ws : List ℕ) (n m k : ℕ) (x : List ℕ) (v : verifyReply ws n m k 
   unfolding verifyReply
   accepted-x = accepted-number ws n m k _ (ap (λ (r : Reply). r .number) v)
 
-  codeword-x : Codeword (lent 8 ws) (n + k) (m + k) x
+  pub codeword-x : Codeword (lent 8 ws) (n + k) (m + k) x
   codeword-x = verifies ws n m k accepted-x x v
 
   word-w : Word (n + k) 2 w
@@ -268,7 +257,7 @@ module _ (ws : List ℕ) (n m k : ℕ) (x : List ℕ) (v : verifyReply ws n m k 
     bytes = λ b l. ⊎-elim (λ e. omega arith) (λ e. omega (arith, codeword-x .word .bytes b l)) (got b l);
   }
 
-  solves-w : Solves (lent 8 ws) (n + k) (m + k) (erased (byteOf w)) (residue (lent 8 ws) (n + k) (m + k) (erased (byteOf w))) (isOne (byteOf w)) (isOne (byteOf x))
+  pub solves-w : Solves (lent 8 ws) (n + k) (m + k) (erased (byteOf w)) (residue (lent 8 ws) (n + k) (m + k) (erased (byteOf w))) (isOne (byteOf w)) (isOne (byteOf x))
   solves-w = record {
     known = λ b l q. ⊎-elim (λ e. absurd (eqb-false (byteOf w b) 2 q e)) (λ e. ap (λ (a : ℕ). eqb a 1) (sym e)) (got b l);
     even = λ c l q. codeword-x .even c l;

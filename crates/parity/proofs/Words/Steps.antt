@@ -10,7 +10,7 @@ use Rattle.parity.specs.Finite.{one, count, any}
 use Rattle.parity.specs.Matrix.{Matrix}
 use Rattle.parity.specs.Words.{solved, loneCheck, loneBit, steps, agrees, inside, odd, residue, erased, isOne, peels, peeled}
 use Rattle.parity.proofs.Finite.Bools.{or-false-both, or-else, same-test}
-use Rattle.parity.proofs.Finite.Sums.{is-true, is-false, is, one≤1, byte-one, eqb-one, all-at, all-not, count-two, count-cong, count-le, count-bound, any-of, least-at, count-at, sum-point}
+use Rattle.parity.proofs.Finite.Sums.{is-true, is-false, is, one≤1, byte-one, eqb-one, eqb-two, all-at, all-not, count-two, count-cong, count-le, count-bound, any-of, least-at, count-at, sum-point}
 use Rattle.parity.proofs.Splits.Split.{Stops}
 use Rattle.parity.proofs.Words.Extend.{odd-only, inside-cong}
 use Rattle.parity.proofs.Words.Residue.{Within, inside-le, inside-pos, outside, anySet-at, residue-of, residue-within, residue-stops, Solves, solve}
@@ -20,11 +20,11 @@ not-one : (a : ℕ) → eqb a 2 ≡ true → eqb a 1 ≡ false
 not-one a e = rw (eqb-true a 2 e)
 
 module _ (h : Matrix) (N c b : ℕ) (w : ℕ → ℕ) where
-  solved-at : solved h N c b w b ≡ one (odd (inside h N c (isOne w)))
+  pub solved-at : solved h N c b w b ≡ one (odd (inside h N c (isOne w)))
   unfolding solved
   solved-at = rw (eq-eqb b b refl)
 
-  solved-other : (i : ℕ) → (i ≡ b → ⊥) → solved h N c b w i ≡ w i
+  pub solved-other : (i : ℕ) → (i ≡ b → ⊥) → solved h N c b w i ≡ w i
   unfolding solved
   solved-other i d = rw (ne-eqb i b d)
 
@@ -135,16 +135,12 @@ unfolding inside
 inside-count h N c s = count-le N (λ b. h c b && s b) s (λ b k e. and-eq-true-iff (h c b) (s b) .0 e .1)
 
 -- how many bits of a word are erased falls with each step
-fewer : (h : Matrix) (N c b : ℕ) (w : ℕ → ℕ) → b < N → erased w b ≡ true → count N (erased w) ≡ suc (count N (erased (solved h N c b w)))
+pub fewer : (h : Matrix) (N c b : ℕ) (w : ℕ → ℕ) → b < N → erased w b ≡ true → count N (erased w) ≡ suc (count N (erased (solved h N c b w)))
 unfolding count
 fewer h N c b w k e =
     let p = sum-point N b {f = λ i. one (erased w i)} {g = λ i. one (erased (solved h N c b w) i)} k (λ i l d. rw (solved-other h N c b w i d)) in
-    let q : one (erased (solved h N c b w) b) ≡ 0 = rw (solved-at h N c b w) (zero-two (odd (inside h N c (isOne w)))) in
+    let q : one (erased (solved h N c b w) b) ≡ 0 = rw (solved-at h N c b w, eqb-two (odd (inside h N c (isOne w)))) in
     omega (arith, rw e at p)
-  where
-    zero-two : (a : Bool) → one (eqb (one a) 2) ≡ 0
-    zero-two true = refl
-    zero-two false = refl
 
 lone-at : (h : Matrix) (N M : ℕ) (w : ℕ → ℕ) → any M (λ c. eqb (inside h N c (erased w)) 1) ≡ true
     → (loneCheck h N M w < M) × (inside h N (loneCheck h N M w) (erased w) ≡ 1)

@@ -42,11 +42,11 @@ module _ (h : Matrix) (N : ℕ) (w : List ℕ) (c : ℕ) where
 
     solving-size : length (solving h N w c) ≡ N
     unfolding solving
-    solving-size = length-listFrom 0 (length w) (λ b. cond (h c b && erased (byteOf w) b) value (byteOf w b)) ∙ size
+    solving-size = length-listFrom 0 (length w) _ ∙ size
 
     solving-at : (b : ℕ) → b < N → byteOf (solving h N w c) b ≡ cond (h c b && erased (byteOf w) b) value (byteOf w b)
     unfolding solving
-    solving-at b l = at-listFrom 0 (length w) (λ b. cond (h c b && erased (byteOf w) b) value (byteOf w b)) b (omega arith) ∙ rw (zero-add b)
+    solving-at b l = at-listFrom 0 (length w) _ b (omega arith) ∙ rw (zero-add b)
 
     -- a step on a check that is ready is the step of peeling at its erased bit
     pub one-step : ready h N w c ≡ true

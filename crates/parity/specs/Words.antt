@@ -80,7 +80,7 @@ losses n k before after =
     ∷ count n (erased after) ∷ count k (λ j. erased after (n + j)) ∷ []
 
 -- Peeling by steps solves, as long as one exists, a check with exactly one erased bit. That it ends as defined above, in whatever order,
--- is a law: `any-order` and `peel-steps` of proofs/Words/Steps.
+-- is a law: `any-order` and `peel-steps` of proofs/Words/Steps. Lists of such steps are in Solving (M-108).
 -- Bit b of check c is solved: it becomes the sum modulo 2 of the check's ones.
 unfoldable pub solved : Matrix → ℕ → ℕ → ℕ → (ℕ → ℕ) → ℕ → ℕ
 solved h N c b w i = cond (eqb i b) (one (odd (inside h N c (isOne w)))) (w i)

@@ -1,4 +1,5 @@
--- Document 01, 'Words, peeling': laws of lists of bytes, verifying, extending, stopping sets, the residue and peeling. Assumes nothing.
+-- Document 01, 'Words, peeling': laws of lists of bytes, verifying, extending, stopping sets, the residue and peeling;
+-- and of document 02's determining and small stopping sets. Assumes nothing.
 pub mod Sets
 pub mod Extend
 pub mod Residue
@@ -10,3 +11,5 @@ pub mod Verifying
 pub mod Peeling
 pub mod Determining
 pub mod Solving
+pub mod StoppingSets
+pub mod SetsListed

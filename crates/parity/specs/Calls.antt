@@ -3,7 +3,7 @@
 use Prim.Native.Nat.{ℕ, suc, _+_, _-_}
 use mathlib.Core.Bool.{Bool, not, cond, _&&_, _||_}
 use mathlib.Core.List.{List, [], _∷_, _++_}
-use lib.Dec.{eqb, ltb}
+use lib.Dec.{eqb, ltb, leb}
 use lib.ListN.{getD, length, drop}
 use Rattle.parity.specs.Finite.{one, any, least, listFrom}
 use Rattle.parity.specs.Matrix.{lent, pack, ruleA, cause}
@@ -11,6 +11,7 @@ use Rattle.parity.specs.Cycles.{share, heldBy, cycles, splitOf, takenBac
 use Rattle.parity.specs.Splits.{notBuilt}
 use Rattle.parity.specs.Words.{isOne, codeword, extended, stopping, peels, peeled, losses}
 use Rattle.parity.specs.Determining.{someAgrees, determined}
+use Rattle.parity.specs.StoppingSets.{stoppingSets, flat}
 use Rattle.parity.specs.Record.{Loaded, faulty, loaded, loading, written}
 use Rattle.parity.specs.Encoding.{rankOf, encoded}
 use Rattle.parity.specs.House.{houseCode, known}
@@ -178,3 +179,18 @@ houseOutcome name ws =
     (refuse (not (known name)) (refusal 17 [])
     (answer (houseCode name .n ∷ houseCode name .m ∷ []))))
     (pack 8 (houseCode name .matrix))
+
+-- cause 18: a set size outside 1 to 4
+unfoldable pub wrongSize : ℕ → Bool
+wrongSize t = not (leb 1 t && leb t 4)
+
+-- stopping sets (M-109): lists every stopping set of exactly t sent bits and answers how many there are; the further places are left
+unfoldable pub stoppingSetsOutcome : List ℕ → ℕ → ℕ → ℕ → ℕ → List ℕ → Outcome
+stoppingSetsOutcome ws n m k t target =
+    let found = stoppingSets (lent 8 ws) n (n + k) (m + k) t in
+    leaving target
+    (accepting ws n m k
+    (refuse (wrongSize t) (refusal 18 [])
+    (refuse (ltb (length target) (length (flat found))) (refusal 19 (length (flat found) ∷ []))
+    (answer (length found ∷ [])))))
+    (flat found ++ drop (length (flat found)) target)

@@ -4,6 +4,7 @@ pub mod Cycles
 pub mod Splits
 pub mod Words
 pub mod Determining
+pub mod StoppingSets
 pub mod Demand3
 pub mod Record
 pub mod Encoding

@@ -72,6 +72,12 @@ pub enum Refusal {
     CannotTakeBack,
     // 17: no house code has the name.
     UnknownName,
+    // 18: a set size outside 1 to 4.
+    WrongSize,
+    // 19: the lent slice is too short for the sets.
+    SetsTooShort {
+        needed: usize,
+    },
 }
 
 // The number of a refusal in the papers' table.
@@ -102,5 +108,7 @@ pub fn number(r: Refusal) -> u64
         Refusal::NothingToTakeBack => 15,
         Refusal::CannotTakeBack => 16,
         Refusal::UnknownName => 17,
+        Refusal::WrongSize => 18,
+        Refusal::SetsTooShort { needed: _ } => 19,
     }
 }

@@ -1,0 +1,6 @@
+pub mod Lone
+pub mod Storing
+pub mod Members
+pub mod Joining
+pub mod Whole
+pub mod Told

@@ -1,6 +1,1 @@
-pub mod Lone
-pub mod Storing
-pub mod Members
-pub mod Joining
-pub mod Whole
 pub mod Told

@@ -1,21 +1,59 @@
--- What listing answers: the places that the search takes are those of the sets. Assumes nothing.
-use mathlib.Core.Path.{_≡_}
-use mathlib.Core.Bool.{Bool, false, _&&_, and-eq-true-iff}
-use mathlib.Core.List.{List, []}
-use Prim.Native.Nat.{ℕ, _+_, _*_, _/_, _≤_}
+-- What listing answers: the sets that the search finds over the columns are those of the matrix. Assumes nothing.
+use mathlib.Core.Path.{_≡_, sym, _∙_}
+use mathlib.Core.Bool.{Bool, true, false, _&&_, and-eq-true-iff}
+use mathlib.Core.List.{List}
+use Prim.Native.Nat.{ℕ, _+_, _*_, _/_, _≤_, _<_}
 use native.Mathlib.Nat.{add-zero}
 use native.Mathlib.Omega.{arith}
+use native.Mathlib.Decide.{decLt}
 use lib.Arith.{digits-div}
 use lib.Dec.{leb}
 use lib.ListN.{length}
-use borrow.Author.Tests.{leb-true, not-false}
-use Rattle.parity.specs.Matrix.{lent}
-use Rattle.parity.specs.StoppingSets.{flat}
+use borrow.Author.Tests.{lt-ltb, le-ltb, leb-true, not-false}
+use Rattle.parity.specs.Finite.{one, count}
+use Rattle.parity.specs.Matrix.{Matrix, lent}
+use Rattle.parity.specs.Words.{inside, stopping}
+use Rattle.parity.specs.StoppingSets.{isIn, setsFrom, flat, stoppingSets, rising}
 use Rattle.parity.specs.Calls.{wrongSize}
+use Rattle.parity.proofs.Finite.Sums.{all-at, all-of, count-cong, sum-zero}
+use Rattle.parity.proofs.Finite.Bools.{same-test}
+use Rattle.parity.proofs.Words.Sets.{inside-below}
+use Rattle.parity.proofs.Words.StoppingSets.{rising-out, sets-are, keep-cong}
 use Rattle.parity.proofs.Words.SetsListed.{found, found-places}
 use Rattle.rows.specs.Rows.{ColumnsOf}
-use Rattle.stopping_sets.specs.Search.{across, listed, Put}
-use Rattle.stopping_sets.proofs.Whole.{search-lists}
+use Rattle.enumeration.specs.Search.{across, Put}
+
+-- members that are below n count as far as n
+inside-as-far : (h : Matrix) (N n c : ℕ) (s : List ℕ) → n ≤ N → rising 0 n s ≡ true → inside h N c (isIn s) ≡ inside h n c (isIn s)
+inside-as-far h N n c s k e =
+    inside-below h N n c (isIn s) (isIn s) k (λ b. elim (decLt b n) [
+      | yes l ↦ rw (lt-ltb b n l)
+      | no l ↦ rw (le-ltb b n (omega arith)) (rising-out 0 n b s e (omega arith))
+    ])
+
+module _ (ws cols : List ℕ) (n N M top : ℕ) (C : ColumnsOf 2 M (lent 8 ws) (lent 8 cols)) (nN : n ≤ N) (few : n ≤ 120) (Mt : M ≤ top) (s : List ℕ) (e : rising 0 n s ≡ true) where
+  same-below : (c : ℕ) → c < M → inside (across cols) n c (isIn s) ≡ inside (lent 8 ws) n c (isIn s)
+  unfolding inside
+  same-below c k = count-cong n {p = λ b. lent 8 cols b c && isIn s b} {q = λ b. lent 8 ws c b && isIn s b} (λ b l. rw (C .at b c, lt-ltb c M k, lt-ltb (b / 64) 2 (omega arith)))
+
+  same-inside : (c : ℕ) → c < M → inside (across cols) 128 c (isIn s) ≡ inside (lent 8 ws) N c (isIn s)
+  same-inside c k =
+      inside-as-far (across cols) 128 n c s (omega arith) e
+      ∙ same-below c k
+      ∙ sym (inside-as-far (lent 8 ws) N n c s nN e)
+
+  none-inside : (c : ℕ) → M ≤ c → inside (across cols) 128 c (isIn s) ≡ 0
+  unfolding inside count
+  none-inside c k = sum-zero 128 {f = λ b. one (lent 8 cols b c && isIn s b)} (λ b l. rw (C .at b c, le-ltb c M k))
+
+  same-stopping : stopping (across cols) 128 top (isIn s) ≡ stopping (lent 8 ws) N M (isIn s)
+  unfolding stopping
+  same-stopping = same-test _ _
+      (λ p. all-of M _ (λ c k. rw (← same-inside c k) (all-at top _ p c (omega arith))))
+      (λ p. all-of top _ (λ c k. elim (decLt c M) [
+        | yes l ↦ rw (same-inside c l) (all-at M _ p c l)
+        | no l ↦ rw (none-inside c (omega arith))
+      ]))
 
 -- how many sets there are, by the places that they take
 pub found-count : (ws : List ℕ) (n m k t : ℕ) → 1 ≤ t → length (flat (found ws n m k t)) / t ≡ length (found ws n m k t)
@@ -23,11 +61,19 @@ found-count ws n m k t l =
     rw (found-places ws n m k t, ← add-zero (length (found ws n m k t) * t))
     (digits-div (length (found ws n m k t)) (omega arith))
 
--- the sets that the search lists
+-- The stopping sets of t sent bits, of the columns and of the matrix.
+same-sets : (ws cols : List ℕ) (n N M top t : ℕ) → ColumnsOf 2 M (lent 8 ws) (lent 8 cols) → n ≤ N → n ≤ 120 → M ≤ top
+    → stoppingSets (across cols) n 128 top t ≡ stoppingSets (lent 8 ws) n N M t
+unfolding stoppingSets
+same-sets ws cols n N M top t C k l m =
+    let z : 0 + n ≡ n = omega arith in
+    keep-cong (λ s. stopping (across cols) 128 top (isIn s)) (λ s. stopping (lent 8 ws) N M (isIn s)) (setsFrom n t 0)
+    (λ s i. same-stopping ws cols n N M top C k l m s (rw z at (sets-are n t 0 s i .0)))
+
 pub put-found : (ws cols : List ℕ) (n m k used t : ℕ) (w : Bool) (old new : List ℕ) (r : ℕ) → ColumnsOf 2 (m + k) (lent 8 ws) (lent 8 cols) → n ≤ 120 → m + k ≤ used * 64
-    → Put w old new 0 (listed (across cols) (used * 64) n t [] 0) r → Put w old new 0 (flat (found ws n m k t)) r
+    → Put w old new 0 (flat (stoppingSets (across cols) n 128 (used * 64) t)) r → Put w old new 0 (flat (found ws n m k t)) r
 put-found ws cols n m k used t w old new r C few top P =
-    rw (search-lists ws cols n (n + k) (m + k) (used * 64) t C (omega arith) few top) at P
+    rw (same-sets ws cols n (n + k) (m + k) (used * 64) t C (omega arith) few top) at P
 
 pub place-is : (w : Bool) (old new ws : List ℕ) (r : ℕ) → Put w old new 0 ws r → r ≡ length ws
 place-is w old new ws r P = omega (arith, P .place)

@@ -1,7 +1,5 @@
 // The stopping sets of a few sent bits.
-mod search;
-
-use crate::search::list_all;
+use enumeration::list_all;
 use matrix::Accepting;
 use parity::Refusal;
 use rows::columns::first_columns;

@@ -13,7 +13,7 @@ use Rattle.parity.specs.Calls.{wrongSize}
 use Rattle.parity.proofs.Matrix.Accept.{Accepted, accepts}
 use Rattle.parity.proofs.Causes.Refused.{accepted-cause}
 use Rattle.parity.proofs.Words.SetsListed.{found, list-refused, list-size, list-short, list-made}
-use Rattle.stopping_sets.proofs.Storing.{put-first}
+use Rattle.enumeration.proofs.Storing.{put-first}
 use Rattle.stopping_sets.proofs.Told.{found-count, put-found, place-is, right-size}
 use Rattle.stopping_sets.proofs.list.Statement.{statement}
 use Rattle.stopping_sets.proofs.list.Tie as tie
@@ -23,7 +23,7 @@ use Rattle.matrix.proofs.accept.Reads as accept-reads
 use Rattle.rows.proofs.columns.first_columns.Reads as first-columns-reads
 use Rattle.rows.proofs.words_of.Reads as words-of-reads
 use Rattle.stopping_sets.proofs.is_size.Reads as is-size-reads
-use Rattle.stopping_sets.proofs.search.list_all.Reads as list-all-reads
+use Rattle.enumeration.proofs.list_all.Reads as list-all-reads
 
 accept-requires : tie.Need-accept-requires
 accept-requires c κs = search needs

@@ -16,8 +16,8 @@
  * SLICES. A slice is a pointer to its first element and then its number of
  * elements. A pointer is never NULL and is aligned for its elements, also when
  * the number is 0. A slice that a call may write (no `const`) overlaps no other
- * slice of the same call. A slice may have any length and n, m, k, u, v and name
- * any value: what does not fit is refused.
+ * slice of the same call. A slice may have any length and n, m, k, u, v, t and
+ * name any value: what does not fit is refused.
  *
  * RESULTS. Every call returns 0 for an answer, or the number of the refusal. The
  * values that the answer or the refusal carries fill the first elements of
@@ -56,6 +56,8 @@ extern "C" {
 #define PARITY_ADDED_MOST 392
 /* The most words that parity_write uses. */
 #define PARITY_RECORD_MOST 14914
+/* The largest sets that parity_stopping_sets lists. */
+#define PARITY_SET_SIZE_MOST 4
 
 /* The most values that a call carries. */
 #define PARITY_VALUES_MOST 5
@@ -99,6 +101,10 @@ extern "C" {
 #define PARITY_CANNOT_TAKE_BACK 16
 /* No house code has the name. */
 #define PARITY_UNKNOWN_NAME 17
+/* A set size outside 1 to PARITY_SET_SIZE_MOST. */
+#define PARITY_SET_SIZE 18
+/* The slice for the sets is too short; values: the places needed. */
+#define PARITY_SETS_SHORT 19
 
 /* The names of the house codes: the circulant of 23 bits, and the Hamming checks
  * for lengths 3, 7, 15 and 31. */
@@ -335,6 +341,30 @@ uint32_t parity_encode(const uint64_t *words, size_t words_len,
 uint32_t parity_house_code(size_t name,
                            uint64_t *words, size_t words_len,
                            uint64_t *values, size_t values_len);
+
+/* The small stopping sets: every stopping set (parity_is_stopping) of exactly t
+ * sent bits, each once, members rising, sets in dictionary order.
+ *
+ * Where everything else is received, parity_peel recovers none of the t bits of
+ * such a set, and at least one of any other t sent bits. All m+k checks count, but
+ * no added bit is a member. So with k above 0 this is not the list of the losses
+ * that defeat peeling where all added bits are erased too: no set with added bits
+ * is listed, nor a set of which an added check contains exactly one bit.
+ *
+ * words: read.
+ * t: the size of the sets, 1 to PARITY_SET_SIZE_MOST.
+ * sets: an answer writes the sets one after the other, t places each, from the
+ *   first place on; the further places are left. A length of 0 asks how many
+ *   places are needed.
+ * Values of the answer, 1: the number of sets (not of places).
+ * Refusals: 1, 2, 3, 4; 18 for any other t; 19 with the number of places needed,
+ *   which is t times the number of sets.
+ */
+uint32_t parity_stopping_sets(const uint64_t *words, size_t words_len,
+                              size_t n, size_t m, size_t k,
+                              size_t t,
+                              uint16_t *sets, size_t sets_len,
+                              uint64_t *values, size_t values_len);
 
 #ifdef __cplusplus
 }

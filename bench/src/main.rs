@@ -31,6 +31,7 @@ enum Call {
     Rank,
     Encode,
     HouseCode,
+    StoppingSets,
 }
 
 /// All that a call is lent and passed.
@@ -47,6 +48,8 @@ struct Job {
     record: Vec<u32>,
     input: Vec<u8>,
     word: Vec<u8>,
+    t: usize,
+    sets: Vec<u16>,
     values: [u64; VALUES_MOST],
 }
 
@@ -68,6 +71,7 @@ fn in_plain(job: &mut Job) -> u32 {
         Call::Rank => plain::rank(&job.words, n, m, k, values),
         Call::Encode => plain::encode(&job.words, n, m, k, &job.input, &mut job.word, values),
         Call::HouseCode => plain::house_code(job.name, &mut job.words, values),
+        Call::StoppingSets => plain::stopping_sets(&job.words, n, m, k, job.t, &mut job.sets, values),
     }
 }
 
@@ -77,6 +81,7 @@ fn in_library(job: &mut Job) -> u32 {
     let (record, record_len) = (job.record.as_mut_ptr(), job.record.len());
     let (input, input_len) = (job.input.as_ptr(), job.input.len());
     let (word, word_len) = (job.word.as_mut_ptr(), job.word.len());
+    let (sets, sets_len) = (job.sets.as_mut_ptr(), job.sets.len());
     let (values, values_len) = (job.values.as_mut_ptr(), job.values.len());
     // Every pointer and length is that of a live vector, and no two overlap.
     unsafe {
@@ -102,6 +107,9 @@ fn in_library(job: &mut Job) -> u32 {
                 ffi::parity_encode(words, words_len, n, m, k, input, input_len, word, word_len, values, values_len)
             }
             Call::HouseCode => ffi::parity_house_code(job.name, words, words_len, values, values_len),
+            Call::StoppingSets => {
+                ffi::parity_stopping_sets(words, words_len, n, m, k, job.t, sets, sets_len, values, values_len)
+            }
         }
     }
 }
@@ -256,6 +264,8 @@ impl Case {
             record: Vec::new(),
             input: Vec::new(),
             word: Vec::new(),
+            t: 0,
+            sets: Vec::new(),
             values: [0; VALUES_MOST],
         }
     }
@@ -323,6 +333,40 @@ fn codeword(r: &mut Random, given: &Case, extended: &Case) -> (Vec<u8>, Vec<u8>)
     let mut word = vec![0; extended.n + extended.k];
     plain::extend(&extended.words, extended.n, extended.m, extended.k, &sent, &mut word, &mut values);
     (message, word)
+}
+
+/// 120 empty given checks, and added checks over the pairs of the last 29 bits: most sets are looked at in all eight words.
+fn empty_checks() -> Case {
+    let mut case = Case::given("120 empty checks", 120, &vec![Vec::new(); 120]);
+    let pairs = (91..120).flat_map(|b| (91..b).map(move |a| (a, b)));
+    for (j, (a, b)) in pairs.take(392).enumerate() {
+        for bit in [a, b, 120 + j] {
+            case.words[8 * (120 + j) + bit / 64] |= 1 << (bit % 64);
+        }
+    }
+    case.k = 392;
+    case
+}
+
+/// The stopping sets of four of 120 bits, counted and listed.
+fn small_sets(given: &[Case], extended: &[Case]) -> Result<(), String> {
+    println!("Stopping sets of four sent bits, n = 120:\n");
+    println!("| matrix | sets | stopping_sets |\n|---|--:|--:|");
+    let none = Case::given("no check", 120, &[]);
+    let one = Case::given("one check of all bits", 120, &[(0..120).collect()]);
+    for case in [&given[0], &given[3], &none, &one, &extended[0], &extended[3], &empty_checks()] {
+        let mut job = case.job(Call::StoppingSets);
+        job.t = 4;
+        in_plain(&mut job);
+        // Refused 19, if there are any, with the places needed.
+        job.sets = vec![0; job.values[0] as usize];
+        in_plain(&mut job);
+        let sets = job.values[0];
+        let (library, plain) = measure(&job)?;
+        println!("| {}, m={}, k={} | {} |{}", case.name, case.m, case.k, thousands(sets), cell(library, plain, 2));
+    }
+    println!();
+    Ok(())
 }
 
 /// The rows of a table for one matrix: the name of each, and its call.
@@ -460,6 +504,9 @@ fn main() -> ExitCode {
     if result.is_ok() {
         println!("Orthogonalised:\n");
         result = table(r, &given, &extended);
+    }
+    if result.is_ok() {
+        result = small_sets(&given, &extended);
     }
     match result {
         Ok(()) => ExitCode::SUCCESS,

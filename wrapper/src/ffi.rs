@@ -104,4 +104,12 @@ extern "C" {
         words: *mut u64, words_len: usize,
         values: *mut u64, values_len: usize,
     ) -> u32;
+
+    pub fn parity_stopping_sets(
+        words: *const u64, words_len: usize,
+        n: usize, m: usize, k: usize,
+        t: usize,
+        sets: *mut u16, sets_len: usize,
+        values: *mut u64, values_len: usize,
+    ) -> u32;
 }

@@ -8,11 +8,16 @@
 
 pub mod ffi;
 
+use std::slice::ChunksExact;
+
 /// The number of words of a matrix.
 pub const WORDS: usize = 4096;
 
 /// The most words that [`write`] uses.
 pub const RECORD_MOST: usize = 14_914;
+
+/// The largest sets that [`stopping_sets`] lists.
+pub const SET_SIZE_MOST: usize = 4;
 
 /// The most values that a call carries.
 pub const VALUES_MOST: usize = 5;
@@ -64,6 +69,10 @@ pub enum Refusal {
     CannotTakeBack,
     /// 17: no house code has this name.
     UnknownName,
+    /// 18: a set size outside 1 to 4.
+    SetSize,
+    /// 19: the slice for the sets is too short.
+    SetsShort { needed: usize },
 }
 
 impl Refusal {
@@ -86,6 +95,8 @@ impl Refusal {
             Refusal::NothingToTakeBack => 15,
             Refusal::CannotTakeBack => 16,
             Refusal::UnknownName => 17,
+            Refusal::SetSize => 18,
+            Refusal::SetsShort { .. } => 19,
         }
     }
 }
@@ -111,8 +122,14 @@ impl std::fmt::Display for Refusal {
             Refusal::Contradiction => write!(f, "contradiction: the checks cannot be made even"),
             Refusal::Extended => write!(f, "k is above 0"),
             Refusal::NothingToTakeBack => write!(f, "k is 0, there is nothing to take back"),
-            Refusal::CannotTakeBack => write!(f, "with an added bit taken back rule A would be broken, or no splits made the matrix"),
+            Refusal::CannotTakeBack => {
+                write!(f, "with an added bit taken back rule A would be broken, or no splits made the matrix")
+            }
             Refusal::UnknownName => write!(f, "no house code has this name"),
+            Refusal::SetSize => write!(f, "a set size outside 1 to 4"),
+            Refusal::SetsShort { needed } => {
+                write!(f, "the slice for the sets is too short, {needed} places are needed")
+            }
         }
     }
 }
@@ -221,6 +238,8 @@ fn reply(number: u32, values: Values) -> Result<Values, Refusal> {
         15 => Refusal::NothingToTakeBack,
         16 => Refusal::CannotTakeBack,
         17 => Refusal::UnknownName,
+        18 => Refusal::SetSize,
+        19 => Refusal::SetsShort { needed: values[0] as usize },
         other => panic!("the library returned {other}, which is no refusal"),
     })
 }
@@ -453,4 +472,36 @@ pub fn house_code(name: usize, words: &mut [u64]) -> Result<HouseCode, Refusal> 
     let number =
         unsafe { ffi::parity_house_code(name, words.as_mut_ptr(), words.len(), values.as_mut_ptr(), values.len()) };
     reply(number, values).map(|v| HouseCode { n: v[0] as usize, m: v[1] as usize })
+}
+
+/// Lists every stopping set of exactly t sent bits (1 to [`SET_SIZE_MOST`]) in `sets`, whose further places are left, and answers
+/// an iterator over them: each is a slice of t bits, rising; they come in dictionary order; `len` says how many there are.
+///
+/// All checks count, given and added, and no added bit is a member: with k above 0 this is not the list of the losses that defeat
+/// peeling where all added bits are erased too. A `sets` of length 0 asks how many places are needed ([`Refusal::SetsShort`]).
+pub fn stopping_sets<'a>(
+    words: &[u64],
+    n: usize,
+    m: usize,
+    k: usize,
+    t: usize,
+    sets: &'a mut [u16],
+) -> Result<ChunksExact<'a, u16>, Refusal> {
+    let mut values: Values = [0; VALUES_MOST];
+    let number = unsafe {
+        ffi::parity_stopping_sets(
+            words.as_ptr(),
+            words.len(),
+            n,
+            m,
+            k,
+            t,
+            sets.as_mut_ptr(),
+            sets.len(),
+            values.as_mut_ptr(),
+            values.len(),
+        )
+    };
+    let listed = reply(number, values)?[0] as usize;
+    Ok(sets[..t * listed].chunks_exact(t))
 }

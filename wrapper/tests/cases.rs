@@ -1,4 +1,5 @@
-//! Cases A to K of document 01, cases of taking back, determining and the house codes (document 02), through the wrapper.
+//! Cases A to K of document 01, cases of taking back, determining, the house codes and small stopping sets (document 02), through
+//! the wrapper.
 
 use parity::{Determined, Held, HouseCode, Loaded, Orthogonalised, Peeled, Refusal, Shared, Split, TakenBack, WORDS};
 
@@ -322,6 +323,64 @@ fn third_form() {
     let mut alone = vec![0; WORDS];
     alone[0] = 7;
     assert_eq!(parity::write(&alone, 2, 0, 1, &mut []), Err(Refusal::CannotTakeBack));
+}
+
+/// The sets of a matrix, each as a list; the slice is lent as long as it must be, after one that is too short by one.
+fn listed(words: &[u64], n: usize, m: usize, k: usize, t: usize) -> Vec<Vec<u16>> {
+    let needed = match parity::stopping_sets(words, n, m, k, t, &mut []) {
+        Ok(sets) => sets.len(),
+        Err(Refusal::SetsShort { needed }) => needed,
+        Err(other) => panic!("{other}"),
+    };
+    let mut sets = vec![7; needed + 3];
+    if needed > 0 {
+        assert_eq!(
+            parity::stopping_sets(words, n, m, k, t, &mut sets[..needed - 1]).err(),
+            Some(Refusal::SetsShort { needed })
+        );
+        assert!(sets.iter().all(|&place| place == 7));
+    }
+    let found = parity::stopping_sets(words, n, m, k, t, &mut sets).expect("there is room");
+    assert_eq!(found.len() * t, needed);
+    let found: Vec<Vec<u16>> = found.map(<[u16]>::to_vec).collect();
+    assert_eq!(sets[needed..], [7; 3]);
+    assert_eq!(sets[..needed], found.concat());
+    found
+}
+
+/// Sizes 1 to 4 of cases A and C and of the Hamming codes of lengths 15 and 31, given and orthogonalised.
+#[test]
+fn small_stopping_sets() {
+    let house = |name: usize| {
+        let mut words = vec![0; WORDS];
+        let HouseCode { n, m } = parity::house_code(name, &mut words).expect("a name");
+        (words, n, m)
+    };
+    let all = [
+        ((a(), 7, 3), [0, 0, 10, 23], [0, 0, 3, 3]),
+        ((c(), 7, 3), [0, 1, 7, 17], [0, 1, 2, 1]),
+        (house(parity::HOUSE_HAMMING_15), [0, 0, 69, 526], [0, 0, 7, 21]),
+        (house(parity::HOUSE_HAMMING_31), [0, 0, 410, 8_215], [0, 0, 15, 105]),
+    ];
+    for ((mut words, n, m), given, orthogonalised) in all {
+        let numbers = |words: &[u64], k: usize| [1, 2, 3, 4].map(|t| listed(words, n, m, k, t).len());
+        assert_eq!(numbers(&words, 0), given);
+        let k = parity::orthogonalise(&mut words, n, m, 0).expect("it finishes").k;
+        assert_eq!(numbers(&words, k), orthogonalised);
+    }
+    assert_eq!(listed(&c(), 7, 3, 0, 2), [[4, 5]]);
+    assert_eq!(listed(&c(), 7, 3, 0, 3)[..2], [[0, 1, 2], [0, 1, 6]]);
+    // No check: every set; and of fewer bits than t none.
+    let none = matrix(&[]);
+    assert_eq!(listed(&none, 3, 0, 0, 2), [[0, 1], [0, 2], [1, 2]]);
+    assert_eq!(listed(&none, 3, 0, 0, 4), Vec::<Vec<u16>>::new());
+    for t in [0, 5, usize::MAX] {
+        let mut sets = [7; 5];
+        assert_eq!(parity::stopping_sets(&none, 3, 0, 0, t, &mut sets).err(), Some(Refusal::SetSize));
+        assert_eq!(parity::stopping_sets(&none, 0, 0, 0, t, &mut sets).err(), Some(Refusal::Range));
+        assert_eq!(sets, [7; 5]);
+    }
+    assert_eq!((Refusal::SetSize.number(), Refusal::SetsShort { needed: 1 }.number()), (18, 19));
 }
 
 #[test]

@@ -21,6 +21,7 @@ fn without_comments(text: &str) -> String {
 fn rust_type(c: &str) -> String {
     let scalar = |name: &str| match name {
         "uint8_t" => "u8",
+        "uint16_t" => "u16",
         "uint32_t" => "u32",
         "uint64_t" => "u64",
         "size_t" => "usize",
@@ -104,10 +105,10 @@ fn read(path: &str) -> String {
 #[test]
 fn header_wrapper_and_crate_agree() {
     let header = of_header(&read("../include/parity.h"));
-    assert_eq!(header.len(), 15);
+    assert_eq!(header.len(), 16);
     assert_eq!(header, of_wrapper(&read("src/ffi.rs")));
     let text = read("../crates/capi/src/lib.rt");
-    assert_eq!(text.matches("extern \"C\"").count(), 15);
+    assert_eq!(text.matches("extern \"C\"").count(), 16);
     assert_eq!(header, of_crate(&text));
 }
 
@@ -136,6 +137,8 @@ fn header_has_the_numbers_of_the_wrapper() {
         ("NOTHING_TO_TAKE_BACK", Refusal::NothingToTakeBack),
         ("CANNOT_TAKE_BACK", Refusal::CannotTakeBack),
         ("UNKNOWN_NAME", Refusal::UnknownName),
+        ("SET_SIZE", Refusal::SetSize),
+        ("SETS_SHORT", Refusal::SetsShort { needed: 0 }),
     ];
     let mut due = vec![
         ("WORDS", parity::WORDS),
@@ -143,6 +146,7 @@ fn header_has_the_numbers_of_the_wrapper() {
         ("CHECKS_MOST", 120),
         ("ADDED_MOST", 392),
         ("RECORD_MOST", parity::RECORD_MOST),
+        ("SET_SIZE_MOST", parity::SET_SIZE_MOST),
         ("VALUES_MOST", parity::VALUES_MOST),
         ("STACK_MOST", parity::STACK_MOST),
         ("ANSWER", 0),

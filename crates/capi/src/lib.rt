@@ -2,7 +2,7 @@
 // that it carries at the front of `values`, as far as it reaches.
 use parity::Bit;
 ghost use mathlib.Core.Path.{_≡_};
-ghost use Rattle.parity.specs.Calls.{loadOutcome, writeOutcome, shareReply, countReply, splitOutcome, takeBackOutcome, orthogonaliseOutcome, verifyReply, extendOutcome, isStoppingReply, peelOutcome, rankReply, encodeOutcome, houseOutcome, determineOutcome};
+ghost use Rattle.parity.specs.Calls.{loadOutcome, writeOutcome, shareReply, countReply, splitOutcome, takeBackOutcome, orthogonaliseOutcome, verifyReply, extendOutcome, isStoppingReply, peelOutcome, rankReply, encodeOutcome, houseOutcome, determineOutcome, stoppingSetsOutcome};
 ghost use Rattle.reply.specs.Passed.{Passed};
 
 // Carries n, m and k.
@@ -254,5 +254,24 @@ pub extern "C" fn parity_house_code(name: usize, words: &mut [u64], values: &mut
 {
     let copying = house::copy(name, words);
     let numbered = reply::copying(copying);
+    reply::pass(numbered, values)
+}
+
+// Carries how many sets there are.
+#[no_mangle]
+pub extern "C" fn parity_stopping_sets(
+    words: &[u64],
+    n: usize,
+    m: usize,
+    k: usize,
+    t: usize,
+    sets: &mut [u16],
+    values: &mut [u64],
+) -> u32
+    ensures { λ r. ⌜ Passed (stoppingSetsOutcome (now (words .entry)) n m k t (now (sets .entry)) .reply) (now (values .entry)) (now (values .exit)) r ⌝ }
+    ensures { λ r. ⌜ now (sets .exit) ≡ stoppingSetsOutcome (now (words .entry)) n m k t (now (sets .entry)) .after ⌝ }
+{
+    let listing = stopping_sets::list(words, n, m, k, t, sets);
+    let numbered = reply::listing(listing);
     reply::pass(numbered, values)
 }

@@ -12,6 +12,7 @@ use record::Loading;
 use split::Orthogonalising;
 use split::Splitting;
 use split::TakingBack;
+use stopping_sets::Listing;
 use word::Extending;
 use word::Stopping;
 use word::Verifying;
@@ -30,6 +31,7 @@ ghost use Rattle.peel.specs.Answers.{peelingReply};
 ghost use Rattle.determine.specs.Answers.{determiningReply};
 ghost use Rattle.encode.specs.Answers.{rankingReply, encodingReply};
 ghost use Rattle.house.specs.Answers.{copyingReply};
+ghost use Rattle.stopping_sets.specs.Answers.{listingReply};
 ghost use Rattle.reply.specs.Passed.{numberedReply, Passed, filled};
 
 // A number and the values that it carries.
@@ -108,6 +110,8 @@ fn refused(why: Refusal) -> Numbered
         Refusal::NothingToTakeBack => Numbered::Alone(15),
         Refusal::CannotTakeBack => Numbered::Alone(16),
         Refusal::UnknownName => Numbered::Alone(17),
+        Refusal::WrongSize => Numbered::Alone(18),
+        Refusal::SetsTooShort { needed } => Numbered::One(19, needed as u64),
     }
 }
 
@@ -275,6 +279,16 @@ pub fn copying(answer: Copying) -> Numbered
     match answer {
         Copying::Copied { n, m } => Numbered::Two(0, n as u64, m as u64),
         Copying::Refused(why) => refused(why),
+    }
+}
+
+// What listing stopping sets answers.
+pub fn listing(answer: Listing) -> Numbered
+    ensures { λ r. ⌜ numberedReply r ≡ listingReply answer ⌝ }
+{
+    match answer {
+        Listing::Listed { sets } => Numbered::One(0, sets as u64),
+        Listing::Refused(why) => refused(why),
     }
 }
 

@@ -259,6 +259,13 @@ fn good(r: &mut Random, kind: Kind, sample: &Sample) -> Lent {
             lent.words = (0..WORDS).map(|_| r.next()).collect();
             (lent.n, lent.m, lent.k) = (0, 0, 0);
         }
+        Kind::StoppingSets => {
+            // Of many bits only small sets here: the part `sets` has the others.
+            lent.t = r.between(1, if matrix.n <= 24 { 4 } else { 2 });
+            let more = if r.chance(300) { 0 } else { r.below(9) };
+            let needed = matrix.stopping_sets(lent.t).len();
+            lent.sets = (0..needed + more).map(|_| r.next() as u16).collect();
+        }
     }
     lent
 }
@@ -283,6 +290,8 @@ enum Damage {
     Nothing,
     NotBack,
     Name,
+    SetSize,
+    SetsShort,
 }
 
 fn damages(kind: Kind) -> Vec<Damage> {
@@ -307,6 +316,7 @@ fn damages(kind: Kind) -> Vec<Damage> {
         }
         Kind::Rank => &[Extended, Extended],
         Kind::Encode => &[Extended, Lengths, Lengths, Bytes, Bytes],
+        Kind::StoppingSets => &[SetSize, SetSize, SetsShort, SetsShort, SetsShort],
     });
     list
 }
@@ -342,6 +352,27 @@ fn unknown_name(r: &mut Random) -> usize {
     let (known, low, any) = (r.below(5), r.between(5, 300), r.next() as usize | 1 << 40);
     let high = [known + 256, known | 1 << 32, known | 1 << 63, usize::MAX - known];
     r.pick(&[5, 5, 6, 255, 256, 1 << 32, usize::MAX, low, any, high[0], high[1], high[2], high[3]])
+}
+
+/// A number that is no size of sets.
+fn wrong_size(r: &mut Random) -> usize {
+    let (right, low, any) = (r.between(1, 4), r.between(5, 300), r.next() as usize | 1 << 40);
+    r.pick(&[
+        0,
+        0,
+        5,
+        5,
+        6,
+        8,
+        255,
+        256 + right,
+        right | 1 << 32,
+        right | 1 << 63,
+        usize::MAX,
+        usize::MAX - 3,
+        low,
+        any,
+    ])
 }
 
 fn flip(words: &mut [u64], check: usize, bit: usize, to: Option<bool>) {
@@ -602,6 +633,12 @@ fn apply(r: &mut Random, damage: Damage, matrix: &Matrix, lent: &mut Lent) {
         }
         Damage::RecordFault => damage_record(r, &mut lent.record, matrix.n),
         Damage::Name => lent.name = unknown_name(r),
+        Damage::SetSize => lent.t = wrong_size(r),
+        Damage::SetsShort => {
+            let needed = matrix.stopping_sets(lent.t.clamp(1, 4)).len();
+            let any = r.below(needed + 1);
+            lent.sets.resize(r.pick(&[needed.saturating_sub(1), needed.saturating_sub(1), 0, any]), 7);
+        }
         // These choose the matrix.
         Damage::Extended | Damage::Full | Damage::Nothing | Damage::NotBack => {}
     }
@@ -789,7 +826,7 @@ pub fn at_once() -> Result<usize, String> {
 #[derive(Default)]
 struct Tally {
     answers: usize,
-    refusals: [usize; 18],
+    refusals: [usize; 20],
     /// Answers whose first value is 1, and those whose first value is 0.
     yes: usize,
     no: usize,

@@ -1,4 +1,4 @@
-//! The model by itself: document 01's bench cases, known cases of document 02's taking back, its house codes, and the
+//! The model by itself: document 01's bench cases, known cases of document 02's taking back, its house codes and small stopping sets, and the
 //! model's quick methods against the definitions tried out in full.
 
 use crate::elimination;
@@ -58,6 +58,8 @@ pub fn lend(kind: Kind, matrix: &Matrix) -> Lent {
         record: Vec::new(),
         input: Vec::new(),
         word: Vec::new(),
+        t: 0,
+        sets: Vec::new(),
     }
 }
 
@@ -340,6 +342,27 @@ fn house_codes(t: &mut Tally) -> Result<(), String> {
     Ok(())
 }
 
+/// Matrices whose numbers of stopping sets of sizes 1 to 4 are known, given and orthogonalised.
+pub fn known_sets() -> Vec<(&'static str, Matrix, [usize; 4], [usize; 4])> {
+    let hamming = |name| model::house(name).expect("a name");
+    vec![
+        ("A", a(), [0, 0, 10, 23], [0, 0, 3, 3]),
+        ("C", c(), [0, 1, 7, 17], [0, 1, 2, 1]),
+        ("Hamming 15", hamming(3), [0, 0, 69, 526], [0, 0, 7, 21]),
+        ("Hamming 31", hamming(4), [0, 0, 410, 8_215], [0, 0, 15, 105]),
+    ]
+}
+
+fn small_sets(t: &mut Tally) -> Result<(), String> {
+    for (name, mut matrix, given, orthogonalised) in known_sets() {
+        let numbers = |matrix: &Matrix| [1, 2, 3, 4].map(|size| matrix.stopping_sets(size).len() / size);
+        t.same(name, numbers(&matrix), given)?;
+        matrix.orthogonalise();
+        t.same(name, numbers(&matrix), orthogonalised)?;
+    }
+    Ok(())
+}
+
 /// The residue and peeling by their definitions, against the methods that serve for many erased bits.
 fn peelings(t: &mut Tally, matrix: &Matrix, word: &[u8]) -> Result<(), String> {
     let erased = model::twos(word);
@@ -426,6 +449,9 @@ fn methods(t: &mut Tally) -> Result<(), String> {
         t.same("elimination", &elimination::decode(&matrix, &word), &agreeing)?;
         t.same("determining", matrix.determine_by_values(&word), agreeing)?;
 
+        let size = r.below(6);
+        t.same("stopping sets", matrix.stopping_sets(size.max(1)), matrix.stopping_sets_by_numbers(size.max(1)))?;
+
         let pairs = matrix.pairs();
         if !pairs.is_empty() && matrix.k < model::ADDED_MOST {
             let (u, v) = r.pick(&pairs);
@@ -460,6 +486,7 @@ pub fn run() -> Result<usize, String> {
     let mut tally = Tally(0);
     bench(&mut tally)?;
     house_codes(&mut tally)?;
+    small_sets(&mut tally)?;
     methods(&mut tally)?;
     larger(&mut tally)?;
     Ok(tally.0)

@@ -19,6 +19,7 @@ pub fn describe(lent: &Lent) -> String {
     text += &format!("record of {} words: {:08x?}\n", lent.record.len(), lent.record);
     text += &format!("bytes read, {}: {:?}\n", lent.input.len(), lent.input);
     text += &format!("bytes written, {}: {:?}\n", lent.word.len(), lent.word);
+    text += &format!("t {}, slice for sets of {}, its first: {:?}\n", lent.t, lent.sets.len(), lent.sets.first());
     text
 }
 
@@ -65,6 +66,7 @@ pub fn compare_with(lent: &Lent, before: Vec<u64>) -> Result<(Reply, Lent), Stri
         first_difference("record word", &found.record, &due.record),
         first_difference("byte read", &found.input, &due.input),
         first_difference("byte written", &found.word, &due.word),
+        first_difference("place of the sets", &found.sets, &due.sets),
     ];
     text.extend(places.into_iter().flatten());
     Err(text)

@@ -46,12 +46,14 @@ pub fn call(lent: &mut Lent, values: &mut [u64]) -> Result<u32, String> {
     let mut record = Guarded::new(&lent.record, guard as u32);
     let mut input = Guarded::new(&lent.input, guard as u8);
     let mut word = Guarded::new(&lent.word, guard as u8);
+    let mut sets = Guarded::new(&lent.sets, guard as u16);
     let mut carried = Guarded::new(values, guard);
-    let (n, m, k, u, v, name) = (lent.n, lent.m, lent.k, lent.u, lent.v, lent.name);
+    let (n, m, k, u, v, name, t) = (lent.n, lent.m, lent.k, lent.u, lent.v, lent.name, lent.t);
     let (words_ptr, words_len) = (words.content_mut(), words.len());
     let (record_ptr, record_len) = (record.content_mut(), record.len());
     let (input_ptr, input_len) = (input.content_mut() as *const u8, input.len());
     let (word_ptr, word_len) = (word.content_mut(), word.len());
+    let (sets_ptr, sets_len) = (sets.content_mut(), sets.len());
     let (values_ptr, values_len) = (carried.content_mut(), carried.len());
     let mut number = 0;
     // Every pointer and length is that of a live vector's part, and no two overlap.
@@ -87,6 +89,9 @@ pub fn call(lent: &mut Lent, values: &mut [u64]) -> Result<u32, String> {
                     words_ptr, words_len, n, m, k, input_ptr, input_len, word_ptr, word_len, values_ptr, values_len,
                 ),
                 Kind::HouseCode => ffi::parity_house_code(name, words_ptr, words_len, values_ptr, values_len),
+                Kind::StoppingSets => ffi::parity_stopping_sets(
+                    words_ptr, words_len, n, m, k, t, sets_ptr, sets_len, values_ptr, values_len,
+                ),
             }
         }
     });
@@ -94,8 +99,10 @@ pub fn call(lent: &mut Lent, values: &mut [u64]) -> Result<u32, String> {
     lent.record.copy_from_slice(record.content());
     lent.input.copy_from_slice(input.content());
     lent.word.copy_from_slice(word.content());
+    lent.sets.copy_from_slice(sets.content());
     values.copy_from_slice(carried.content());
-    let intact = words.intact() && record.intact() && input.intact() && word.intact() && carried.intact();
+    let intact =
+        words.intact() && record.intact() && input.intact() && word.intact() && sets.intact() && carried.intact();
     if !intact {
         return Err("the library wrote outside a lent slice".to_string());
     }

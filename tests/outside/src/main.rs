@@ -1,5 +1,5 @@
 //! Tests of the library from outside. `outside` runs all parts; `outside model`, `calls`, `losses`, `records`,
-//! `taking_back`, `holders`, `determining`, `solving`, `stack`, `demand3`, `codes`, `mend` run the parts named, and the name of a call, as `outside peel`, runs that kind of
+//! `taking_back`, `holders`, `determining`, `solving`, `sets`, `stack`, `demand3`, `codes`, `mend` run the parts named, and the name of a call, as `outside peel`, runs that kind of
 //! call alone. Ends with a status that is not 0 at the first difference, with the whole input that shows it.
 //! OUTSIDE_LAST=FILE keeps the input of the last call in FILE.
 
@@ -20,6 +20,7 @@ mod mend;
 mod model;
 mod random;
 mod records;
+mod sets;
 mod solving;
 mod stack;
 mod taking_back;
@@ -28,7 +29,7 @@ use model::{Kind, KINDS};
 use std::process::ExitCode;
 use std::time::Instant;
 
-const PARTS: [&str; 12] = [
+const PARTS: [&str; 13] = [
     "model",
     "calls",
     "losses",
@@ -37,6 +38,7 @@ const PARTS: [&str; 12] = [
     "holders",
     "determining",
     "solving",
+    "sets",
     "stack",
     "demand3",
     "codes",
@@ -77,6 +79,7 @@ fn run(part: &str, kinds: &[Kind]) -> Result<Outcome, String> {
         "holders" => same(holders::run()),
         "determining" => noted(determining::run()),
         "solving" => noted(solving::run()),
+        "sets" => noted(sets::run()),
         "stack" => noted(stack::run()),
         "demand3" => noted(demand3::run()),
         "codes" => noted(codes::run()),

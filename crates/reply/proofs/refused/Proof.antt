@@ -62,6 +62,12 @@ enum-told-12 c = search needs
 enum-told-13 : tie.Need-enum-told-13
 enum-told-13 c = search needs
 
+enum-told-14 : tie.Need-enum-told-14
+enum-told-14 c = search needs
+
+enum-known-why-6 : tie.Need-enum-known-why-6
+enum-known-why-6 c = search needs
+
 returns : tie.Need-returns
 returns c = sym (ap refusalOf (c .enum-told .given .1))
 
@@ -116,6 +122,12 @@ returns-17 c = sym (ap refusalOf (c .enum-told12 .given .1))
 returns-18 : tie.Need-returns-18
 returns-18 c = sym (ap refusalOf (c .enum-told13 .given .1))
 
+returns-19 : tie.Need-returns-19
+returns-19 c = sym (ap refusalOf (c .enum-told14 .given .1))
+
+returns-20 : tie.Need-returns-20
+returns-20 c = sym (ap refusalOf (c .before .why6 .given .1))
+
 pub refused-spec : {M : Type 1} → statement M
 refused-spec =
     tie.close
@@ -139,6 +151,8 @@ refused-spec =
     enum-told-11
     enum-told-12
     enum-told-13
+    enum-told-14
+    enum-known-why-6
     returns
     returns-2
     returns-3
@@ -156,4 +170,6 @@ refused-spec =
     returns-15
     returns-16
     returns-17
-    returns-18)
+    returns-18
+    returns-19
+    returns-20)

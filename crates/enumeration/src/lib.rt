@@ -125,7 +125,7 @@ fn list_one(
 }
 
 // Lists the stopping sets of the members and one more bit, from `from` on, and answers the place behind them.
-fn list_last(
+fn list_each(
     cols: &[u64],
     n: usize,
     used: usize,
@@ -148,6 +148,31 @@ fn list_last(
         place = list_one(cols, used, once, some, first, d, sets, place, write);
     }
     place
+}
+
+// The same: where one word holds all checks, their number is known beforehand, and it is quicker.
+fn list_last(
+    cols: &[u64],
+    n: usize,
+    used: usize,
+    once: &[u64],
+    some: &[u64],
+    first: &[u16],
+    from: usize,
+    sets: &mut [u16],
+    at: usize,
+    write: bool,
+) -> usize
+    requires { ⌜ (length (now cols) ≡ 1024) × (length (now once) ≡ 8) × (length (now some) ≡ 8) × (used ≤ 8) × (n ≤ 128) ⌝ }
+    requires { ⌜ Seen (across (now cols)) (now first) (now once) (now some) × Under (now first) from ⌝ }
+    requires { ⌜ at + length (listed (across (now cols)) (used * 64) n 1 (now first) from) < 2 ^ 40 ⌝ }
+    requires { ⌜ roomFor write (at + length (listed (across (now cols)) (used * 64) n 1 (now first) from)) ≤ length (now sets) ⌝ }
+    ensures { λ r. ⌜ Put write (now (sets .entry)) (now (sets .exit)) at (listed (across (now (cols .entry))) (used * 64) n 1 (now (first .entry)) from) r ⌝ }
+{
+    if used == 1 {
+        return list_each(cols, n, 1, once, some, first, from, sets, at, write);
+    }
+    list_each(cols, n, used, once, some, first, from, sets, at, write)
 }
 
 // Lists the stopping sets of the members and `left` + 1 more bits, from `from` on, and answers the place behind them.

@@ -5,12 +5,11 @@ use mathlib.Core.List.{List}
 use Prim.Native.Nat.{ℕ, _+_, _*_, _-_, _/_, _%_, _^_, _≤_, _<_}
 use native.Mathlib.Nat.{zero-add, zero-mul}
 use native.Mathlib.Omega.{arith}
-use native.Mathlib.Decide.{ℕ-discrete, decLt}
+use native.Mathlib.Decide.{decLt}
 use lib.Bits.{bitAnd, bitOr, and-lt, or-lt}
 use lib.Dec.{lit<}
-use lib.ListN.{getD, length, set, length-set}
+use lib.ListN.{getD}
 use lib.Pow.{ones-sub-lt}
-use lib.Seq.{getD-set-same, getD-set-other}
 use borrow.Author.Tests.{not-true}
 use Rattle.parity.specs.Finite.{all}
 use Rattle.parity.specs.Matrix.{bitOf, lent}
@@ -18,6 +17,7 @@ use Rattle.parity.proofs.Finite.Sums.{is-true, is-false, is, all-at, all-of}
 use Rattle.parity.proofs.Matrix.Digits.{bit-and, bit-or, bit-not, bit-zero, same-bits}
 use Rattle.parity.proofs.Matrix.Lent.{lent-word}
 use Rattle.enumeration.specs.Search.{lone, loneWord, OnceWith, SomeWith}
+use Rattle.enumeration.proofs.Storing.{Filled}
 
 bit-lone : (x u d j : ℕ) → u < 2 ^ 64 → d < 2 ^ 64 → j < 64 → bitOf (loneWord x u d) j ≡ lone (bitOf x j) (bitOf u j) (bitOf d j)
 unfolding loneWord
@@ -31,23 +31,6 @@ lone-lt x u d xl dl = or-lt 64 _ _ (and-lt 64 x (2 ^ 64 - 1 - d) xl (ones-sub-lt
 -- a bit of a single row
 pub row-word : (ws : List ℕ) (i j : ℕ) → i < 8 → j < 64 → lent 8 ws 0 (i * 64 + j) ≡ bitOf (getD ws i 0) j
 row-word ws i j k l = lent-word 8 ws 0 i j k l ∙ rw (zero-mul 8, zero-add i)
-
--- the first i of eight words are those of f
-pub record Filled (f : ℕ → ℕ) (i : ℕ) (r : List ℕ) : Type 0 where
-  pub size : length r ≡ 8
-  pub at : (p : ℕ) → p < i → getD r p 0 ≡ f p
-
-pub filled-none : (f : ℕ → ℕ) (r : List ℕ) → length r ≡ 8 → Filled f 0 r
-filled-none f r e = record { size = e; at = λ p k. absurd (omega arith) }
-
-pub filled-more : (f : ℕ → ℕ) (i : ℕ) (r : List ℕ) (x : ℕ) → i < 8 → Filled f i r → x ≡ f i → Filled f (i + 1) (set r i x)
-filled-more f i r x k F e = record {
-  size = length-set r i x ∙ F .size;
-  at = λ p l. elim (ℕ-discrete p i) [
-    | yes q ↦ rw (q, getD-set-same r i x 0 (omega (arith, F .size))) e
-    | no d ↦ rw (getD-set-other r i p x 0 d) (F .at p (omega arith))
-  ];
-}
 
 -- word i of the checks that contain exactly one of the members and bit d
 abbrev pub loneAt : List ℕ → List ℕ → List ℕ → ℕ → ℕ → ℕ
@@ -67,7 +50,7 @@ module _ (cols x u : List ℕ) (d : ℕ) (ul : (i : ℕ) → getD u i 0 < 2 ^ 64
       bit-lone (getD x i 0) (getD u i 0) (getD cols (d * 8 + i) 0) j (ul i) (dl (d * 8 + i)) l
       ∙ rw (row-word x i j k l, row-word u i j k l, lent-word 8 cols d i j k l)
 
-  pub once-law : (r : List ℕ) → Filled (loneAt cols x u d) 8 r → OnceWith cols x u d r
+  pub once-law : (r : List ℕ) → Filled 8 (loneAt cols x u d) 8 r → OnceWith cols x u d r
   once-law r F = record {
     size = F .size;
     at = λ c l.
@@ -96,7 +79,7 @@ module _ (cols x u : List ℕ) (d : ℕ) (ul : (i : ℕ) → getD u i 0 < 2 ^ 64
               lone-bit i j (omega arith) m ∙ rw (not-true (isLone cols x u d (i * 64 + j)) (all-at (used * 64) _ q (i * 64 + j) (omega arith)), bit-zero j))))
         ]
 
-module _ (cols u : List ℕ) (d : ℕ) (r : List ℕ) (F : Filled (someAt cols u d) 8 r) where
+module _ (cols u : List ℕ) (d : ℕ) (r : List ℕ) (F : Filled 8 (someAt cols u d) 8 r) where
   some-bit : (i j : ℕ) → i < 8 → j < 64 → lent 8 r 0 (i * 64 + j) ≡ (lent 8 u 0 (i * 64 + j) || lent 8 cols d (i * 64 + j))
   some-bit i j k l =
       rw (row-word r i j k l, row-word u i j k l, lent-word 8 cols d i j k l, F .at i k) (bit-or (getD u i 0) (getD cols (d * 8 + i) 0) j)

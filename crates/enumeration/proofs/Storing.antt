@@ -6,8 +6,9 @@ use Prim.Native.Nat.{ℕ, suc, _+_, _≤_, _<_}
 use native.Mathlib.Nat.{add-zero, zero-add}
 use native.Mathlib.Numerals.{add-one}
 use native.Mathlib.Omega.{arith}
+use native.Mathlib.Decide.{ℕ-discrete}
 use lib.ListN.{getD, length, set, take, drop, length-set, length-append}
-use lib.Seq.{sets, length-sets, sets-eq, take-suc, length-take-le, take-append-seam, take-all}
+use lib.Seq.{sets, length-sets, sets-eq, take-suc, length-take-le, take-all, getD-set-same, getD-set-other, getD-take, ext-getD}
 use Rattle.enumeration.specs.Search.{Longer, Put}
 
 pub sets-append : (l : List ℕ) (p : ℕ) (vs us : List ℕ) → sets l p (vs ++ us) ≡ sets (sets l p vs) (p + length vs) us
@@ -23,18 +24,34 @@ copy-next l p i s k =
 pub copy-last : (l : List ℕ) (p : ℕ) (s : List ℕ) (d : ℕ) → set (sets l p s) (p + length s) d ≡ sets l p (s ++ (d ∷ []))
 copy-last l p s d = sym (sets-append l p s (d ∷ []))
 
--- an array that is copied to from its first place on
-pub copied-next : (l : List ℕ) (i : ℕ) (s : List ℕ) → i < length s → set (sets l 0 (take i s)) i (getD s i 0) ≡ sets l 0 (take (i + 1) s)
-copied-next l i s k = sym (rw (zero-add i) at (copy-next l 0 i s k))
+-- the first i of n numbers are those of f
+pub record Filled (n : ℕ) (f : ℕ → ℕ) (i : ℕ) (r : List ℕ) : Type 0 where
+  pub size : length r ≡ n
+  pub at : (p : ℕ) → p < i → getD r p 0 ≡ f p
 
-pub copied-all : (l new s : List ℕ) (d i r : ℕ) → length s ≤ i → new ≡ sets l 0 (take i s) → r ≡ d → length s < length l → length new ≡ 4
-    → Longer s d (set new (length s) r)
-copied-all l new s d i r k e f m g =
-    let a : set new (length s) r ≡ sets l 0 (s ++ (d ∷ [])) = rw (e, take-all i s k, f) (rw (zero-add (length s)) at (copy-last l 0 s d)) in
-    let b : length (s ++ (d ∷ [])) ≡ length s + 1 = length-append s (d ∷ []) in
+pub filled-none : (n : ℕ) (f : ℕ → ℕ) (r : List ℕ) → length r ≡ n → Filled n f 0 r
+filled-none n f r e = record { size = e; at = λ p k. absurd (omega arith) }
+
+pub filled-more : (n : ℕ) (f : ℕ → ℕ) (i : ℕ) (r : List ℕ) (x : ℕ) → i < n → Filled n f i r → x ≡ f i → Filled n f (i + 1) (set r i x)
+filled-more n f i r x k F e = record {
+  size = length-set r i x ∙ F .size;
+  at = λ p l. elim (ℕ-discrete p i) [
+    | yes q ↦ rw (q, getD-set-same r i x 0 (omega (arith, F .size))) e
+    | no d ↦ rw (getD-set-other r i p x 0 d) (F .at p (omega arith))
+  ];
+}
+
+-- the members and one more behind them
+abbrev pub memberAt : List ℕ → ℕ → ℕ → ℕ
+memberAt s d i = getD (s ++ (d ∷ [])) i 0
+
+pub longer-law : (s : List ℕ) (d : ℕ) (r : List ℕ) → length s < 4 → Filled 4 (memberAt s d) 4 r → Longer s d r
+longer-law s d r k F =
+    let e : length (s ++ (d ∷ [])) ≡ length s + 1 = length-append s (d ∷ []) in
+    let t : length (take (length s + 1) r) ≡ length s + 1 = length-take-le (length s + 1) r (omega (arith, F .size)) in
     record {
-      size = length-set new (length s) r ∙ g;
-      front = rw (a, ← b, sets-eq (s ++ (d ∷ [])) l 0 (rw (zero-add (length (s ++ (d ∷ [])))) (omega arith))) (take-append-seam (s ++ (d ∷ [])) _);
+      size = F .size;
+      front = ext-getD 0 (take (length s + 1) r) (s ++ (d ∷ [])) (t ∙ sym e) (λ i l. getD-take (length s + 1) r i 0 (omega arith) ∙ F .at i (omega arith));
     }
 
 pub put-copied : (old new : List ℕ) (p : ℕ) (s : List ℕ) (d i r : ℕ) → length s ≤ i → new ≡ sets old p (take i s) → r ≡ d

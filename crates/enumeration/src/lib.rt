@@ -4,7 +4,7 @@ ghost use mathlib.Core.Path.{_≡_};
 ghost use mathlib.Core.Bool.{true, not};
 ghost use mathlib.Core.List.{[], _∷_, _++_};
 ghost use Prim.Native.Nat.{_+_, _*_, _^_, _≤_, _<_};
-ghost use lib.ListN.{length};
+ghost use lib.ListN.{length, getD};
 ghost use Rattle.parity.specs.Finite.{all};
 ghost use Rattle.parity.specs.Matrix.{lent};
 ghost use Rattle.parity.specs.StoppingSets.{stoppingSets, flat};
@@ -62,17 +62,29 @@ fn member(d: usize) -> u16
     d as u16
 }
 
-// The members and `d` behind them.
+// Place `i` of the members and `d` behind them.
+fn member_at(first: &[u16], d: usize, i: usize) -> u16
+    requires { ⌜ d < 128 ⌝ }
+    ensures { λ r. ⌜ r ≡ getD (now (first .entry) ++ (d ∷ [])) i 0 ⌝ }
+{
+    if i < first.len() {
+        return first[i];
+    }
+    if i == first.len() {
+        return member(d);
+    }
+    0
+}
+
+// The members and `d` behind them. All four places are filled, so that no part of them is copied through memory.
 fn longer(first: &[u16], d: usize) -> [u16; 4]
     requires { ⌜ (length (now first) < 4) × (d < 128) ⌝ }
     ensures { λ r. ⌜ Longer (now (first .entry)) d r ⌝ }
 {
     let mut all = [0u16; 4];
-    let len = first.len();
-    for i in 0..len {
-        all[i] = first[i];
+    for i in 0..4 {
+        all[i] = member_at(first, d, i);
     }
-    all[len] = member(d);
     all
 }
 
@@ -150,7 +162,7 @@ fn list_each(
     place
 }
 
-// The same: where one word holds all checks, their number is known beforehand, and it is quicker.
+// The same: where the number of words is known beforehand, it is quicker. One or two hold the given checks, and eight all.
 fn list_last(
     cols: &[u64],
     n: usize,
@@ -171,6 +183,12 @@ fn list_last(
 {
     if used == 1 {
         return list_each(cols, n, 1, once, some, first, from, sets, at, write);
+    }
+    if used == 2 {
+        return list_each(cols, n, 2, once, some, first, from, sets, at, write);
+    }
+    if used == 8 {
+        return list_each(cols, n, 8, once, some, first, from, sets, at, write);
     }
     list_each(cols, n, used, once, some, first, from, sets, at, write)
 }

@@ -3,30 +3,24 @@ use mathlib.Core.Path.{_≡_, refl}
 use Prim.Native.Nat.{_-_, _≤_}
 use native.Mathlib.Omega.{arith}
 use borrow.Author.Needs.{needs}
-use lib.ListN.{length, take, length-set}
-use lib.Seq.{sets}
-use Rattle.parity.specs.Finite.{all}
-use Rattle.enumeration.proofs.Storing.{copied-next, copied-all}
+use Rattle.enumeration.proofs.Storing.{Filled, filled-none, filled-more, memberAt, longer-law}
 use Rattle.enumeration.proofs.longer.Statement.{statement}
 use Rattle.enumeration.proofs.longer.Tie as tie
 
 abbrev Inv-loop : tie.InvT-loop
-Inv-loop first d all₀ len i₀ all i = (i ≤ len) × (len ≡ length first) × (length all ≡ 4) × (all ≡ sets all₀ 0 (take i first))
+Inv-loop first d all₀ i₀ all i = (i ≤ 4) × Filled 4 (memberAt first d) i all
 
 abbrev μ-loop : tie.MeasureT-loop
-μ-loop first d all₀ len i₀ all i = len - i
+μ-loop first d all₀ i₀ all i = 4 - i
 
 loop-holds : tie.Need-loop-holds Inv-loop μ-loop
-loop-holds c = (omega arith, refl, refl, refl)
+loop-holds c = (omega arith, filled-none _ _ _ refl)
+
+member-at-requires : tie.Need-member-at-requires Inv-loop μ-loop
+member-at-requires c κs = search needs
 
 mul-all : tie.Need-mul-all Inv-loop μ-loop
 mul-all c = omega arith
-
-shared-slice-read-all : tie.Need-shared-slice-read-all Inv-loop μ-loop
-shared-slice-read-all c = omega arith
-
-mul-all-2 : tie.Need-mul-all-2 Inv-loop μ-loop
-mul-all-2 c = omega arith
 
 array-write-all : tie.Need-array-write-all Inv-loop μ-loop
 array-write-all c = omega arith
@@ -40,23 +34,14 @@ loop-less c = omega arith
 loop-again : tie.Need-loop-again Inv-loop μ-loop
 loop-again c =
     let l = c .before .before .loop in
-    let s = c .before .before .before .before in
-    (omega arith, refl, rw length-set (l .inv .2), rw (l .inv .3) (copied-next _ (l .i) (s .args .first .now) (omega arith)))
-
-member-requires : tie.Need-member-requires Inv-loop μ-loop
-member-requires c κs = search needs
-
-mul-all-3 : tie.Need-mul-all-3 Inv-loop μ-loop
-mul-all-3 c = omega arith
-
-array-write-all-2 : tie.Need-array-write-all-2 Inv-loop μ-loop
-array-write-all-2 c = omega arith
+    (omega arith, filled-more _ _ _ _ _ (omega arith) (l .inv .1) (c .member-at .ensures))
 
 returns : tie.Need-returns Inv-loop μ-loop
 returns c =
-    let l = c .before .before .loop in
-    let s = c .before .before .before .before in
-    copied-all _ (l .all) (s .args .first .now) (s .args .d) (l .i) (c .member .result) (omega arith) (l .inv .3) (c .member .ensures) (omega arith) (l .inv .2)
+    let s = c .before .before .before in
+    let l = c .before .loop in
+    let e : l .i ≡ 4 = omega arith in
+    longer-law (s .args .first .now) (s .args .d) _ (omega arith) (rw e at (l .inv .1))
 
 pub longer-spec : {M : Type 1} → statement M
 longer-spec =
@@ -65,14 +50,10 @@ longer-spec =
     Inv-loop
     μ-loop
     loop-holds
+    member-at-requires
     mul-all
-    shared-slice-read-all
-    mul-all-2
     array-write-all
     add-i
     loop-less
     loop-again
-    member-requires
-    mul-all-3
-    array-write-all-2
     returns)

@@ -4,18 +4,19 @@ use Prim.Native.Nat.{_-_, _≤_}
 use native.Mathlib.Omega.{arith}
 use borrow.Author.Needs.{needs}
 use Rattle.parity.specs.Finite.{all}
-use Rattle.enumeration.proofs.Lone.{loneAt, Filled, filled-none, filled-more, once-law}
+use Rattle.enumeration.proofs.Storing.{Filled, filled-none, filled-more}
+use Rattle.enumeration.proofs.Lone.{loneAt, once-law}
 use Rattle.enumeration.proofs.once_with.Statement.{statement}
 use Rattle.enumeration.proofs.once_with.Tie as tie
 
 abbrev Inv-loop : tie.InvT-loop
-Inv-loop cols once some d all₀ i₀ all i = (i ≤ 8) × Filled (loneAt cols once some d) i all
+Inv-loop cols once some d all₀ i₀ all i = (i ≤ 8) × Filled 8 (loneAt cols once some d) i all
 
 abbrev μ-loop : tie.MeasureT-loop
 μ-loop cols once some d all₀ i₀ all i = 8 - i
 
 loop-holds : tie.Need-loop-holds Inv-loop μ-loop
-loop-holds c = (omega arith, filled-none _ _ refl)
+loop-holds c = (omega arith, filled-none _ _ _ refl)
 
 mul-lone-word : tie.Need-mul-lone-word Inv-loop μ-loop
 mul-lone-word c = omega arith
@@ -60,7 +61,7 @@ loop-less c = omega arith
 loop-again : tie.Need-loop-again Inv-loop μ-loop
 loop-again c =
     let l = c .before .before .before .before .before .loop in
-    (omega arith, filled-more _ _ _ _ (omega arith) (l .inv .1) (c .lone-word .ensures))
+    (omega arith, filled-more _ _ _ _ _ (omega arith) (l .inv .1) (c .lone-word .ensures))
 
 returns : tie.Need-returns Inv-loop μ-loop
 returns c =

@@ -3,18 +3,19 @@ use mathlib.Core.Path.{_≡_, refl}
 use Prim.Native.Nat.{_-_, _≤_}
 use native.Mathlib.Omega.{arith}
 use Rattle.parity.specs.Finite.{all}
-use Rattle.enumeration.proofs.Lone.{someAt, Filled, filled-none, filled-more, some-law}
+use Rattle.enumeration.proofs.Storing.{Filled, filled-none, filled-more}
+use Rattle.enumeration.proofs.Lone.{someAt, some-law}
 use Rattle.enumeration.proofs.some_with.Statement.{statement}
 use Rattle.enumeration.proofs.some_with.Tie as tie
 
 abbrev Inv-loop : tie.InvT-loop
-Inv-loop cols some d all₀ i₀ all i = (i ≤ 8) × Filled (someAt cols some d) i all
+Inv-loop cols some d all₀ i₀ all i = (i ≤ 8) × Filled 8 (someAt cols some d) i all
 
 abbrev μ-loop : tie.MeasureT-loop
 μ-loop cols some d all₀ i₀ all i = 8 - i
 
 loop-holds : tie.Need-loop-holds Inv-loop μ-loop
-loop-holds c = (omega arith, filled-none _ _ refl)
+loop-holds c = (omega arith, filled-none _ _ _ refl)
 
 mul-all : tie.Need-mul-all Inv-loop μ-loop
 mul-all c = omega arith
@@ -50,7 +51,7 @@ loop-less c = omega arith
 loop-again : tie.Need-loop-again Inv-loop μ-loop
 loop-again c =
     let l = c .before .before .before .loop in
-    (omega arith, filled-more _ _ _ _ (omega arith) (l .inv .1) refl)
+    (omega arith, filled-more _ _ _ _ _ (omega arith) (l .inv .1) refl)
 
 returns : tie.Need-returns Inv-loop μ-loop
 returns c =

@@ -6,3 +6,4 @@ pub mod Holders
 pub mod Demand3
 pub mod Determined
 pub mod Theorems
+pub mod Block

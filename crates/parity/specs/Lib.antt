@@ -12,5 +12,6 @@ pub mod House
 pub mod Causes
 pub mod Calls
 pub mod Solving
+pub mod Block
 pub mod Promises
 pub mod Mend

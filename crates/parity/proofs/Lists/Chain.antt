@@ -74,7 +74,7 @@ pub other-last : _≡_ {A = ℕ} 0 1 → ⊥
 other-last e = omega arith
 
 -- what an orthogonalise answers, finished or refused 9
-reply-k : (o : Orthogonalised) (k : ℕ) → orthogonaliseK k (orthogonalisedReply o) ≡ o .k
+pub reply-k : (o : Orthogonalised) (k : ℕ) → orthogonaliseK k (orthogonalisedReply o) ≡ o .k
 unfolding orthogonaliseK orthogonalisedReply
 reply-k o k = elim (is (o .finished)) [ is-true e ↦ rw e | is-false e ↦ rw e ]
 

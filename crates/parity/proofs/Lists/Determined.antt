@@ -34,7 +34,7 @@ module _ (given : List ℕ) (n m : ℕ) (a₀ : cause given n m 0 ≡ 0) (s : St
   taken : Taken given n m 0 w
   taken = record { accepted = accepts given n m 0 .0 a₀; word = record { size = rw (add-zero n) size; bytes = λ b l. small b (omega arith) } }
 
-  taken-more : Taken ws n m k more
+  pub taken-more : Taken ws n m k more
   taken-more = record {
     accepted = accepts ws n m k .0 (K .accepted);
     word = record {

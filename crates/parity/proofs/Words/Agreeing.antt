@@ -13,7 +13,8 @@ use Rattle.parity.proofs.Finite.Sums.{is-true, is-false, is, one≤1, a
 use Rattle.parity.proofs.Finite.Bools.{or-else, same-test, beq-same, beq-refl}
 use Rattle.parity.proofs.Splits.Split.{Even, evens}
 use Rattle.parity.proofs.Words.Extend.{inside-cong}
-use Rattle.parity.proofs.Words.Residue.{below, below-at, anySet-of, anySet-at, Solves}
+use Rattle.parity.proofs.Words.Residue.{below, below-at, anySet-of, anySet-at, Solves, solve}
+use Rattle.parity.proofs.Encoding.Dependent.{inside-zero}
 use Rattle.parity.proofs.Words.Peel.{peels-solved, right-value}
 use Rattle.parity.proofs.Words.Steps.{Stage}
 
@@ -129,6 +130,18 @@ module _ (h : Matrix) (N M : ℕ) (w : ℕ → ℕ) where
 
   pub agrees-peels : someAgrees h N M w ≡ true → peels h N M w ≡ true
   agrees-peels e = let (y, a) = some-at e in peels-solved h N M w y (agree-solves y a)
+
+  -- a word that peeling recovers whole is a codeword that agrees,
+  pub whole-agrees : peels h N M w ≡ true → ((b : ℕ) → b < N → erased (peeled h N M w) b ≡ false) → someAgrees h N M w ≡ true
+  unfolding peels peeled
+  whole-agrees p f =
+      let r = residue h N M (erased w) in
+      let (y, t) = anySet-at N _ p in
+      let s = solve h N M (erased w) r (isOne w) y .0 t in
+      some-of y record {
+        even = λ c l. s .even c l (inside-zero h N c r (λ b j q. elim (is (r b)) [ is-false z ↦ z | is-true z ↦ absurd (false≢true (sym (rw z at (f b j)))) ]));
+        known = s .known;
+      }
 
   -- and what peeling recovers is recovered here, with equal values.
   pub peeled-determined : someAgrees h N M w ≡ true → (b : ℕ) → b < N → (peeled h N M w b ≡ 2 → ⊥) → determined h N M w b ≡ peeled h N M w b

@@ -1,6 +1,7 @@
-/* Case C of the specification through the C interface: of 2,2,2,1,1,1,1 the given
- * matrix leaves all three erased bits; orthogonalised, it recovers them and the
- * added bit.
+/* Case C of the specification through the C interface. A collector makes one call,
+ * parity_mend_block, which recovers the three erased bits of 2,2,2,1,1,1,1 in its
+ * second stage. Then the same by hand: the given matrix leaves all three;
+ * orthogonalised, it recovers them and the added bit.
  *
  *   rt staticlib capi
  *   cc -Iinclude -o target/example examples/example.c target/staticlib/libcapi.a
@@ -34,6 +35,7 @@ static void show(const char *matrix, const uint64_t *values)
 int main(void)
 {
     uint64_t values[PARITY_VALUES_MOST];
+    uint8_t received[7] = {2, 2, 2, 1, 1, 1, 1};
     uint8_t given[7] = {2, 2, 2, 1, 1, 1, 1};
     uint8_t word[8] = {2, 2, 2, 1, 1, 1, 1, 2};
     const uint8_t expected[8] = {0, 0, 1, 1, 1, 1, 1, 0};
@@ -46,6 +48,20 @@ int main(void)
         return refused("loading", number);
     n = (size_t)values[0];
     m = (size_t)values[1];
+
+    number = parity_mend_block(words, PARITY_WORDS, n, m, 0, received, sizeof received,
+                               values, PARITY_VALUES_MOST);
+    if (number != PARITY_ANSWER)
+        return refused("mending", number);
+    printf("mended in stage %u, %u recovered:", (unsigned)values[0], (unsigned)values[1]);
+    for (b = 0; b < sizeof received; b++)
+        printf(" %u", (unsigned)received[b]);
+    printf("\n");
+    if (values[0] != 2 || values[1] != 4)
+        return 1;
+    for (b = 0; b < sizeof received; b++)
+        if (received[b] != expected[b])
+            return 1;
 
     number = parity_peel(words, PARITY_WORDS, n, m, 0, given, sizeof given,
                          values, PARITY_VALUES_MOST);

@@ -92,7 +92,7 @@ extern "C" {
 #define PARITY_BYTE 11
 /* Contradiction: checks that cannot be made even. */
 #define PARITY_CONTRADICTION 12
-/* k is above 0 in rank or encoding. */
+/* k is above 0 in rank, encoding or mending. */
 #define PARITY_EXTENDED 13
 /* k = 0: there is nothing to take back. */
 #define PARITY_NOTHING_TO_TAKE_BACK 15
@@ -302,6 +302,27 @@ uint32_t parity_determine(const uint64_t *words, size_t words_len,
                           size_t n, size_t m, size_t k,
                           uint8_t *word, size_t word_len,
                           uint64_t *values, size_t values_len);
+
+/* One door for sample blocks: mends a received word with a matrix with k = 0, and
+ * leaves it as parity_determine does. In up to three stages: (1) it peels; if sent
+ * bits remain, (2) it orthogonalises a copy of its own and peels the received word
+ * with that, all added bits erased; if bits remain, (3) it eliminates on the given
+ * matrix. Where the copy's orthogonalise is refused 9, stage 3 follows at once, and
+ * the copy's peeling counts 0.
+ *
+ * words: read.
+ * word: n bytes of 0, 1 or 2 (erased). An answer writes the bits at which all
+ *   codewords that agree have one value; the others keep 2.
+ * Values of the answer, 2: the last stage to run (1, 2 or 3), whether or not bits
+ *   remain; how many bits the two peelings recovered together, at most 632, a bit
+ *   that both recovered being counted twice.
+ * Refusals: 1, 2, 3, 4, 13, 10; 11 with the place in `word`; 12 exactly when no
+ *   codeword agrees.
+ */
+uint32_t parity_mend_block(const uint64_t *words, size_t words_len,
+                           size_t n, size_t m, size_t k,
+                           uint8_t *word, size_t word_len,
+                           uint64_t *values, size_t values_len);
 
 /* The rank r of a matrix with k = 0: the number of its parity bits. A bit is a
  * parity bit if its column is not a sum modulo 2 of some columns of lower bits.

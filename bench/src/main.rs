@@ -28,6 +28,7 @@ enum Call {
     IsStopping,
     Peel,
     Determine,
+    MendBlock,
     Rank,
     Encode,
     HouseCode,
@@ -68,6 +69,7 @@ fn in_plain(job: &mut Job) -> u32 {
         Call::IsStopping => plain::is_stopping(&job.words, n, m, k, &job.input, values),
         Call::Peel => plain::peel(&job.words, n, m, k, &mut job.word, values),
         Call::Determine => plain::determine(&job.words, n, m, k, &mut job.word, values),
+        Call::MendBlock => plain::mend_block(&job.words, n, m, k, &mut job.word, values),
         Call::Rank => plain::rank(&job.words, n, m, k, values),
         Call::Encode => plain::encode(&job.words, n, m, k, &job.input, &mut job.word, values),
         Call::HouseCode => plain::house_code(job.name, &mut job.words, values),
@@ -102,6 +104,7 @@ fn in_library(job: &mut Job) -> u32 {
             }
             Call::Peel => ffi::parity_peel(words, words_len, n, m, k, word, word_len, values, values_len),
             Call::Determine => ffi::parity_determine(words, words_len, n, m, k, word, word_len, values, values_len),
+            Call::MendBlock => ffi::parity_mend_block(words, words_len, n, m, k, word, word_len, values, values_len),
             Call::Rank => ffi::parity_rank(words, words_len, n, m, k, values, values_len),
             Call::Encode => {
                 ffi::parity_encode(words, words_len, n, m, k, input, input_len, word, word_len, values, values_len)
@@ -134,7 +137,7 @@ fn timed(run: fn(&mut Job) -> u32, job: &Job, scratch: &mut Job, times: u64, clo
     }
     let start = Instant::now();
     for _ in 0..times {
-        if matches!(job.call, Call::Peel | Call::Determine) {
+        if matches!(job.call, Call::Peel | Call::Determine | Call::MendBlock) {
             scratch.word.copy_from_slice(&job.word);
         }
         black_box(run(black_box(scratch)));
@@ -209,6 +212,27 @@ fn in_turn(one: &Job, other: &Job) -> (u64, u64) {
         best_other = best_other.min(timed_on_copies(in_library, other, &mut scratch_other, times, clock));
     }
     (best_one / times, best_other / times)
+}
+
+/// The last stage that mending a block runs.
+fn stage(job: &Job) -> Option<u64> {
+    let mut job = job.clone();
+    (job.call == Call::MendBlock && in_plain(&mut job) == 0).then_some(job.values[0])
+}
+
+/// The best nanoseconds of mending a block and of peeling the same word, both of the library, in turn.
+fn mend_and_peel(mending: &Job) -> (u64, u64) {
+    let mut peeling = mending.clone();
+    peeling.call = Call::Peel;
+    let (mut scratch_mending, mut scratch_peeling) = (mending.clone(), peeling.clone());
+    let once = timed(in_library, &peeling, &mut scratch_peeling, 3, 0) / 3;
+    let times = (RUN_LENGTH / once.max(1)).clamp(3, 10_000);
+    let (mut best_mending, mut best_peeling) = (u64::MAX, u64::MAX);
+    for _ in 0..RUNS {
+        best_mending = best_mending.min(timed(in_library, mending, &mut scratch_mending, times, 0));
+        best_peeling = best_peeling.min(timed(in_library, &peeling, &mut scratch_peeling, times, 0));
+    }
+    (best_mending / times, best_peeling / times)
 }
 
 struct Random(u64);
@@ -419,7 +443,11 @@ fn jobs(r: &mut Random, given: &Case, case: &Case) -> Vec<(String, Job)> {
     eliminated.push(("determine, nothing erased".to_string(), job));
     for (name, mut job) in eliminated {
         job.call = Call::Determine;
-        row(&name, job);
+        row(&name, job.clone());
+        if case.k == 0 {
+            job.call = Call::MendBlock;
+            row(&name.replace("determine", "mend_block"), job);
+        }
     }
     let mut job = case.job(Call::Write);
     job.record = case.record();
@@ -464,6 +492,9 @@ fn table(r: &mut Random, given: &[Case], cases: &[Case]) -> Result<(), String> {
         for column in &columns {
             let (library, plain) = measure(&column[row].1)?;
             line += &cell(library, plain, 1);
+            if let Some(stage) = stage(&column[row].1) {
+                line.insert_str(line.len() - 1, &format!("(stage {stage}) "));
+            }
         }
         println!("{line}");
     }
@@ -473,6 +504,18 @@ fn table(r: &mut Random, given: &[Case], cases: &[Case]) -> Result<(), String> {
         for column in &columns {
             let (back, accept) = in_turn(&column[back].1, &column[accept].1);
             line += &cell(back, accept, 2);
+        }
+        println!("{line}");
+    }
+    for row in (0..columns[0].len()).filter(|&row| columns[0][row].1.call == Call::MendBlock) {
+        let mut line = format!("| {} / peel where stage 1 suffices, both of the library, in turn |", columns[0][row].0);
+        for column in &columns {
+            if stage(&column[row].1) == Some(1) {
+                let (mending, peeling) = mend_and_peel(&column[row].1);
+                line += &cell(mending, peeling, 2);
+            } else {
+                line += " |";
+            }
         }
         println!("{line}");
     }

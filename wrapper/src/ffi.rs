@@ -85,6 +85,13 @@ extern "C" {
         values: *mut u64, values_len: usize,
     ) -> u32;
 
+    pub fn parity_mend_block(
+        words: *const u64, words_len: usize,
+        n: usize, m: usize, k: usize,
+        word: *mut u8, word_len: usize,
+        values: *mut u64, values_len: usize,
+    ) -> u32;
+
     pub fn parity_rank(
         words: *const u64, words_len: usize,
         n: usize, m: usize, k: usize,

@@ -210,6 +210,14 @@ pub struct Determined {
     pub left_added: usize,
 }
 
+/// The answer of [`mend_block`]: the last stage to run (1 peeling, 2 peeling with the orthogonalised copy, 3 elimination), and
+/// how many bits the two peelings recovered together.
+#[derive(Clone, Copy, PartialEq, Eq, Debug)]
+pub struct Mended {
+    pub stage: usize,
+    pub recovered: usize,
+}
+
 /// Room for the values of every call.
 type Values = [u64; VALUES_MOST];
 
@@ -435,6 +443,27 @@ pub fn determine(words: &[u64], n: usize, m: usize, k: usize, word: &mut [u8]) -
         left_sent: v[2] as usize,
         left_added: v[3] as usize,
     })
+}
+
+/// Mends the received word of n bytes with a matrix with k = 0: writes what [`determine`] writes, by peeling, then peeling with
+/// the orthogonalised matrix, then elimination, as far as bits remain. The matrix is left as it is. Refused with
+/// [`Refusal::Contradiction`] exactly when no codeword agrees.
+pub fn mend_block(words: &[u64], n: usize, m: usize, k: usize, word: &mut [u8]) -> Result<Mended, Refusal> {
+    let mut values: Values = [0; VALUES_MOST];
+    let number = unsafe {
+        ffi::parity_mend_block(
+            words.as_ptr(),
+            words.len(),
+            n,
+            m,
+            k,
+            word.as_mut_ptr(),
+            word.len(),
+            values.as_mut_ptr(),
+            values.len(),
+        )
+    };
+    reply(number, values).map(|v| Mended { stage: v[0] as usize, recovered: v[1] as usize })
 }
 
 /// The number of parity bits of a matrix with k = 0.

@@ -1,7 +1,9 @@
 //! Cases A to K of document 01, cases of taking back, determining, the house codes and small stopping sets (document 02), through
 //! the wrapper.
 
-use parity::{Determined, Held, HouseCode, Loaded, Orthogonalised, Peeled, Refusal, Shared, Split, TakenBack, WORDS};
+use parity::{
+    Determined, Held, HouseCode, Loaded, Mended, Orthogonalised, Peeled, Refusal, Shared, Split, TakenBack, WORDS,
+};
 
 /// Checks 0 and 1 held the pair.
 const HELD: Option<Held> = Some(Held { lowest: 0, highest: 1 });
@@ -240,6 +242,50 @@ fn no_codeword_agrees() {
     assert_eq!(word, [2, 2]);
 }
 
+fn mended(stage: usize, recovered: usize) -> Mended {
+    Mended { stage, recovered }
+}
+
+/// One door: C's words by the first and by the second stage; the matrix is left.
+#[test]
+fn c_mended() {
+    let words = c();
+    let mut word = [0, 0, 2, 1, 2, 1, 1];
+    assert_eq!(parity::mend_block(&words, 7, 3, 0, &mut word), Ok(mended(1, 2)));
+    assert_eq!(word, [0, 0, 1, 1, 1, 1, 1]);
+    let mut word = [2, 2, 2, 1, 1, 1, 1];
+    assert_eq!(parity::mend_block(&words, 7, 3, 0, &mut word), Ok(mended(2, 4)));
+    assert_eq!(word, [0, 0, 1, 1, 1, 1, 1]);
+    assert_eq!(words, c());
+}
+
+/// The third stage recovers what the checks determine together, and leaves the rest.
+#[test]
+fn mended_by_elimination() {
+    let words = matrix(&[&[0, 1, 2], &[0, 1, 3], &[2, 3, 4]]);
+    let mut word = [2; 5];
+    assert_eq!(parity::mend_block(&words, 5, 3, 0, &mut word), Ok(mended(3, 0)));
+    assert_eq!(word, [2, 2, 2, 2, 0]);
+    let words = matrix(&[&[0, 1], &[0, 1, 2]]);
+    let mut word = [2, 2, 0];
+    assert_eq!(parity::mend_block(&words, 3, 2, 0, &mut word), Ok(mended(3, 1)));
+    assert_eq!(word, [2, 2, 0]);
+}
+
+/// Words that the first peeling refuses, that only the second does, and that only elimination does.
+#[test]
+fn no_codeword_to_mend() {
+    let refused = |checks: &[&[usize]], received: &[u8]| {
+        let mut word = received.to_vec();
+        let refusal = parity::mend_block(&matrix(checks), received.len(), checks.len(), 0, &mut word);
+        assert_eq!(refusal, Err(Refusal::Contradiction));
+        assert_eq!(word, received);
+    };
+    refused(&[&[0], &[0, 1]], &[2, 1]);
+    refused(&[&[0, 1, 2], &[0, 1, 3], &[2, 3, 4]], &[2, 2, 0, 1, 1]);
+    refused(&[&[0, 1], &[1, 2], &[0, 2, 3]], &[2, 2, 2, 1]);
+}
+
 #[test]
 fn g_and_h() {
     let mut words = c();
@@ -397,6 +443,11 @@ fn refusals() {
     assert_eq!(parity::determine(&words, 7, 3, 0, &mut word[1..]), Err(Refusal::Length));
     assert_eq!(parity::determine(&words, 7, 3, 0, &mut word), Err(Refusal::Byte { place: 3 }));
     assert_eq!(parity::determine(&words, 7, 3, 1, &mut word), Err(Refusal::RuleA));
+    assert_eq!(parity::mend_block(&words[1..], 7, 3, 0, &mut word), Err(Refusal::MatrixLength));
+    assert_eq!(parity::mend_block(&words, 7, 3, 0, &mut word[1..]), Err(Refusal::Length));
+    assert_eq!(parity::mend_block(&words, 7, 3, 0, &mut word), Err(Refusal::Byte { place: 3 }));
+    assert_eq!(parity::mend_block(&words, 7, 3, 1, &mut word), Err(Refusal::RuleA));
+    assert_eq!(parity::mend_block(&matrix(&[&[0, 1, 2]]), 2, 0, 1, &mut word), Err(Refusal::Extended));
     assert_eq!(word, [2, 0, 0, 4, 0, 3, 0]);
     let mut words = c();
     assert_eq!(parity::take_back(&mut words[1..], 7, 3, 1), Err(Refusal::MatrixLength));

@@ -3,6 +3,7 @@
 use parity::Bit;
 ghost use mathlib.Core.Path.{_≡_};
 ghost use Rattle.parity.specs.Calls.{loadOutcome, writeOutcome, shareReply, countReply, splitOutcome, takeBackOutcome, orthogonaliseOutcome, verifyReply, extendOutcome, isStoppingReply, peelOutcome, rankReply, encodeOutcome, houseOutcome, determineOutcome, stoppingSetsOutcome};
+ghost use Rattle.parity.specs.Block.{blockOutcome};
 ghost use Rattle.reply.specs.Passed.{Passed};
 
 // Carries n, m and k.
@@ -208,6 +209,24 @@ pub extern "C" fn parity_determine(
 {
     let determining = determine::determine(words, n, m, k, word);
     let numbered = reply::determining(determining);
+    reply::pass(numbered, values)
+}
+
+// Carries the last stage to run, and how many bits the two peelings recovered together.
+#[no_mangle]
+pub extern "C" fn parity_mend_block(
+    words: &[u64],
+    n: usize,
+    m: usize,
+    k: usize,
+    word: &mut [u8],
+    values: &mut [u64],
+) -> u32
+    ensures { λ r. ⌜ Passed (blockOutcome (now (words .entry)) n m k (now (word .entry)) .reply) (now (values .entry)) (now (values .exit)) r ⌝ }
+    ensures { λ r. ⌜ now (word .exit) ≡ blockOutcome (now (words .entry)) n m k (now (word .entry)) .after ⌝ }
+{
+    let mending = block::mend_block(words, n, m, k, word);
+    let numbered = reply::mending(mending);
     reply::pass(numbered, values)
 }
 

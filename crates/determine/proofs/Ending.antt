@@ -5,9 +5,9 @@ use mathlib.Core.List.{List, [], _∷_}
 use Prim.Native.Nat.{ℕ, _+_, _*_, _-_, _≤_, _<_}
 use native.Mathlib.Omega.{arith}
 use lib.ListN.{length}
-use borrow.Author.Tests.{lt-ltb, eqb-true, eqb-false, ne-eqb}
+use borrow.Author.Tests.{lt-ltb, eqb-true, eqb-false, ne-eqb, eq-eqb}
 use Rattle.parity.specs.Finite.{one, listFrom}
-use Rattle.parity.specs.Matrix.{Matrix, lent}
+use Rattle.parity.specs.Matrix.{Matrix, lent, cause}
 use Rattle.parity.specs.Words.{erased, isOne}
 use Rattle.parity.specs.Determining.{someAgrees, determined}
 use Rattle.parity.specs.Causes.{answer, refusal, refusalOf}
@@ -19,9 +19,10 @@ use Rattle.parity.proofs.Words.Agreeing.{agree-stage, known-value, some-same, d
 use Rattle.parity.proofs.Words.Bytes.{right-bytes}
 use Rattle.parity.proofs.Words.Peeling.{losses-same}
 use Rattle.parity.proofs.Causes.Refused.{refused-number}
+use Rattle.parity.proofs.Matrix.Accept.{accepting-answers}
 use Rattle.word.specs.Answers.{admitReply}
 use Rattle.word.specs.Sets.{SetOf}
-use Rattle.word.proofs.Told.{behind, refused}
+use Rattle.word.proofs.Told.{refused}
 use Rattle.steps.specs.Steps.{held, Settled, filled}
 use Rattle.steps.proofs.Held.{erased-held, Held}
 use Rattle.peel.specs.Losses.{Counted}
@@ -110,6 +111,6 @@ module _ (ws : List ℕ) (n m k : ℕ) (w : List ℕ) where
       let f : refusalOf r ≡ determineReply ws n m k w = unfold determineReply in refused ws n m k w 2 r e _ in
       (f, rw (← f, ne-eqb (refusalOf r .number) 0 (refused-number r)))
 
-  pub outcome-word : answer [] ≡ admitReply ws n m k w 2 → determineOutcome ws n m k w ≡ wordOutcome (lent 8 ws) n k (m + k) w
+  pub outcome-word : cause ws n m k ≡ 0 → length w ≡ n + k → wrongByte 2 w ≡ false → determineOutcome ws n m k w ≡ wordOutcome (lent 8 ws) n k (m + k) w
   unfolding determineOutcome determineReply wordOutcome wordReply
-  outcome-word e = rw (behind ws n m k w 2 e)
+  outcome-word a l e = rw (accepting-answers ws n m k _ a, eq-eqb (length w) (n + k) l, e)

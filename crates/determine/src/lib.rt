@@ -13,7 +13,7 @@ ghost use mathlib.Core.Bool.{false};
 ghost use mathlib.Core.List.{[], _∷_};
 ghost use Prim.Native.Nat.{_+_, _-_, _≤_, _<_};
 ghost use lib.ListN.{length};
-ghost use Rattle.parity.specs.Matrix.{lent};
+ghost use Rattle.parity.specs.Matrix.{lent, cause};
 ghost use Rattle.parity.specs.Causes.{answer};
 ghost use Rattle.parity.specs.Calls.{wrongByte, determineOutcome};
 ghost use Rattle.determine.specs.Answers.{determiningReply, wordOutcome};
@@ -74,6 +74,21 @@ fn determine_word(words: &[u64], n: usize, k: usize, checks: usize, word: &mut [
     made(before, left)
 }
 
+// Determines a word that no cause before 12 refuses.
+pub fn determine_admitted(
+    words: &[u64],
+    n: usize,
+    m: usize,
+    k: usize,
+    word: &mut [u8],
+) -> Determining
+    requires { ⌜ (cause (now words) n m k ≡ 0) × (length (now word) ≡ n + k) × (wrongByte 2 (now word) ≡ false) ⌝ }
+    ensures { λ r. ⌜ determiningReply r ≡ determineOutcome (now (words .entry)) n m k (now (word .entry)) .reply ⌝ }
+    ensures { λ r. ⌜ now (word .exit) ≡ determineOutcome (now (words .entry)) n m k (now (word .entry)) .after ⌝ }
+{
+    determine_word(words, n, k, m + k, word)
+}
+
 // Determines a word: each bit at which all codewords that agree with it have one value gets this value, and the others keep 2.
 pub fn determine(words: &[u64], n: usize, m: usize, k: usize, word: &mut [u8]) -> Determining
     ensures { λ r. ⌜ determiningReply r ≡ determineOutcome (now (words .entry)) n m k (now (word .entry)) .reply ⌝ }
@@ -82,6 +97,6 @@ pub fn determine(words: &[u64], n: usize, m: usize, k: usize, word: &mut [u8]) -
     let admission = admit(words, n, m, k, word, 2);
     match admission {
         Admission::Refused(r) => Determining::Refused(r),
-        Admission::Admitted => determine_word(words, n, k, m + k, word),
+        Admission::Admitted => determine_admitted(words, n, m, k, word),
     }
 }

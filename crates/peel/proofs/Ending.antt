@@ -7,9 +7,9 @@ use native.Mathlib.Omega.{arith}
 use native.Mathlib.Decide.{decLt}
 use lib.Dec.{eqb}
 use lib.ListN.{length, List·getD-eq-default}
-use borrow.Author.Tests.{lt-ltb, le-ltb, eqb-true, ne-eqb}
+use borrow.Author.Tests.{lt-ltb, le-ltb, eqb-true, ne-eqb, eq-eqb}
 use Rattle.parity.specs.Finite.{one, count, listFrom}
-use Rattle.parity.specs.Matrix.{Matrix, lent}
+use Rattle.parity.specs.Matrix.{Matrix, lent, cause}
 use Rattle.parity.specs.Words.{erased, peels, peeled, recovered, losses}
 use Rattle.parity.specs.Causes.{answer, refusal, refusalOf}
 use Rattle.parity.specs.Calls.{byteOf, wrongByte, peelReply, peelOutcome}
@@ -21,8 +21,9 @@ use Rattle.parity.proofs.Words.Peeling.{losses-same}
 use Rattle.parity.proofs.Words.Steps.{stage-start, Ended}
 use Rattle.parity.proofs.Words.Bytes.{right-bytes}
 use Rattle.parity.proofs.Causes.Refused.{refused-number}
+use Rattle.parity.proofs.Matrix.Accept.{accepting-answers}
 use Rattle.word.specs.Answers.{admitReply}
-use Rattle.word.proofs.Told.{behind, refused}
+use Rattle.word.proofs.Told.{refused}
 use Rattle.word.specs.Sets.{SetOf}
 use Rattle.steps.specs.Steps.{held, Settled, agreeing, filled, Short}
 use Rattle.peel.specs.Answers.{wordReply, wordOutcome}
@@ -159,6 +160,6 @@ module _ (ws : List ℕ) (n m k : ℕ) (w : List ℕ) where
       let f : refusalOf r ≡ peelReply ws n m k w = unfold peelReply in refused ws n m k w 2 r e _ in
       (f, rw (← f, ne-eqb (refusalOf r .number) 0 (refused-number r)))
 
-  pub outcome-word : answer [] ≡ admitReply ws n m k w 2 → peelOutcome ws n m k w ≡ wordOutcome (lent 8 ws) n k (m + k) w
+  pub outcome-word : cause ws n m k ≡ 0 → length w ≡ n + k → wrongByte 2 w ≡ false → peelOutcome ws n m k w ≡ wordOutcome (lent 8 ws) n k (m + k) w
   unfolding peelOutcome peelReply wordOutcome wordReply
-  outcome-word e = rw (behind ws n m k w 2 e)
+  outcome-word a l e = rw (accepting-answers ws n m k _ a, eq-eqb (length w) (n + k) l, e)

@@ -15,7 +15,7 @@ ghost use mathlib.Core.Bool.{false};
 ghost use mathlib.Core.List.{[], _∷_};
 ghost use Prim.Native.Nat.{_+_, _-_, _≤_, _<_};
 ghost use lib.ListN.{length};
-ghost use Rattle.parity.specs.Matrix.{lent};
+ghost use Rattle.parity.specs.Matrix.{lent, cause};
 ghost use Rattle.parity.specs.Causes.{answer};
 ghost use Rattle.parity.specs.Calls.{wrongByte, peelOutcome};
 ghost use Rattle.peel.specs.Answers.{peelingReply, wordOutcome};
@@ -63,6 +63,15 @@ fn peel_word(words: &[u64], n: usize, k: usize, checks: usize, word: &mut [u8]) 
     made(before, left)
 }
 
+// Peels a word that no cause before 12 refuses.
+pub fn peel_admitted(words: &[u64], n: usize, m: usize, k: usize, word: &mut [u8]) -> Peeling
+    requires { ⌜ (cause (now words) n m k ≡ 0) × (length (now word) ≡ n + k) × (wrongByte 2 (now word) ≡ false) ⌝ }
+    ensures { λ r. ⌜ peelingReply r ≡ peelOutcome (now (words .entry)) n m k (now (word .entry)) .reply ⌝ }
+    ensures { λ r. ⌜ now (word .exit) ≡ peelOutcome (now (words .entry)) n m k (now (word .entry)) .after ⌝ }
+{
+    peel_word(words, n, k, m + k, word)
+}
+
 // Peels a word: each bit that checks with exactly one erased bit lead to is recovered, and the residue keeps 2.
 pub fn peel(words: &[u64], n: usize, m: usize, k: usize, word: &mut [u8]) -> Peeling
     ensures { λ r. ⌜ peelingReply r ≡ peelOutcome (now (words .entry)) n m k (now (word .entry)) .reply ⌝ }
@@ -71,6 +80,6 @@ pub fn peel(words: &[u64], n: usize, m: usize, k: usize, word: &mut [u8]) -> Pee
     let admission = admit(words, n, m, k, word, 2);
     match admission {
         Admission::Refused(r) => Peeling::Refused(r),
-        Admission::Admitted => peel_word(words, n, k, m + k, word),
+        Admission::Admitted => peel_admitted(words, n, m, k, word),
     }
 }

@@ -1,4 +1,5 @@
 // Each call's answer, or its refusal, as document 01's number and values, and passing these to a caller in C.
+use block::Mending;
 use cycles::Counting;
 use cycles::Sharing;
 use determine::Determining;
@@ -32,6 +33,7 @@ ghost use Rattle.determine.specs.Answers.{determiningReply};
 ghost use Rattle.encode.specs.Answers.{rankingReply, encodingReply};
 ghost use Rattle.house.specs.Answers.{copyingReply};
 ghost use Rattle.stopping_sets.specs.Answers.{listingReply};
+ghost use Rattle.block.specs.Answers.{mendingReply};
 ghost use Rattle.reply.specs.Passed.{numberedReply, Passed, filled};
 
 // A number and the values that it carries.
@@ -289,6 +291,16 @@ pub fn listing(answer: Listing) -> Numbered
     match answer {
         Listing::Listed { sets } => Numbered::One(0, sets as u64),
         Listing::Refused(why) => refused(why),
+    }
+}
+
+// What mending a block answers.
+pub fn mending(answer: Mending) -> Numbered
+    ensures { λ r. ⌜ numberedReply r ≡ mendingReply answer ⌝ }
+{
+    match answer {
+        Mending::Made { stage, recovered } => Numbered::Two(0, stage, recovered),
+        Mending::Refused(why) => refused(why),
     }
 }
 

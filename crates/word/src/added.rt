@@ -1,24 +1,15 @@
 // Extending: the sent bits, and then each added bit as the sum modulo 2 of the two lower bits of its added check.
+use crate::bytes::copy_front;
 use parity::Check;
 use rows::ones::next_one;
 ghost use mathlib.Core.Path.{_≡_};
-ghost use Prim.Native.Nat.{_+_, _<_, _≤_};
+ghost use Prim.Native.Nat.{_+_, _<_};
 ghost use lib.ListN.{length};
 ghost use Rattle.parity.specs.Finite.{one};
 ghost use Rattle.parity.specs.Matrix.{lent, cause};
 ghost use Rattle.parity.specs.Words.{isOne, inside, odd};
 ghost use Rattle.parity.specs.Calls.{byteOf};
-ghost use Rattle.word.specs.Added.{Copied, ExtendedTo, Bits, extendedBytes};
-
-// The sent bytes are copied to the front of the word.
-fn copy_sent(sent: &[u8], word: &mut [u8])
-    requires { ⌜ length (now sent) ≤ length (now word) ⌝ }
-    ensures { λ r. ⌜ Copied (now (sent .entry)) (length (now (sent .entry))) (now (word .exit)) ⌝ }
-{
-    for b in 0..sent.len() {
-        word[b] = sent[b];
-    }
-}
+ghost use Rattle.word.specs.Added.{ExtendedTo, Bits, extendedBytes};
 
 // The sum modulo 2 of the two lower bits of added check `m + j`.
 fn added_bit(words: &[u64], n: usize, m: usize, k: usize, j: usize, word: &[u8]) -> u8
@@ -46,6 +37,6 @@ pub fn write_word(words: &[u64], n: usize, m: usize, k: usize, sent: &[u8], word
     requires { ⌜ (cause (now words) n m k ≡ 0) × (length (now word) ≡ n + k) × (length (now sent) ≡ n) × Bits (now sent) n ⌝ }
     ensures { λ r. ⌜ now (word .exit) ≡ extendedBytes (lent 8 (now (words .entry))) n m k (now (sent .entry)) ⌝ }
 {
-    copy_sent(sent, word);
+    copy_front(sent, word);
     add_bits(words, n, m, k, word);
 }

@@ -1,5 +1,8 @@
-// The bytes of a word or a set: the lowest above the values named.
+// The bytes of a word or a set: the lowest above the values named, and copying.
 ghost use mathlib.Core.Path.{_≡_};
+ghost use mathlib.Core.List.{_++_};
+ghost use Prim.Native.Nat.{_≤_};
+ghost use lib.ListN.{length, drop};
 ghost use Rattle.parity.specs.Calls.{wrongPlace};
 
 // The lowest place whose byte is above `top`, and the length if there is none.
@@ -14,4 +17,14 @@ pub fn first_above(bytes: &[u8], top: u8) -> usize
         i += 1;
     }
     i
+}
+
+// Some bytes are copied to the front of others.
+pub fn copy_front(from: &[u8], to: &mut [u8])
+    requires { ⌜ length (now from) ≤ length (now to) ⌝ }
+    ensures { λ _. ⌜ now (to .exit) ≡ now (from .entry) ++ drop (length (now (from .entry))) (now (to .entry)) ⌝ }
+{
+    for b in 0..from.len() {
+        to[b] = from[b];
+    }
 }

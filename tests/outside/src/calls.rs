@@ -127,7 +127,7 @@ impl Pools {
             Added::Any => true,
         };
         let class = r.below(1000);
-        let orthogonalising = kind == Kind::Orthogonalise;
+        let orthogonalising = matches!(kind, Kind::Orthogonalise | Kind::MendBlock);
         if class < 12 {
             let from: Vec<&Sample> = self.full.iter().filter(fits).collect();
             return (*r.pick(&from)).clone();
@@ -148,7 +148,7 @@ impl Pools {
         } else {
             generate::small_given(r)
         };
-        if matches!(kind, Kind::Verify | Kind::Peel | Kind::Determine) {
+        if matches!(kind, Kind::Verify | Kind::Peel | Kind::Determine | Kind::MendBlock) {
             Sample::new(matrix)
         } else {
             Sample { matrix, basis: Vec::new() }
@@ -246,7 +246,7 @@ fn good(r: &mut Random, kind: Kind, sample: &Sample) -> Lent {
             }
             lent.input = set.into_iter().map(|one| one as u8).collect();
         }
-        Kind::Peel | Kind::Determine => {
+        Kind::Peel | Kind::Determine | Kind::MendBlock => {
             lent.word = elimination::combine(&sample.basis, bits, || r.chance(500));
             erase(r, &mut lent.word, matrix.n);
         }
@@ -313,6 +313,9 @@ fn damages(kind: Kind) -> Vec<Damage> {
         Kind::Verify | Kind::Extend | Kind::IsStopping => &[Lengths, Lengths, Bytes, Bytes, Bytes],
         Kind::Peel | Kind::Determine => {
             &[Lengths, Lengths, Bytes, Bytes, Contradiction, Contradiction, Contradiction, Contradiction]
+        }
+        Kind::MendBlock => {
+            &[Extended, Extended, Lengths, Lengths, Bytes, Bytes, Contradiction, Contradiction, Contradiction]
         }
         Kind::Rank => &[Extended, Extended],
         Kind::Encode => &[Extended, Lengths, Lengths, Bytes, Bytes],
@@ -594,7 +597,7 @@ fn apply(r: &mut Random, damage: Damage, matrix: &Matrix, lent: &mut Lent) {
         Damage::LowShare => (lent.u, lent.v) = (r.below(matrix.bits()), r.below(matrix.bits())),
         Damage::Lengths => match lent.kind {
             Kind::Verify | Kind::IsStopping => resized(r, &mut lent.input, matrix),
-            Kind::Peel | Kind::Determine => resized(r, &mut lent.word, matrix),
+            Kind::Peel | Kind::Determine | Kind::MendBlock => resized(r, &mut lent.word, matrix),
             _ => {
                 let both = r.below(3);
                 if both != 1 {
@@ -606,7 +609,7 @@ fn apply(r: &mut Random, damage: Damage, matrix: &Matrix, lent: &mut Lent) {
             }
         },
         Damage::Bytes => match lent.kind {
-            Kind::Peel | Kind::Determine => bad_bytes(r, &mut lent.word, 2),
+            Kind::Peel | Kind::Determine | Kind::MendBlock => bad_bytes(r, &mut lent.word, 2),
             Kind::Verify => bad_bytes(r, &mut lent.input, 2),
             _ => bad_bytes(r, &mut lent.input, 1),
         },
@@ -645,7 +648,7 @@ fn apply(r: &mut Random, damage: Damage, matrix: &Matrix, lent: &mut Lent) {
 }
 
 fn one_call(r: &mut Random, kind: Kind, pools: &Pools) -> Lent {
-    let zero = matches!(kind, Kind::Rank | Kind::Encode);
+    let zero = matches!(kind, Kind::Rank | Kind::Encode | Kind::MendBlock);
     let usual = match kind {
         Kind::TakeBack => Added::Some,
         _ if zero => Added::None,
@@ -699,13 +702,18 @@ fn one_call(r: &mut Random, kind: Kind, pools: &Pools) -> Lent {
     lent
 }
 
-/// A call of rank or encode with k above 0.
+/// A call of rank, encode or mend_block with k above 0.
 fn lend_extended(r: &mut Random, kind: Kind, matrix: &Matrix) -> Lent {
     let mut lent = cases::lend(kind, matrix);
     match kind {
         Kind::Encode => {
             lent.input = r.bits(matrix.n - matrix.n.min(matrix.m));
             lent.word = r.bytes(matrix.n);
+        }
+        Kind::MendBlock => {
+            let length = r.pick(&[matrix.n, matrix.bits()]);
+            lent.word = r.bits(length);
+            erase(r, &mut lent.word, matrix.n);
         }
         _ => {}
     }
@@ -832,6 +840,8 @@ struct Tally {
     no: usize,
     /// Peelings and determinings that recover some sent bits and leave others, and those that do so in the added bits.
     partly: [usize; 2],
+    /// Mended blocks by the stage named.
+    stages: [usize; 3],
 }
 
 /// The kinds named, or all; prints a line for each, and gives the number of comparisons.
@@ -860,6 +870,9 @@ pub fn run(named: &[Kind]) -> Result<usize, String> {
                     for added in 0..2 {
                         tally.partly[added] += (reply.values[added] > 0 && reply.values[2 + added] > 0) as usize;
                     }
+                }
+                if kind == Kind::MendBlock {
+                    tally.stages[reply.values[0] as usize - 1] += 1;
                 }
             } else {
                 tally.refusals[reply.number as usize] += 1;
@@ -895,6 +908,9 @@ pub fn run(named: &[Kind]) -> Result<usize, String> {
         if kind == Kind::TakeBack {
             println!("    taken back with s = 0: {}, with s = 1: {}", tally.no, tally.yes);
         }
+        if kind == Kind::MendBlock {
+            println!("    by stage: {:?}", tally.stages);
+        }
         // The inputs are good and bad in about equal parts, and every refusal was met.
         let yes_no = matches!(kind, Kind::Verify | Kind::IsStopping);
         let few = kind.refusals().iter().any(|&no| tally.refusals[no as usize] < 100)
@@ -902,7 +918,8 @@ pub fn run(named: &[Kind]) -> Result<usize, String> {
             || tally.answers > CALLS * 3 / 5
             || yes_no && (tally.yes < 1000 || tally.no < 1000)
             || kind == Kind::TakeBack && (tally.yes < 200 || tally.no < 200 || tally.refusals[16] < 500)
-            || matches!(kind, Kind::Peel | Kind::Determine) && (tally.partly[0] < 1000 || tally.partly[1] < 500);
+            || matches!(kind, Kind::Peel | Kind::Determine) && (tally.partly[0] < 1000 || tally.partly[1] < 500)
+            || kind == Kind::MendBlock && tally.stages.iter().any(|&number| number < 300);
         if few {
             return Err(format!("the inputs of {} are too much alike: a fault of this program", kind.name()));
         }

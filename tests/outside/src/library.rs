@@ -84,6 +84,9 @@ pub fn call(lent: &mut Lent, values: &mut [u64]) -> Result<u32, String> {
                 Kind::Determine => {
                     ffi::parity_determine(words_ptr, words_len, n, m, k, word_ptr, word_len, values_ptr, values_len)
                 }
+                Kind::MendBlock => {
+                    ffi::parity_mend_block(words_ptr, words_len, n, m, k, word_ptr, word_len, values_ptr, values_len)
+                }
                 Kind::Rank => ffi::parity_rank(words_ptr, words_len, n, m, k, values_ptr, values_len),
                 Kind::Encode => ffi::parity_encode(
                     words_ptr, words_len, n, m, k, input_ptr, input_len, word_ptr, word_len, values_ptr, values_len,

@@ -1,10 +1,11 @@
 //! Tests of the library from outside. `outside` runs all parts; `outside model`, `calls`, `losses`, `records`,
-//! `taking_back`, `holders`, `determining`, `solving`, `sets`, `stack`, `demand3`, `codes`, `mend` run the parts named, and the name of a call, as `outside peel`, runs that kind of
+//! `taking_back`, `holders`, `determining`, `solving`, `sets`, `blocks`, `stack`, `demand3`, `codes`, `mend` run the parts named, and the name of a call, as `outside peel`, runs that kind of
 //! call alone. Ends with a status that is not 0 at the first difference, with the whole input that shows it.
 //! OUTSIDE_LAST=FILE keeps the input of the last call in FILE.
 
 #![allow(clippy::needless_range_loop)]
 
+mod blocks;
 mod calls;
 mod cases;
 mod codes;
@@ -29,7 +30,7 @@ use model::{Kind, KINDS};
 use std::process::ExitCode;
 use std::time::Instant;
 
-const PARTS: [&str; 13] = [
+const PARTS: [&str; 14] = [
     "model",
     "calls",
     "losses",
@@ -39,6 +40,7 @@ const PARTS: [&str; 13] = [
     "determining",
     "solving",
     "sets",
+    "blocks",
     "stack",
     "demand3",
     "codes",
@@ -80,6 +82,7 @@ fn run(part: &str, kinds: &[Kind]) -> Result<Outcome, String> {
         "determining" => noted(determining::run()),
         "solving" => noted(solving::run()),
         "sets" => noted(sets::run()),
+        "blocks" => noted(blocks::run()),
         "stack" => noted(stack::run()),
         "demand3" => noted(demand3::run()),
         "codes" => noted(codes::run()),

@@ -258,7 +258,7 @@ module _ (ws : List ℕ) (n m : ℕ) (w : List ℕ) (T : Taken ws n m 0 w) where
       ]
 
   -- The call, where no cause before 12 refuses.
-  block-given : blockOutcome ws n m 0 w ≡ peelingGiven ws n m w
+  pub block-given : blockOutcome ws n m 0 w ≡ peelingGiven ws n m w
   unfolding accepting blockOutcome
   block-given =
       let o = peelingGiven ws n m w in

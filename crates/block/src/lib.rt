@@ -1,0 +1,145 @@
+// One door for sample blocks: a received word is mended with a matrix without added bits, in up to three stages.
+use determine::Determining;
+use determine::determine_admitted;
+use extended::CopyPeeling;
+use extended::peel_extended;
+use matrix::Accepting;
+use matrix::accept;
+use parity::Refusal;
+use peel::Peeling;
+use peel::peel_admitted;
+use word::Admission;
+use word::admit;
+use word::bytes::copy_front;
+ghost use mathlib.Core.Path.{_≡_};
+ghost use mathlib.Core.Bool.{false};
+ghost use mathlib.Core.List.{_++_};
+ghost use Prim.Native.Nat.{_-_, _≤_, _<_};
+ghost use lib.ListN.{length, replicate};
+ghost use Rattle.parity.specs.Matrix.{cause};
+ghost use Rattle.parity.specs.Calls.{wrongByte};
+ghost use Rattle.parity.specs.Block.{eliminating, peelingCopy, peelingGiven, blockOutcome};
+ghost use Rattle.block.specs.Answers.{mendingReply, Refusing};
+
+// What mending answers: the last stage to run, and how many bits the two peelings recovered together.
+pub enum Mending {
+    Made { stage: u64, recovered: u64 },
+    Refused(Refusal),
+}
+
+// As many erased bits as a word can have.
+fn erased_word() -> [u8; 512]
+    ensures { λ r. ⌜ r ≡ replicate 512 2 ⌝ }
+{
+    [2u8; 512]
+}
+
+// Stage 3: elimination on the given matrix.
+fn eliminate(words: &[u64], n: usize, m: usize, word: &mut [u8], recovered: u64) -> Mending
+    requires { ⌜ (cause (now words) n m 0 ≡ 0) × (length (now word) ≡ n) × (wrongByte 2 (now word) ≡ false) ⌝ }
+    ensures { λ r. ⌜ mendingReply r ≡ eliminating (now (words .entry)) n m (now (word .entry)) recovered .reply ⌝ }
+    ensures { λ r. ⌜ now (word .exit) ≡ eliminating (now (words .entry)) n m (now (word .entry)) recovered .after ⌝ }
+{
+    match determine_admitted(words, n, m, 0, word) {
+        Determining::Refused(r) => Mending::Refused(r),
+        Determining::Made {
+            recovered_sent: _,
+            recovered_added: _,
+            left_sent: _,
+            left_added: _,
+        } => Mending::Made {
+            stage: 3,
+            recovered,
+        },
+    }
+}
+
+// Stage 2: the orthogonalised copy is peeled from the received word, which `longer` has with bytes of 2 behind it; if bits remain, or if there is no
+// copy, stage 3 follows.
+fn peel_copy(
+    words: &[u64],
+    n: usize,
+    m: usize,
+    word: &mut [u8],
+    longer: &mut [u8],
+    recovered: u64,
+) -> Mending
+    requires { ⌜ (cause (now words) n m 0 ≡ 0) × (length (now word) ≡ n) × (wrongByte 2 (now word) ≡ false) × (now longer ≡ now word ++ replicate (512 - n) 2) × (recovered ≤ n) ⌝ }
+    ensures { λ r. ⌜ mendingReply r ≡ peelingCopy (now (words .entry)) n m (now (word .entry)) recovered .reply ⌝ }
+    ensures { λ r. ⌜ now (word .exit) ≡ peelingCopy (now (words .entry)) n m (now (word .entry)) recovered .after ⌝ }
+{
+    match peel_extended(words, n, m, longer) {
+        CopyPeeling::NoRoom => eliminate(words, n, m, word, recovered),
+        CopyPeeling::Refused(r) => Mending::Refused(r),
+        CopyPeeling::Made {
+            recovered: more,
+            left,
+        } => {
+            let both = recovered + more;
+            if left != 0 {
+                return eliminate(words, n, m, word, both);
+            }
+            copy_front(&longer[..n], word);
+            Mending::Made {
+                stage: 2,
+                recovered: both,
+            }
+        }
+    }
+}
+
+// Stage 1: the given matrix is peeled; if sent bits remain, stage 2 follows, from the received word.
+fn peel_given(words: &[u64], n: usize, m: usize, word: &mut [u8]) -> Mending
+    requires { ⌜ (cause (now words) n m 0 ≡ 0) × (length (now word) ≡ n) × (wrongByte 2 (now word) ≡ false) ⌝ }
+    ensures { λ r. ⌜ mendingReply r ≡ peelingGiven (now (words .entry)) n m (now (word .entry)) .reply ⌝ }
+    ensures { λ r. ⌜ now (word .exit) ≡ peelingGiven (now (words .entry)) n m (now (word .entry)) .after ⌝ }
+{
+    let mut longer = erased_word();
+    copy_front(word, &mut longer);
+    let mut first = longer;
+    match peel_admitted(words, n, m, 0, &mut first[..n]) {
+        Peeling::Refused(r) => Mending::Refused(r),
+        Peeling::Made {
+            recovered_sent,
+            recovered_added,
+            left_sent,
+            left_added: _,
+        } => {
+            let recovered = recovered_sent + recovered_added;
+            if left_sent != 0 {
+                return peel_copy(words, n, m, word, &mut longer, recovered);
+            }
+            copy_front(&first[..n], word);
+            Mending::Made {
+                stage: 1,
+                recovered,
+            }
+        }
+    }
+}
+
+// Refuses a matrix with added bits, by causes 1 to 4 and else by 13.
+fn refuse_added(words: &[u64], n: usize, m: usize, k: usize) -> Mending
+    requires { ⌜ 0 < k ⌝ }
+    ensures { λ r. ⌜ Refusing (now (words .entry)) n m k (mendingReply r) ⌝ }
+{
+    match accept(words, n, m, k) {
+        Accepting::Refused(r) => Mending::Refused(r),
+        Accepting::Accepted => Mending::Refused(Refusal::AddedBits),
+    }
+}
+
+// Mends a received word with a matrix without added bits: each bit at which all codewords that agree with it have one value gets this value, and the
+// others keep 2.
+pub fn mend_block(words: &[u64], n: usize, m: usize, k: usize, word: &mut [u8]) -> Mending
+    ensures { λ r. ⌜ mendingReply r ≡ blockOutcome (now (words .entry)) n m k (now (word .entry)) .reply ⌝ }
+    ensures { λ r. ⌜ now (word .exit) ≡ blockOutcome (now (words .entry)) n m k (now (word .entry)) .after ⌝ }
+{
+    if 0 < k {
+        return refuse_added(words, n, m, k);
+    }
+    match admit(words, n, m, k, word, 2) {
+        Admission::Refused(r) => Mending::Refused(r),
+        Admission::Admitted => peel_given(words, n, m, word),
+    }
+}

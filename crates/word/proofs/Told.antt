@@ -52,7 +52,7 @@ module _ (ws : List ℕ) (n m k : ℕ) (w : List ℕ) (top : ℕ) where
   taken e = admitted ws n m k (n + k) top w e
 
   -- what comes behind them
-  pub behind : answer [] ≡ admitReply ws n m k w top → (after : Reply) → accepting ws n m k (checkingBytes (n + k) top w after) ≡ after
+  behind : answer [] ≡ admitReply ws n m k w top → (after : Reply) → accepting ws n m k (checkingBytes (n + k) top w after) ≡ after
   behind e after =
       let (A, W) = taken e in
       accepting-answers ws n m k (checkingBytes (n + k) top w after) (accepts ws n m k .1 A)

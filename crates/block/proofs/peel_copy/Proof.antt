@@ -40,7 +40,7 @@ add-both c =
     let P = c .before .before .before .before .before .peel-extended .ensures in
     let front = front-word (s .args .n) w (s .args .longer .now) (s .pre .1) (s .pre .3) in
     let q = sym (ap noRoom (c .before .more .given .1)) ∙ P .0 in
-    let e = sym (ap copyPeelingReply (c .before .more .given .1)) ∙ P .1 ∙ ap (copyReply ws (s .args .n) (s .args .m)) front in
+    let e = sym (ap copyPeelingReply (c .before .more .given .1)) ∙ P .1 .0 ∙ ap (copyReply ws (s .args .n) (s .args .m)) front in
     omega (arith, s .pre .4, accepts ws (s .args .n) (s .args .m) 0 .0 (s .pre .0) .sound .n120, more-small ws (s .args .n) (s .args .m) w q _ _ (s .args .recovered) e)
 
 eliminate-requires-2 : tie.Need-eliminate-requires-2
@@ -60,7 +60,7 @@ returns c =
     let P = c .before .before .before .before .before .before .before .before .before .before .peel-extended .ensures in
     let front = front-word (s .args .n) w (s .args .longer .now) (s .pre .1) (s .pre .3) in
     let q = sym (ap noRoom (c .before .before .before .before .before .before .more .given .1)) ∙ P .0 in
-    let e = sym (ap copyPeelingReply (c .before .before .before .before .before .before .more .given .1)) ∙ P .1 ∙ ap (copyReply ws (s .args .n) (s .args .m)) front in
+    let e = sym (ap copyPeelingReply (c .before .before .before .before .before .before .more .given .1)) ∙ P .1 .0 ∙ ap (copyReply ws (s .args .n) (s .args .m)) front in
     let E = c .before .before .eliminate2 .ensures in
     let f = bits-remain ws (s .args .n) (s .args .m) w q _ _ (s .args .recovered) e (c .before .before .before .before .if1 .taken) in
     (E .0 ∙ sym (ap (λ (o : Outcome). o .reply) f), E .1 ∙ sym (ap (λ (o : Outcome). o .after) f))
@@ -106,13 +106,13 @@ returns-2 c =
     let P = c .before .before .before .before .before .before .before .before .before .before .before .peel-extended .ensures in
     let front = front-word (s .args .n) w (s .args .longer .now) (s .pre .1) (s .pre .3) in
     let q = sym (ap noRoom (c .before .before .before .before .before .before .before .more .given .1)) ∙ P .0 in
-    let e = sym (ap copyPeelingReply (c .before .before .before .before .before .before .before .more .given .1)) ∙ P .1 ∙ ap (copyReply ws (s .args .n) (s .args .m)) front in
+    let e = sym (ap copyPeelingReply (c .before .before .before .before .before .before .before .more .given .1)) ∙ P .1 .0 ∙ ap (copyReply ws (s .args .n) (s .args .m)) front in
     let K = c .before .before .before .before .before .before .before .before .before .before .before .peel-extended .kept .1 .1 .1 .0 in
     let room : s .args .n ≤ length (c .before .before .before .before .before .before .before .before .before .before .before .peel-extended .last .1 .1 .1 .0) = omega (arith, ap length (s .pre .3) ∙ longer-size (s .args .n) w (s .pre .1) (512 - s .args .n)) in
     let f = none-remains ws (s .args .n) (s .args .m) w q _ _ (s .args .recovered) e (c .before .before .before .before .before .if1 .left) in
     let whole = replaced _ w _ (length-take-le (s .args .n) (c .before .before .before .before .before .before .before .before .before .before .before .peel-extended .last .1 .1 .1 .0) room ∙ sym (s .pre .1)) (c .before .before .copy-front .ensures) in (
       sym (ap (λ (o : Outcome). o .reply) f),
-      whole ∙ P .2 ∙ ap (copyWord ws (s .args .n) (s .args .m)) front ∙ told-word ws (s .args .n) (s .args .m) w q ∙ sym (ap (λ (o : Outcome). o .after) f),
+      whole ∙ P .1 .1 ∙ ap (copyWord ws (s .args .n) (s .args .m)) front ∙ told-word ws (s .args .n) (s .args .m) w q ∙ sym (ap (λ (o : Outcome). o .after) f),
     )
 
 same-length-5 : tie.Need-same-length-5
@@ -126,7 +126,7 @@ returns-3 c =
     let P = c .before .before .before .before .before .peel-extended .ensures in
     let front = front-word (s .args .n) w (s .args .longer .now) (s .pre .1) (s .pre .3) in
     let q = sym (ap noRoom (c .before .r .given .1)) ∙ P .0 in
-    let e = sym (ap copyPeelingReply (c .before .r .given .1)) ∙ P .1 ∙ ap (copyReply ws (s .args .n) (s .args .m)) front in
+    let e = sym (ap copyPeelingReply (c .before .r .given .1)) ∙ P .1 .0 ∙ ap (copyReply ws (s .args .n) (s .args .m)) front in
     let f = copy-refused ws (s .args .n) (s .args .m) w q (c .before .r .given .0 .0) (s .args .recovered) e in
     (sym (ap (λ (o : Outcome). o .reply) f), sym (ap (λ (o : Outcome). o .after) f))
 

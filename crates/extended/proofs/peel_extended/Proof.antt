@@ -53,7 +53,8 @@ returns c =
     let C = c .before .before .before .before .before .copied .ensures in
     let same = ap (λ (l : List ℕ). orthogonaliseOutcome l (s .args .n) (s .args .m) 0) C in
     let e = sym (ap orthogonalisingReply (c .enum-told .given .1)) ∙ O .0 ∙ ap (λ (o : Outcome). o .reply) same in
-    refused-copy ws (s .args .n) (s .args .m) (s .pre .0) (c .enum-told .given .0 .0) e (take (s .args .n) (s .args .longer .now))
+    let (z, f, g) = refused-copy ws (s .args .n) (s .args .m) (s .pre .0) (c .enum-told .given .0 .0) e (take (s .args .n) (s .args .longer .now)) in
+    (z, (f, g))
 
 same-length : tie.Need-same-length
 same-length c = search needs
@@ -68,8 +69,8 @@ returns-2 c =
     let e = sym (ap orthogonalisingReply (c .before .before .before .before .before .before .k .given .1)) ∙ O .0 ∙ ap (λ (o : Outcome). o .reply) same in
     let own = O .1 ∙ ap (λ (o : Outcome). o .after) same in
     let F = c .before .before .peel-front .ensures in
-    let (z, f, g) = peeled-copy ws (s .args .n) (s .args .m) (s .pre .0) _ _ _ _ e _ (s .args .longer .now) _ _ own (s .pre .1) (F .1) (F .2) in
-    (F .0 ∙ z, f, g)
+    let (z, f, g) = peeled-copy ws (s .args .n) (s .args .m) (s .pre .0) _ _ _ _ e _ (s .args .longer .now) _ _ own (s .pre .1) (F .1 .0) (F .1 .1) in
+    (F .0 ∙ z, (f, g))
 
 pub peel-extended-spec : {M : Type 1} → statement M
 peel-extended-spec =

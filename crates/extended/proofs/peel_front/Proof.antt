@@ -53,7 +53,7 @@ returns : tie.Need-returns
 returns c =
     let s = c .before .before .before .before .before .before .before .before .before in
     let E = c .before .before .before .before .before .peel-admitted .ensures in
-    (refl, refused-in-all (c .before .r .given .0 .0) _ (sym (ap peelingReply (c .before .r .given .1)) ∙ E .0), ap (λ (l : List ℕ). l ++ drop (s .args .n + s .args .k) (s .args .longer .now)) (E .1))
+    (refl, (refused-in-all (c .before .r .given .0 .0) _ (sym (ap peelingReply (c .before .r .given .1)) ∙ E .0), ap (λ (l : List ℕ). l ++ drop (s .args .n + s .args .k) (s .args .longer .now)) (E .1)))
 
 same-length-2 : tie.Need-same-length-2
 same-length-2 c = search needs
@@ -62,7 +62,7 @@ returns-2 : tie.Need-returns-2
 returns-2 c =
     let s = c .before .before .before .before .before .before .before .before .before in
     let E = c .before .before .before .before .before .peel-admitted .ensures in
-    (refl, made-in-all _ _ _ _ _ (sym (ap peelingReply (c .before .recovered-sent .given .1)) ∙ E .0), ap (λ (l : List ℕ). l ++ drop (s .args .n + s .args .k) (s .args .longer .now)) (E .1))
+    (refl, (made-in-all _ _ _ _ _ (sym (ap peelingReply (c .before .recovered-sent .given .1)) ∙ E .0), ap (λ (l : List ℕ). l ++ drop (s .args .n + s .args .k) (s .args .longer .now)) (E .1)))
 
 pub peel-front-spec : {M : Type 1} → statement M
 peel-front-spec =

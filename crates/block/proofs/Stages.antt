@@ -2,14 +2,14 @@
 use mathlib.Core.Path.{_≡_, sym, ap, _∙_}
 use mathlib.Core.Bool.{true, false}
 use mathlib.Core.List.{List, [], _∷_, _++_, append-nil}
-use Prim.Native.Nat.{ℕ, _+_, _-_, _≤_, _<_}
+use Prim.Native.Nat.{ℕ, _+_, _-_, _≤_}
 use native.Mathlib.Omega.{arith}
 use native.Mathlib.Decide.{ℕ-discrete}
-use lib.Dec.{eqb}
+use lib.Dec.{eqb, ltb}
 use lib.ListN.{getD, length, take, drop, replicate, length-replicate, replicate-append-replicate, drop-of-length-le}
 use lib.Seq.{take-at, drop-at}
 use borrow.Author.Tests.{eq-eqb, ne-eqb, le-ltb, lt-ltb}
-use Rattle.parity.specs.Causes.{Reply, answer, refusalOf, Outcome}
+use Rattle.parity.specs.Causes.{Reply, answer, refusal, refusalOf, refuse, Outcome}
 use Rattle.parity.specs.Calls.{wrongByte, acceptReply, peelOutcome, determineOutcome}
 use Rattle.parity.specs.Block.{bitsRecovered, bitsRemain, mended, eliminating, copyMade, copyK, copyPeeled, peelingCopy, peelingGiven, blockOutcome}
 use Rattle.parity.specs.declared.Refusal.{Refusal}
@@ -26,9 +26,6 @@ not-zero r reply e q = refused-number r (ap (λ (x : Reply). x .number) e ∙ q)
 
 is-zero : (vs : List ℕ) (reply : Reply) → answer vs ≡ reply → reply .number ≡ 0
 is-zero vs reply e = sym (ap (λ (x : Reply). x .number) e)
-
-pub at-zero : (k : ℕ) → (0 < k → ⊥) → k ≡ 0
-at-zero k d = omega arith
 
 -- the received word with bytes of 2 behind it
 module _ (n : ℕ) (w l : List ℕ) (size : length w ≡ n) (e : l ≡ w ++ replicate (512 - n) 2) where
@@ -67,22 +64,25 @@ module _ (ws : List ℕ) (n m : ℕ) (w : List ℕ) where
     told-word = rw (← q)
 
     -- a copy whose peeling is refused,
+    plain : (p .reply .number ≡ 0 → ⊥) → inAll (p .reply) ≡ p .reply
+    unfolding inAll
+    plain z = rw (ne-eqb (p .reply .number) 0 z)
+
     pub copy-refused : (r : Refusal) (recovered : ℕ) → refusalOf r ≡ copyReply ws n m w → peelingCopy ws n m w recovered ≡ record { reply = refusalOf r; after = w }
     unfolding peelingCopy inAll
     copy-refused r recovered e =
         let f = e ∙ told in
         elim (ℕ-discrete (p .reply .number) 0) [
           | yes z ↦ absurd (not-zero r _ f (rw (eq-eqb (p .reply .number) 0 z)))
-          | no z ↦ rw (← q, ne-eqb (p .reply .number) 0 z) (ap (λ (x : Reply). record { reply = x; after = w }) (sym (f ∙ rw (ne-eqb (p .reply .number) 0 z))))
+          | no z ↦ rw (← q, ne-eqb (p .reply .number) 0 z) (ap (λ (x : Reply). record { reply = x; after = w }) (sym (f ∙ plain z)))
         ]
 
     -- and one whose peeling answers
     module _ (more left recovered : ℕ) (e : answer (more ∷ left ∷ []) ≡ copyReply ws n m w) where
       answers : p .reply .number ≡ 0
-      unfolding inAll
       answers = elim (ℕ-discrete (p .reply .number) 0) [
         | yes z ↦ z
-        | no z ↦ absurd (z (sym (ap (λ (x : Reply). x .number) (e ∙ told ∙ rw (ne-eqb (p .reply .number) 0 z)))))
+        | no z ↦ absurd (z (is-zero (more ∷ left ∷ []) (p .reply) (e ∙ told ∙ plain z)))
       ]
 
       numbers : answer (more ∷ left ∷ []) ≡ answer (bitsRecovered (p .reply) ∷ (getD (p .reply .values) 2 0 + getD (p .reply .values) 3 0) ∷ [])
@@ -142,7 +142,7 @@ pub matrix-refused : (ws : List ℕ) (n m k : ℕ) (r : Refusal) → refusalOf r
     → (w : List ℕ) → blockOutcome ws n m k w ≡ record { reply = refusalOf r; after = w }
 unfolding blockOutcome
 matrix-refused ws n m k r e w =
-    let f = refused-same ws n m k r _ e in
+    let f = refused-same ws n m k r (refuse (ltb 0 k) (refusal 13 []) (peelingGiven ws n m w .reply)) e in
     rw (← f, ne-eqb (refusalOf r .number) 0 (refused-number r))
 
 -- and 1 to 4, 10 and 11 where it is 0, as those of determining
@@ -162,4 +162,4 @@ padded n w old new l few e q =
 
 -- bytes that take the place of all of a word
 pub replaced : (a w new : List ℕ) → length a ≡ length w → new ≡ a ++ drop (length a) w → new ≡ a
-replaced a w new l e = e ∙ ap (λ (v : List ℕ). a ++ v) (drop-of-length-le w (omega arith)) ∙ append-nil a
+replaced a w new l e = e ∙ ap (λ (v : List ℕ). a ++ v) (drop-of-length-le w {i = length a} (omega arith)) ∙ append-nil a

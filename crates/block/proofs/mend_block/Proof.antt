@@ -1,5 +1,5 @@
 -- `mend_block` meets its contract. Assumes nothing.
-use mathlib.Core.Path.{sym, ap, _∙_}
+use mathlib.Core.Path.{_≡_, sym, ap, _∙_}
 use native.Mathlib.Omega.{arith}
 use Rattle.parity.specs.Causes.{Outcome}
 use Rattle.parity.proofs.Matrix.Accept.{accepts}
@@ -7,7 +7,7 @@ use Rattle.parity.proofs.Words.Bytes.{word-right}
 use Rattle.parity.proofs.Lists.Block.{block-given}
 use Rattle.word.specs.Answers.{admissionReply}
 use Rattle.word.proofs.Told.{taken}
-use Rattle.block.proofs.Stages.{at-zero, word-refused}
+use Rattle.block.proofs.Stages.{word-refused}
 use borrow.Author.Needs.{needs}
 use Rattle.block.proofs.mend_block.Statement.{statement}
 use Rattle.block.proofs.mend_block.Tie as tie
@@ -37,7 +37,7 @@ peel-given-requires c κs =
     let s = c .before .before .before .before .before .before .before .before in
     let ws = s .args .words .now in
     let w = s .args .word .now in
-    let z = at-zero (s .args .k) (c .before .before .before .before .before .if1 .left) in
+    let z : s .args .k ≡ 0 = omega arith in
     let (A, W) = rw z at (taken ws (s .args .n) (s .args .m) (s .args .k) w 2 (sym (ap admissionReply (c .before .enum-told .given .1)) ∙ c .before .before .before .admit .ensures)) in
     (accepts ws (s .args .n) (s .args .m) 0 .1 A, omega (arith, W .size), word-right _ 2 w W)
 
@@ -49,7 +49,7 @@ returns-2 c =
     let s = c .before .before .before .before .before .before .before .before in
     let ws = s .args .words .now in
     let w = s .args .word .now in
-    let z = at-zero (s .args .k) (c .before .before .before .before .before .if1 .left) in
+    let z : s .args .k ≡ 0 = omega arith in
     rw z (word-refused ws (s .args .n) (s .args .m) w (c .before .r .given .0 .0) (rw z at (sym (ap admissionReply (c .before .r .given .1)) ∙ c .before .before .before .admit .ensures)))
 
 same-length-2 : tie.Need-same-length-2
@@ -60,7 +60,7 @@ returns-3 c =
     let s = c .before .before .before .before .before .before .before .before .before .before .before in
     let ws = s .args .words .now in
     let w = s .args .word .now in
-    let z = at-zero (s .args .k) (c .before .before .before .before .before .before .before .before .if1 .left) in
+    let z : s .args .k ≡ 0 = omega arith in
     let (A, W) = rw z at (taken ws (s .args .n) (s .args .m) (s .args .k) w 2 (sym (ap admissionReply (c .before .before .before .before .enum-told .given .1)) ∙ c .before .before .before .before .before .before .admit .ensures)) in
     let E = c .before .before .peel-given .ensures in
     let f = block-given ws (s .args .n) (s .args .m) w record { accepted = A; word = W } in

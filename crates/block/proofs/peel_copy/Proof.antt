@@ -100,20 +100,13 @@ same-length-4 c = search needs
 
 returns-2 : tie.Need-returns-2
 returns-2 c =
-    let s = c .before .before .before .before .before .before .before .before .before .before .before .before .before .before .before .before in
+    let s = c .before .before .before .before .before .before .before .before .before .before .before .before .before in
     let ws = s .args .words .now in
     let w = s .args .word .now in
-    let P = c .before .before .before .before .before .before .before .before .before .before .before .peel-extended .ensures in
-    let front = front-word (s .args .n) w (s .args .longer .now) (s .pre .1) (s .pre .3) in
-    let q = sym (ap noRoom (c .before .before .before .before .before .before .before .more .given .1)) ∙ P .0 in
-    let e = sym (ap copyPeelingReply (c .before .before .before .before .before .before .before .more .given .1)) ∙ P .1 .0 ∙ ap (copyReply ws (s .args .n) (s .args .m)) front in
-    let K = c .before .before .before .before .before .before .before .before .before .before .before .peel-extended .kept .1 .1 .1 .0 in
-    let room : s .args .n ≤ length (c .before .before .before .before .before .before .before .before .before .before .before .peel-extended .last .1 .1 .1 .0) = omega (arith, ap length (s .pre .3) ∙ longer-size (s .args .n) w (s .pre .1) (512 - s .args .n)) in
-    let f = none-remains ws (s .args .n) (s .args .m) w q _ _ (s .args .recovered) e (c .before .before .before .before .before .if1 .left) in
-    let whole = replaced _ w _ (length-take-le (s .args .n) (c .before .before .before .before .before .before .before .before .before .before .before .peel-extended .last .1 .1 .1 .0) room ∙ sym (s .pre .1)) (c .before .before .copy-front .ensures) in (
-      sym (ap (λ (o : Outcome). o .reply) f),
-      whole ∙ P .1 .1 ∙ ap (copyWord ws (s .args .n) (s .args .m)) front ∙ told-word ws (s .args .n) (s .args .m) w q ∙ sym (ap (λ (o : Outcome). o .after) f),
-    )
+    let P = c .before .before .before .before .before .before .before .before .peel-extended .ensures in
+    let E = c .before .before .eliminate .ensures in
+    let f = no-copy ws (s .args .n) (s .args .m) w (s .args .recovered) (sym (ap noRoom (c .before .before .before .before .enum-told .given .1)) ∙ P .0) in
+    (E .0 ∙ sym (ap (λ (o : Outcome). o .reply) f), E .1 ∙ sym (ap (λ (o : Outcome). o .after) f))
 
 same-length-5 : tie.Need-same-length-5
 same-length-5 c = search needs
@@ -138,13 +131,20 @@ same-length-7 c = search needs
 
 returns-4 : tie.Need-returns-4
 returns-4 c =
-    let s = c .before .before .before .before .before .before .before .before .before .before .before .before .before in
+    let s = c .before .before .before .before .before .before .before .before .before .before .before .before .before .before .before .before in
     let ws = s .args .words .now in
     let w = s .args .word .now in
-    let P = c .before .before .before .before .before .before .before .before .peel-extended .ensures in
-    let E = c .before .before .eliminate .ensures in
-    let f = no-copy ws (s .args .n) (s .args .m) w (s .args .recovered) (sym (ap noRoom (c .before .before .before .before .enum-told .given .1)) ∙ P .0) in
-    (E .0 ∙ sym (ap (λ (o : Outcome). o .reply) f), E .1 ∙ sym (ap (λ (o : Outcome). o .after) f))
+    let P = c .before .before .before .before .before .before .before .before .before .before .before .peel-extended .ensures in
+    let front = front-word (s .args .n) w (s .args .longer .now) (s .pre .1) (s .pre .3) in
+    let q = sym (ap noRoom (c .before .before .before .before .before .before .before .more .given .1)) ∙ P .0 in
+    let e = sym (ap copyPeelingReply (c .before .before .before .before .before .before .before .more .given .1)) ∙ P .1 .0 ∙ ap (copyReply ws (s .args .n) (s .args .m)) front in
+    let K = c .before .before .before .before .before .before .before .before .before .before .before .peel-extended .kept .1 .1 .1 .0 in
+    let room : s .args .n ≤ length (c .before .before .before .before .before .before .before .before .before .before .before .peel-extended .last .1 .1 .1 .0) = omega (arith, ap length (s .pre .3) ∙ longer-size (s .args .n) w (s .pre .1) (512 - s .args .n)) in
+    let f = none-remains ws (s .args .n) (s .args .m) w q _ _ (s .args .recovered) e (c .before .before .before .before .before .if1 .left) in
+    let whole = replaced _ w _ (length-take-le (s .args .n) (c .before .before .before .before .before .before .before .before .before .before .before .peel-extended .last .1 .1 .1 .0) room ∙ sym (s .pre .1)) (c .before .before .copy-front .ensures) in (
+      sym (ap (λ (o : Outcome). o .reply) f),
+      whole ∙ P .1 .1 ∙ ap (copyWord ws (s .args .n) (s .args .m)) front ∙ told-word ws (s .args .n) (s .args .m) w q ∙ sym (ap (λ (o : Outcome). o .after) f),
+    )
 
 pub peel-copy-spec : {M : Type 1} → statement M
 peel-copy-spec =

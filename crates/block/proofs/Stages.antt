@@ -1,5 +1,5 @@
 -- What each stage of mending a block comes to, from what the calls below it come to. Assumes nothing.
-use mathlib.Core.Path.{_≡_, sym, ap, _∙_}
+use mathlib.Core.Path.{_≡_, refl, sym, ap, _∙_}
 use mathlib.Core.Bool.{true, false}
 use mathlib.Core.List.{List, [], _∷_, _++_, append-nil}
 use Prim.Native.Nat.{ℕ, _+_, _-_, _≤_}
@@ -19,6 +19,9 @@ use Rattle.parity.proofs.Lists.Block.{recovered-most, mended-as-determined}
 use Rattle.word.specs.Answers.{admitReply}
 use Rattle.extended.specs.Answers.{Longer, inAll, copyReply, copyWord}
 use Rattle.determine.proofs.Ending.{outcome-refused}
+use Rattle.block.specs.Answers.{Kept, Ready}
+use Rattle.block.specs.declared.Peelings.{Peelings}
+use Rattle.block.specs.declared.Peelings.the-variants.{Whole, Stopped, Remaining}
 
 -- a refusal's number, and an answer's
 not-zero : (r : Refusal) (reply : Reply) → refusalOf r ≡ reply → reply .number ≡ 0 → ⊥
@@ -163,3 +166,9 @@ padded n w old new l few e q =
 -- bytes that take the place of all of a word
 pub replaced : (a w new : List ℕ) → length a ≡ length w → new ≡ a ++ drop (length a) w → new ≡ a
 replaced a w new l e = e ∙ ap (λ (v : List ℕ). a ++ v) (drop-of-length-le w {i = length a} (omega arith)) ∙ append-nil a
+
+-- what elimination needs
+pub ready : (p : Peelings) (n : ℕ) (w v : List ℕ) → length w ≡ n → wrongByte 2 w ≡ false → Kept p w v → Ready p n v
+ready (Whole stage recovered) n w v l e k = refl
+ready (Stopped r) n w v l e k = refl
+ready (Remaining recovered) n w v l e k = (ap length k ∙ l, ap (wrongByte 2) k ∙ e)

@@ -19,12 +19,19 @@ ghost use lib.ListN.{length, replicate};
 ghost use Rattle.parity.specs.Matrix.{cause};
 ghost use Rattle.parity.specs.Calls.{wrongByte};
 ghost use Rattle.parity.specs.Block.{eliminating, peelingCopy, peelingGiven, blockOutcome};
-ghost use Rattle.block.specs.Answers.{mendingReply, Refusing};
+ghost use Rattle.block.specs.Answers.{mendingReply, staged, Kept, Ready, Refusing};
 
 // What mending answers: the last stage to run, and how many bits the two peelings recovered together.
 pub enum Mending {
     Made { stage: u64, recovered: u64 },
     Refused(Refusal),
+}
+
+// What the two peelings come to: a whole word, by the last of them to run; a refusal; or that bits remain, for elimination.
+enum Peelings {
+    Whole { stage: u64, recovered: u64 },
+    Stopped(Refusal),
+    Remaining { recovered: u64 },
 }
 
 // As many erased bits as a word can have.
@@ -54,8 +61,7 @@ fn eliminate(words: &[u64], n: usize, m: usize, word: &mut [u8], recovered: u64)
     }
 }
 
-// Stage 2: the orthogonalised copy is peeled from the received word, which `longer` has with bytes of 2 behind it; if bits remain, or if there is no
-// copy, stage 3 follows.
+// Stage 2: the orthogonalised copy is peeled from the received word, which `longer` has with bytes of 2 behind it.
 fn peel_copy(
     words: &[u64],
     n: usize,
@@ -63,24 +69,24 @@ fn peel_copy(
     word: &mut [u8],
     longer: &mut [u8],
     recovered: u64,
-) -> Mending
+) -> Peelings
     requires { ⌜ (cause (now words) n m 0 ≡ 0) × (length (now word) ≡ n) × (wrongByte 2 (now word) ≡ false) × (now longer ≡ now word ++ replicate (512 - n) 2) × (recovered ≤ n) ⌝ }
-    ensures { λ r. ⌜ mendingReply r ≡ peelingCopy (now (words .entry)) n m (now (word .entry)) recovered .reply ⌝ }
-    ensures { λ r. ⌜ now (word .exit) ≡ peelingCopy (now (words .entry)) n m (now (word .entry)) recovered .after ⌝ }
+    ensures { λ r. ⌜ staged (now (words .entry)) n m r (now (word .exit)) ≡ peelingCopy (now (words .entry)) n m (now (word .entry)) recovered ⌝ }
+    ensures { λ r. ⌜ Kept r (now (word .entry)) (now (word .exit)) ⌝ }
 {
     match peel_extended(words, n, m, longer) {
-        CopyPeeling::NoRoom => eliminate(words, n, m, word, recovered),
-        CopyPeeling::Refused(r) => Mending::Refused(r),
+        CopyPeeling::NoRoom => Peelings::Remaining { recovered },
+        CopyPeeling::Refused(r) => Peelings::Stopped(r),
         CopyPeeling::Made {
             recovered: more,
             left,
         } => {
             let both = recovered + more;
             if left != 0 {
-                return eliminate(words, n, m, word, both);
+                return Peelings::Remaining { recovered: both };
             }
             copy_front(&longer[..n], word);
-            Mending::Made {
+            Peelings::Whole {
                 stage: 2,
                 recovered: both,
             }
@@ -89,16 +95,16 @@ fn peel_copy(
 }
 
 // Stage 1: the given matrix is peeled; if sent bits remain, stage 2 follows, from the received word.
-fn peel_given(words: &[u64], n: usize, m: usize, word: &mut [u8]) -> Mending
+fn peel_given(words: &[u64], n: usize, m: usize, word: &mut [u8]) -> Peelings
     requires { ⌜ (cause (now words) n m 0 ≡ 0) × (length (now word) ≡ n) × (wrongByte 2 (now word) ≡ false) ⌝ }
-    ensures { λ r. ⌜ mendingReply r ≡ peelingGiven (now (words .entry)) n m (now (word .entry)) .reply ⌝ }
-    ensures { λ r. ⌜ now (word .exit) ≡ peelingGiven (now (words .entry)) n m (now (word .entry)) .after ⌝ }
+    ensures { λ r. ⌜ staged (now (words .entry)) n m r (now (word .exit)) ≡ peelingGiven (now (words .entry)) n m (now (word .entry)) ⌝ }
+    ensures { λ r. ⌜ Kept r (now (word .entry)) (now (word .exit)) ⌝ }
 {
     let mut longer = erased_word();
     copy_front(word, &mut longer);
     let mut first = longer;
     match peel_admitted(words, n, m, 0, &mut first[..n]) {
-        Peeling::Refused(r) => Mending::Refused(r),
+        Peeling::Refused(r) => Peelings::Stopped(r),
         Peeling::Made {
             recovered_sent,
             recovered_added,
@@ -110,12 +116,40 @@ fn peel_given(words: &[u64], n: usize, m: usize, word: &mut [u8]) -> Mending
                 return peel_copy(words, n, m, word, &mut longer, recovered);
             }
             copy_front(&first[..n], word);
-            Mending::Made {
+            Peelings::Whole {
                 stage: 1,
                 recovered,
             }
         }
     }
+}
+
+// If bits remain after the peelings, stage 3 follows.
+fn finish(words: &[u64], n: usize, m: usize, word: &mut [u8], peelings: Peelings) -> Mending
+    requires { ⌜ (cause (now words) n m 0 ≡ 0) × Ready peelings n (now word) ⌝ }
+    ensures { λ r. ⌜ mendingReply r ≡ staged (now (words .entry)) n m peelings (now (word .entry)) .reply ⌝ }
+    ensures { λ r. ⌜ now (word .exit) ≡ staged (now (words .entry)) n m peelings (now (word .entry)) .after ⌝ }
+{
+    match peelings {
+        Peelings::Whole { stage, recovered } => Mending::Made { stage, recovered },
+        Peelings::Stopped(r) => Mending::Refused(r),
+        Peelings::Remaining { recovered } => eliminate(words, n, m, word, recovered),
+    }
+}
+
+// All stages. The copy is on the stack in the peelings, and must not be while the matrix is accepted or eliminated: called at two places, their function
+// is left by itself by the compiler.
+fn mend_admitted(words: &[u64], n: usize, m: usize, word: &mut [u8]) -> Mending
+    requires { ⌜ (cause (now words) n m 0 ≡ 0) × (length (now word) ≡ n) × (wrongByte 2 (now word) ≡ false) ⌝ }
+    ensures { λ r. ⌜ mendingReply r ≡ peelingGiven (now (words .entry)) n m (now (word .entry)) .reply ⌝ }
+    ensures { λ r. ⌜ now (word .exit) ≡ peelingGiven (now (words .entry)) n m (now (word .entry)) .after ⌝ }
+{
+    if m == 0 {
+        let none = peel_given(words, n, 0, word);
+        return finish(words, n, 0, word, none);
+    }
+    let peelings = peel_given(words, n, m, word);
+    finish(words, n, m, word, peelings)
 }
 
 // Refuses a matrix with added bits, by causes 1 to 4 and else by 13.
@@ -140,6 +174,6 @@ pub fn mend_block(words: &[u64], n: usize, m: usize, k: usize, word: &mut [u8]) 
     }
     match admit(words, n, m, k, word, 2) {
         Admission::Refused(r) => Mending::Refused(r),
-        Admission::Admitted => peel_given(words, n, m, word),
+        Admission::Admitted => mend_admitted(words, n, m, word),
     }
 }

@@ -32,8 +32,8 @@ enum-known-r c = search needs
 enum-told : tie.Need-enum-told
 enum-told c = search needs
 
-peel-given-requires : tie.Need-peel-given-requires
-peel-given-requires c κs =
+mend-admitted-requires : tie.Need-mend-admitted-requires
+mend-admitted-requires c κs =
     let s = c .before .before .before .before .before .before .before .before in
     let ws = s .args .words .now in
     let w = s .args .word .now in
@@ -62,7 +62,7 @@ returns-3 c =
     let w = s .args .word .now in
     let z : s .args .k ≡ 0 = omega arith in
     let (A, W) = rw z at (taken ws (s .args .n) (s .args .m) (s .args .k) w 2 (sym (ap admissionReply (c .before .before .before .before .enum-told .given .1)) ∙ c .before .before .before .before .before .before .admit .ensures)) in
-    let E = c .before .before .peel-given .ensures in
+    let E = c .before .before .mend-admitted .ensures in
     let f = block-given ws (s .args .n) (s .args .m) w record { accepted = A; word = W } in
     rw z (E .0 ∙ sym (ap (λ (o : Outcome). o .reply) f), E .1 ∙ sym (ap (λ (o : Outcome). o .after) f))
 
@@ -75,7 +75,7 @@ mend-block-spec =
     admit-requires
     enum-known-r
     enum-told
-    peel-given-requires
+    mend-admitted-requires
     same-length
     returns-2
     same-length-2

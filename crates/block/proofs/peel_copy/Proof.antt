@@ -1,10 +1,10 @@
 -- `peel_copy` meets its contract. Assumes nothing.
-use mathlib.Core.Path.{sym, ap, _∙_}
+use mathlib.Core.Path.{refl, sym, ap, _∙_}
 use Prim.Native.Nat.{_-_, _≤_}
 use native.Mathlib.Omega.{arith}
 use lib.ListN.{length}
 use lib.Seq.{length-take-le}
-use Rattle.parity.specs.Causes.{Outcome}
+use Rattle.parity.specs.Block.{mended}
 use Rattle.parity.proofs.Matrix.Accept.{accepts}
 use Rattle.parity.proofs.Words.Bytes.{longer-size}
 use Rattle.extended.specs.Answers.{noRoom, copyPeelingReply, copyReply, copyWord}
@@ -23,9 +23,6 @@ peel-extended-requires c κs =
 enum-told : tie.Need-enum-told
 enum-told c = search needs
 
-eliminate-requires : tie.Need-eliminate-requires
-eliminate-requires c κs = search needs
-
 enum-known-r : tie.Need-enum-known-r
 enum-known-r c = search needs
 
@@ -43,27 +40,20 @@ add-both c =
     let e = sym (ap copyPeelingReply (c .before .more .given .1)) ∙ P .1 .0 ∙ ap (copyReply ws (s .args .n) (s .args .m)) front in
     omega (arith, s .pre .4, accepts ws (s .args .n) (s .args .m) 0 .0 (s .pre .0) .sound .n120, more-small ws (s .args .n) (s .args .m) w q _ _ (s .args .recovered) e)
 
-eliminate-requires-2 : tie.Need-eliminate-requires-2
-eliminate-requires-2 c κs = search needs
-
 same-length : tie.Need-same-length
 same-length c = search needs
 
-same-length-2 : tie.Need-same-length-2
-same-length-2 c = search needs
-
 returns : tie.Need-returns
 returns c =
-    let s = c .before .before .before .before .before .before .before .before .before .before .before .before .before .before .before in
+    let s = c .before .before .before .before .before .before .before .before .before .before .before in
     let ws = s .args .words .now in
     let w = s .args .word .now in
-    let P = c .before .before .before .before .before .before .before .before .before .before .peel-extended .ensures in
+    let P = c .before .before .before .before .before .before .peel-extended .ensures in
     let front = front-word (s .args .n) w (s .args .longer .now) (s .pre .1) (s .pre .3) in
-    let q = sym (ap noRoom (c .before .before .before .before .before .before .more .given .1)) ∙ P .0 in
-    let e = sym (ap copyPeelingReply (c .before .before .before .before .before .before .more .given .1)) ∙ P .1 .0 ∙ ap (copyReply ws (s .args .n) (s .args .m)) front in
-    let E = c .before .before .eliminate2 .ensures in
-    let f = bits-remain ws (s .args .n) (s .args .m) w q _ _ (s .args .recovered) e (c .before .before .before .before .if1 .taken) in
-    (E .0 ∙ sym (ap (λ (o : Outcome). o .reply) f), E .1 ∙ sym (ap (λ (o : Outcome). o .after) f))
+    let q = sym (ap noRoom (c .before .before .more .given .1)) ∙ P .0 in
+    let e = sym (ap copyPeelingReply (c .before .before .more .given .1)) ∙ P .1 .0 ∙ ap (copyReply ws (s .args .n) (s .args .m)) front in
+    let f = bits-remain ws (s .args .n) (s .args .m) w q _ _ (s .args .recovered) e (c .if1 .taken) in
+    (sym f, refl)
 
 slice-reshare-prefix-copy-front : tie.Need-slice-reshare-prefix-copy-front
 slice-reshare-prefix-copy-front c =
@@ -92,24 +82,17 @@ copy-front-requires c κs =
     let room : s .args .n ≤ length (c .before .before .before .before .before .before .before .before .peel-extended .last .1 .1 .1 .0) = omega (arith, ap length (s .pre .3) ∙ longer-size (s .args .n) w (s .pre .1) (512 - s .args .n)) in
     omega (arith, s .pre .1, length-take-le (s .args .n) (c .before .before .before .before .before .before .before .before .peel-extended .last .1 .1 .1 .0) room)
 
-same-length-3 : tie.Need-same-length-3
-same-length-3 c = search needs
-
-same-length-4 : tie.Need-same-length-4
-same-length-4 c = search needs
+same-length-2 : tie.Need-same-length-2
+same-length-2 c = search needs
 
 returns-2 : tie.Need-returns-2
 returns-2 c =
-    let s = c .before .before .before .before .before .before .before .before .before .before .before .before .before in
-    let ws = s .args .words .now in
-    let w = s .args .word .now in
-    let P = c .before .before .before .before .before .before .before .before .peel-extended .ensures in
-    let E = c .before .before .eliminate .ensures in
-    let f = no-copy ws (s .args .n) (s .args .m) w (s .args .recovered) (sym (ap noRoom (c .before .before .before .before .enum-told .given .1)) ∙ P .0) in
-    (E .0 ∙ sym (ap (λ (o : Outcome). o .reply) f), E .1 ∙ sym (ap (λ (o : Outcome). o .after) f))
+    let s = c .before .before .before .before .before .before .before .before .before in
+    let f = no-copy (s .args .words .now) (s .args .n) (s .args .m) (s .args .word .now) (s .args .recovered) (sym (ap noRoom (c .enum-told .given .1)) ∙ c .before .before .before .before .peel-extended .ensures .0) in
+    (sym f, refl)
 
-same-length-5 : tie.Need-same-length-5
-same-length-5 c = search needs
+same-length-3 : tie.Need-same-length-3
+same-length-3 c = search needs
 
 returns-3 : tie.Need-returns-3
 returns-3 c =
@@ -121,13 +104,13 @@ returns-3 c =
     let q = sym (ap noRoom (c .before .r .given .1)) ∙ P .0 in
     let e = sym (ap copyPeelingReply (c .before .r .given .1)) ∙ P .1 .0 ∙ ap (copyReply ws (s .args .n) (s .args .m)) front in
     let f = copy-refused ws (s .args .n) (s .args .m) w q (c .before .r .given .0 .0) (s .args .recovered) e in
-    (sym (ap (λ (o : Outcome). o .reply) f), sym (ap (λ (o : Outcome). o .after) f))
+    (sym f, refl)
 
-same-length-6 : tie.Need-same-length-6
-same-length-6 c = search needs
+same-length-4 : tie.Need-same-length-4
+same-length-4 c = search needs
 
-same-length-7 : tie.Need-same-length-7
-same-length-7 c = search needs
+same-length-5 : tie.Need-same-length-5
+same-length-5 c = search needs
 
 returns-4 : tie.Need-returns-4
 returns-4 c =
@@ -141,10 +124,8 @@ returns-4 c =
     let K = c .before .before .before .before .before .before .before .before .before .before .before .peel-extended .kept .1 .1 .1 .0 in
     let room : s .args .n ≤ length (c .before .before .before .before .before .before .before .before .before .before .before .peel-extended .last .1 .1 .1 .0) = omega (arith, ap length (s .pre .3) ∙ longer-size (s .args .n) w (s .pre .1) (512 - s .args .n)) in
     let f = none-remains ws (s .args .n) (s .args .m) w q _ _ (s .args .recovered) e (c .before .before .before .before .before .if1 .left) in
-    let whole = replaced _ w _ (length-take-le (s .args .n) (c .before .before .before .before .before .before .before .before .before .before .before .peel-extended .last .1 .1 .1 .0) room ∙ sym (s .pre .1)) (c .before .before .copy-front .ensures) in (
-      sym (ap (λ (o : Outcome). o .reply) f),
-      whole ∙ P .1 .1 ∙ ap (copyWord ws (s .args .n) (s .args .m)) front ∙ told-word ws (s .args .n) (s .args .m) w q ∙ sym (ap (λ (o : Outcome). o .after) f),
-    )
+    let whole = replaced _ w _ (length-take-le (s .args .n) (c .before .before .before .before .before .before .before .before .before .before .before .peel-extended .last .1 .1 .1 .0) room ∙ sym (s .pre .1)) (c .before .before .copy-front .ensures) in
+    (ap (mended 2 _) (whole ∙ P .1 .1 ∙ ap (copyWord ws (s .args .n) (s .args .m)) front ∙ told-word ws (s .args .n) (s .args .m) w q) ∙ sym f, refl)
 
 pub peel-copy-spec : {M : Type 1} → statement M
 peel-copy-spec =
@@ -152,22 +133,18 @@ peel-copy-spec =
     (tie.spec
     peel-extended-requires
     enum-told
-    eliminate-requires
     enum-known-r
     enum-known-more
     add-both
-    eliminate-requires-2
     same-length
-    same-length-2
     returns
     slice-reshare-prefix-copy-front
     slice-aggregate-copy-front
     copy-front-requires
-    same-length-3
-    same-length-4
+    same-length-2
     returns-2
-    same-length-5
+    same-length-3
     returns-3
-    same-length-6
-    same-length-7
+    same-length-4
+    same-length-5
     returns-4)

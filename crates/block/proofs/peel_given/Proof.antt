@@ -1,5 +1,5 @@
 -- `peel_given` meets its contract. Assumes nothing.
-use mathlib.Core.Path.{_≡_, sym, ap, _∙_}
+use mathlib.Core.Path.{_≡_, refl, sym, ap, _∙_}
 use mathlib.Core.List.{List}
 use Prim.Native.Nat.{ℕ, _≤_}
 use native.Mathlib.Omega.{arith}
@@ -7,6 +7,7 @@ use lib.ListN.{length, drop, length-replicate, length-append}
 use lib.Seq.{length-take-le, take-at}
 use Rattle.parity.specs.Causes.{Outcome}
 use Rattle.parity.specs.Calls.{peelOutcome}
+use Rattle.parity.specs.Block.{mended}
 use Rattle.parity.proofs.Matrix.Accept.{accepts}
 use Rattle.peel.specs.Answers.{peelingReply}
 use Rattle.block.proofs.Stages.{front-word, padded, replaced, given-refused, recovered-small, sent-remain, none-sent}
@@ -106,7 +107,7 @@ returns c =
     let e = sym (ap peelingReply (c .before .before .before .before .before .before .before .before .recovered-sent .given .1)) ∙ P .0 ∙ ap (λ (o : Outcome). o .reply) same in
     let E = c .before .before .before .peel-copy .ensures in
     let f = sent-remain ws (s .args .n) (s .args .m) w _ _ _ _ e (c .before .before .before .before .before .before .if1 .taken) in
-    (E .0 ∙ sym (ap (λ (o : Outcome). o .reply) f), E .1 ∙ sym (ap (λ (o : Outcome). o .after) f))
+    (E .0 ∙ sym f, E .1)
 
 array-share-prefix-first : tie.Need-array-share-prefix-first
 array-share-prefix-first c =
@@ -165,7 +166,7 @@ returns-2 c =
     let same = ap (λ (v : List ℕ). peelOutcome ws (s .args .n) (s .args .m) 0 v) front in
     let e = sym (ap peelingReply (c .before .r .given .1)) ∙ P .0 ∙ ap (λ (o : Outcome). o .reply) same in
     let f = given-refused ws (s .args .n) (s .args .m) w (c .before .r .given .0 .0) e in
-    (sym (ap (λ (o : Outcome). o .reply) f), sym (ap (λ (o : Outcome). o .after) f))
+    (sym f, refl)
 
 same-length-3 : tie.Need-same-length-3
 same-length-3 c = search needs
@@ -189,10 +190,8 @@ returns-3 c =
     let e = sym (ap peelingReply (c .before .before .before .before .before .before .before .recovered-sent .given .1)) ∙ P .0 ∙ ap (λ (o : Outcome). o .reply) same in
     let f = none-sent ws (s .args .n) (s .args .m) w _ _ _ _ e (c .before .before .before .before .before .if1 .left) in
     let t = take-at X (drop (s .args .n) Y) (s .args .n) size in
-    let whole = replaced _ w _ (ap length t ∙ size ∙ sym (s .pre .1)) (c .before .before .copy-front2 .ensures) in (
-      sym (ap (λ (o : Outcome). o .reply) f),
-      whole ∙ t ∙ P .1 ∙ ap (λ (o : Outcome). o .after) same ∙ sym (ap (λ (o : Outcome). o .after) f),
-    )
+    let whole = replaced _ w _ (ap length t ∙ size ∙ sym (s .pre .1)) (c .before .before .copy-front2 .ensures) in
+    (ap (mended 1 _) (whole ∙ t ∙ P .1 ∙ ap (λ (o : Outcome). o .after) same) ∙ sym f, refl)
 
 pub peel-given-spec : {M : Type 1} → statement M
 peel-given-spec =

@@ -919,7 +919,7 @@ pub fn run(named: &[Kind]) -> Result<usize, String> {
             || yes_no && (tally.yes < 1000 || tally.no < 1000)
             || kind == Kind::TakeBack && (tally.yes < 200 || tally.no < 200 || tally.refusals[16] < 500)
             || matches!(kind, Kind::Peel | Kind::Determine) && (tally.partly[0] < 1000 || tally.partly[1] < 500)
-            || kind == Kind::MendBlock && tally.stages.iter().any(|&number| number < 300);
+            || kind == Kind::MendBlock && tally.stages.iter().any(|&number| number < 150);
         if few {
             return Err(format!("the inputs of {} are too much alike: a fault of this program", kind.name()));
         }

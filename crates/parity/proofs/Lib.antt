@@ -6,4 +6,5 @@ pub mod Lists
 pub mod Record
 pub mod Encoding
 pub mod House
+pub mod Joining
 pub mod Causes

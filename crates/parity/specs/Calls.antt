@@ -6,7 +6,7 @@ use mathlib.Core.List.{List, [], _∷_, _++_}
 use lib.Dec.{eqb, ltb, leb}
 use lib.ListN.{getD, length, drop}
 use Rattle.parity.specs.Finite.{one, any, least, listFrom}
-use Rattle.parity.specs.Matrix.{lent, pack, ruleA, cause}
+use Rattle.parity.specs.Matrix.{lent, pack, inRange, clean, ruleA, cause}
 use Rattle.parity.specs.Cycles.{share, heldBy, cycles, splitOf, takenBack, others, Orthogonalised, orthogonal}
 use Rattle.parity.specs.Splits.{notBuilt}
 use Rattle.parity.specs.Words.{isOne, codeword, extended, stopping, peels, peeled, losses}
@@ -15,6 +15,7 @@ use Rattle.parity.specs.StoppingSets.{stoppingSets, flat}
 use Rattle.parity.specs.Record.{Loaded, faulty, loaded, loading, written}
 use Rattle.parity.specs.Encoding.{rankOf, encoded}
 use Rattle.parity.specs.House.{houseCode, known}
+use Rattle.parity.specs.Joining.{Joined, joined}
 use Rattle.parity.specs.Causes.{Reply, answer, refusal, refuse, accepting, Outcome, leaving}
 
 -- the byte of each bit of a word that is a list
@@ -194,3 +195,28 @@ stoppingSetsOutcome ws n m k t target =
     (refuse (ltb (length target) (length (flat found))) (refusal 19 (length (flat found) ∷ []))
     (answer (length found ∷ [])))))
     (flat found ++ drop (length (flat found)) target)
+
+-- joining (M-111): causes 1, 2, 3, 4, 13 and 20 of two matrices, each over both before the next
+unfoldable pub acceptingBoth : List ℕ → ℕ → ℕ → ℕ → List ℕ → ℕ → ℕ → ℕ → Reply → Reply
+acceptingBoth ws₁ n₁ m₁ k₁ ws₂ n₂ m₂ k₂ after =
+    refuse (wrongLength 4096 ws₁ || wrongLength 4096 ws₂) (refusal 1 [])
+    (refuse (not (inRange n₁ m₁ k₁) || not (inRange n₂ m₂ k₂)) (refusal 2 [])
+    (refuse (not (clean 8 (n₁ + k₁) (m₁ + k₁) 0 ws₁) || not (clean 8 (n₂ + k₂) (m₂ + k₂) 0 ws₂)) (refusal 3 [])
+    (refuse (not (ruleA (lent 8 ws₁) n₁ m₁ k₁) || not (ruleA (lent 8 ws₂) n₂ m₂ k₂)) (refusal 4 [])
+    (refuse (ltb 0 k₁ || ltb 0 k₂) (refusal 13 [])
+    (refuse (not (eqb n₁ n₂)) (refusal 20 []) after)))))
+
+-- join: cause 1 over the third slice too; joins the two matrices into all 4,096 words of the third, and answers the number of checks
+abbrev pub joining : List ℕ → ℕ → ℕ → List ℕ → ℕ → Joined
+joining ws₁ n m₁ ws₂ m₂ = joined n (lent 8 ws₁) m₁ (lent 8 ws₂) m₂
+
+unfoldable pub joinReply : List ℕ → ℕ → ℕ → ℕ → List ℕ → ℕ → ℕ → ℕ → List ℕ → Reply
+joinReply ws₁ n₁ m₁ k₁ ws₂ n₂ m₂ k₂ ws₃ =
+    refuse (wrongLength 4096 ws₃) (refusal 1 [])
+    (acceptingBoth ws₁ n₁ m₁ k₁ ws₂ n₂ m₂ k₂
+    (refuse (ltb 120 (joining ws₁ n₁ m₁ ws₂ m₂ .checks)) (refusal 21 [])
+    (answer (joining ws₁ n₁ m₁ ws₂ m₂ .checks ∷ []))))
+
+unfoldable pub joinOutcome : List ℕ → ℕ → ℕ → ℕ → List ℕ → ℕ → ℕ → ℕ → List ℕ → Outcome
+joinOutcome ws₁ n₁ m₁ k₁ ws₂ n₂ m₂ k₂ ws₃ =
+    leaving ws₃ (joinReply ws₁ n₁ m₁ k₁ ws₂ n₂ m₂ k₂ ws₃) (pack 8 (joining ws₁ n₁ m₁ ws₂ m₂ .matrix))

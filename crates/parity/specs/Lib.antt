@@ -9,6 +9,7 @@ pub mod Demand3
 pub mod Record
 pub mod Encoding
 pub mod House
+pub mod Joining
 pub mod Causes
 pub mod Calls
 pub mod Solving

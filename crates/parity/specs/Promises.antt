@@ -12,7 +12,7 @@ use Rattle.parity.specs.House.{houseCode}
 use Rattle.parity.specs.Finite.{one, count, listFrom}
 use Rattle.parity.specs.Words.{isOne}
 use Rattle.parity.specs.StoppingSets.{isIn, flat, rising, ordered}
-use Rattle.parity.specs.Calls.{loadOutcome, writeOutcome, splitOutcome, takeBackOutcome, houseOutcome, byteOf, verifyReply, peelOutcome, determineOutcome, shareReply, orthogonaliseOutcome, isStoppingReply, stoppingSetsOutcome}
+use Rattle.parity.specs.Calls.{loadOutcome, writeOutcome, splitOutcome, takeBackOutcome, houseOutcome, byteOf, verifyReply, peelOutcome, determineOutcome, shareReply, orthogonaliseOutcome, isStoppingReply, stoppingSetsOutcome, joinOutcome}
 use mathlib.Core.Logic.{_↔_}
 use Rattle.parity.specs.Demand3.{Call, runs, start, Verifies, erasing, Left, Recovered, none, Stand, Keeps}
 use lib.Dec.{eqb, ltb}
@@ -268,3 +268,29 @@ MendAnswers = (ws : List ℕ) (n m k : ℕ) (w : List ℕ) → blockOutcome ws n
 -- A peeling that leaves no sent bit leaves no added bit: so 'bits remain' and 'sent bits remain' are the same after the second peeling.
 abbrev pub AddedWithSent : Type 0
 AddedWithSent = (ws : List ℕ) (n m k : ℕ) (w : List ℕ) (rs ra la : ℕ) → peelOutcome ws n m k w .reply ≡ answer (rs ∷ ra ∷ 0 ∷ la ∷ []) → la ≡ 0
+
+-- M-111: what peeling w, a joined codeword x with bits erased, comes to with either matrix and with the joined one: none of the three is refused, the joined
+-- matrix leaves no bit that either would have recovered, and what it does not leave is the codeword's.
+pub record PeelsNoLess (n : ℕ) (x w : List ℕ) (first second joined : Outcome) : Type 0 where
+  pub first-answers : first .reply .number ≡ 0
+  pub second-answers : second .reply .number ≡ 0
+  pub joined-answers : joined .reply .number ≡ 0
+  pub no-less-first : (b : ℕ) → b < n → Recovered w (first .after) b → Left (joined .after) b → ⊥
+  pub no-less-second : (b : ℕ) → b < n → Recovered w (second .after) b → Left (joined .after) b → ⊥
+  pub right : (b : ℕ) → b < n → (Left (joined .after) b → ⊥) → byteOf (joined .after) b ≡ byteOf x b
+
+-- What two matrices and the joined one, ws₃ with n₁ bits and `checks` checks, have to do with each other:
+pub record Joins (ws₁ : List ℕ) (n₁ m₁ k₁ : ℕ) (ws₂ : List ℕ) (n₂ m₂ k₂ : ℕ) (ws₃ : List ℕ) (checks : ℕ) : Type 0 where
+  -- it is accepted with k = 0;
+  pub accepted : cause ws₃ n₁ checks 0 ≡ 0
+  -- its codewords are exactly those of both;
+  pub codewords : (x : List ℕ) → Verifies ws₃ n₁ checks 0 x ↔ (Verifies ws₁ n₁ m₁ k₁ x × Verifies ws₂ n₂ m₂ k₂ x)
+  -- for a joined codeword with bits erased, peeling the joined matrix leaves no bit that either would have recovered.
+  pub peelings : (x : List ℕ) → Verifies ws₃ n₁ checks 0 x → (e : ℕ → Bool)
+      → let w = erasing e x in
+      PeelsNoLess n₁ x w (peelOutcome ws₁ n₁ m₁ k₁ w) (peelOutcome ws₂ n₂ m₂ k₂ w) (peelOutcome ws₃ n₁ checks 0 w)
+
+abbrev pub JoinsBoth : Type 0
+JoinsBoth = (ws₁ : List ℕ) (n₁ m₁ k₁ : ℕ) (ws₂ : List ℕ) (n₂ m₂ k₂ : ℕ) (ws₃ : List ℕ) (checks : ℕ)
+    → joinOutcome ws₁ n₁ m₁ k₁ ws₂ n₂ m₂ k₂ ws₃ .reply ≡ answer (checks ∷ [])
+    → Joins ws₁ n₁ m₁ k₁ ws₂ n₂ m₂ k₂ (joinOutcome ws₁ n₁ m₁ k₁ ws₂ n₂ m₂ k₂ ws₃ .after) checks

@@ -78,6 +78,10 @@ pub enum Refusal {
     SetsTooShort {
         needed: usize,
     },
+    // 20: two matrices to be joined have different n.
+    DifferentLengths,
+    // 21: joined, they have more than 120 checks.
+    TooManyChecks,
 }
 
 // The number of a refusal in the papers' table.
@@ -110,5 +114,7 @@ pub fn number(r: Refusal) -> u64
         Refusal::UnknownName => 17,
         Refusal::WrongSize => 18,
         Refusal::SetsTooShort { needed: _ } => 19,
+        Refusal::DifferentLengths => 20,
+        Refusal::TooManyChecks => 21,
     }
 }

@@ -1,0 +1,3 @@
+pub mod Causes
+pub mod Rows
+pub mod Told

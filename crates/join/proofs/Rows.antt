@@ -1,0 +1,224 @@
+-- Laws of the rows while checks are joined, over the numbers U of words of a row and W of words of a check. Assumes nothing.
+use mathlib.Core.Path.{_≡_, sym, ap, _∙_}
+use mathlib.Core.Bool.{Bool, true, false, cond, _&&_, and-false}
+use mathlib.Core.List.{List}
+use Prim.Native.Nat.{ℕ, _+_, _*_, _/_, _%_, _^_, _≤_, _<_}
+use native.Mathlib.Nat.{add-zero, div-add-mod', div-lt-iff-lt-mul}
+use native.Mathlib.Numerals.{add-one}
+use native.Mathlib.Omega.{arith}
+use native.Mathlib.Decide.{ℕ-discrete, decLt}
+use lib.Arith.{digits-div, digits-mod, digits-lt}
+use lib.Dec.{eqb, ltb, lit<}
+use lib.ListN.{getD, length, set, length-set}
+use lib.Pow.{pow-pos}
+use lib.Seq.{getD-set-same, getD-set-other, ext-getD}
+use borrow.Author.Tests.{eq-eqb, eqb-true, lt-ltb, le-ltb}
+use Rattle.parity.specs.Finite.{all, any}
+use Rattle.parity.specs.Matrix.{Matrix, bitOf, lent, wordOf, pack}
+use Rattle.parity.specs.Joining.{sameCheck, Joined, equalsEarlier, joinCheck, withCheck, joined}
+use Rattle.parity.proofs.Finite.Bools.{same-test, beq-refl}
+use Rattle.parity.proofs.Finite.Sums.{all-at, all-of, any-at, any-of, below-next}
+use Rattle.parity.proofs.Matrix.Clean.{Clean}
+use Rattle.parity.proofs.Matrix.Digits.{same-bits, bit-zero}
+use Rattle.parity.proofs.Matrix.Packing.{word-lt, word-bit, pack-length, pack-at, pack-lent}
+use Rattle.parity.proofs.Joining.Checks.{same-bits-of, join-equal, join-new, with-checks, with-last, with-other, checks-most}
+use Rattle.rows.specs.Zeros.{Zeroed}
+use Rattle.elimination.specs.Rows.{CheckAt, SameRows}
+use Rattle.join.specs.Rows.{isRow, HasRows, Gathered, Added, Spread}
+
+-- bit j of word i of a check
+row-bit : (W : ℕ) (h : Matrix) (c i j : ℕ) → i < W → j < 64 → bitOf (wordOf W h (c * W + i)) j ≡ h c (i * 64 + j)
+row-bit W h c i j k l = word-bit W h (c * W + i) j l ∙ rw (digits-div c k, digits-mod c k)
+
+-- words of checks with the same bits
+row-same : (W : ℕ) (h g : Matrix) (c d i : ℕ) → i < W → ((j : ℕ) → j < 64 → h c (i * 64 + j) ≡ g d (i * 64 + j)) → wordOf W h (c * W + i) ≡ wordOf W g (d * W + i)
+row-same W h g c d i k f =
+    same-bits 64 (wordOf W h (c * W + i)) (wordOf W g (d * W + i)) (word-lt W h (c * W + i)) (word-lt W g (d * W + i))
+    (λ j l. row-bit W h c i j k l ∙ f j l ∙ sym (row-bit W g d i j k l))
+
+-- two checks are equal in U * 64 bits exactly if their first U words are
+same-words : (U W : ℕ) → U ≤ W → (h g : Matrix) (c d : ℕ)
+    → all U (λ i. eqb (wordOf W h (c * W + i)) (wordOf W g (d * W + i))) ≡ sameCheck (U * 64) (h c) (g d)
+same-words U W u h g c d =
+    same-test (all U (λ i. eqb (wordOf W h (c * W + i)) (wordOf W g (d * W + i)))) (sameCheck (U * 64) (h c) (g d))
+    (λ e. unfold sameCheck in all-of (U * 64) _ (λ b l.
+    let k : b / 64 < U = div-lt-iff-lt-mul (lit< tt) .1 l in
+    let q : b / 64 * 64 + b % 64 ≡ b = omega arith in
+    let s = eqb-true _ _ (all-at U (λ i. eqb (wordOf W h (c * W + i)) (wordOf W g (d * W + i))) e (b / 64) k) in
+    let t : h c b ≡ g d b = rw q at (sym (row-bit W h c (b / 64) (b % 64) (omega arith) (omega arith)) ∙ ap (λ (w : ℕ). bitOf w (b % 64)) s ∙ row-bit W g d (b / 64) (b % 64) (omega arith) (omega arith)) in
+    rw t (beq-refl (g d b))))
+    (λ e. all-of U _ (λ i k. eq-eqb _ _ (row-same W h g c d i (omega arith) (λ j l. same-bits-of (U * 64) (h c) (g d) e (i * 64 + j) (digits-lt k l)))))
+
+-- a word of a lent matrix
+lent-word-of : (W : ℕ) → 0 < W → (ws : List ℕ) → length ws ≡ 512 * W → ((i : ℕ) → getD ws i 0 < 2 ^ 64) → (i : ℕ) → i < 512 * W → getD ws i 0 ≡ wordOf W (lent W ws) i
+lent-word-of W p ws e a i l = ap (λ (v : List ℕ). getD v i 0) (sym (pack-lent W p ws e a)) ∙ pack-at W (lent W ws) i l
+
+-- a test that nothing has passed so far
+pub none-next : (d : ℕ) (p : ℕ → Bool) → any d p ≡ false → p d ≡ false → any (d + 1) p ≡ false
+none-next d p e f = rw (add-one d) (unfold any in (rw (e, f)))
+
+any-cong : (n : ℕ) (p q : ℕ → Bool) → ((i : ℕ) → i < n → p i ≡ q i) → any n p ≡ any n q
+any-cong n p q f =
+    same-test (any n p) (any n q)
+    (λ e. let (i, l, r) = any-at n p e in any-of n q i l (sym (f i l) ∙ r))
+    (λ e. let (i, l, r) = any-at n q e in any-of n p i l (f i l ∙ r))
+
+-- The first checks of the first matrix, as rows.
+pub rows-first : (U W : ℕ) → 0 < W → U ≤ W → (ws before after : List ℕ) (m : ℕ) → length ws ≡ 512 * W → ((i : ℕ) → getD ws i 0 < 2 ^ 64) → m ≤ 512
+    → SameRows W U ws before after 0 m → HasRows U W (lent W ws) m after
+rows-first U W p u ws before after m e a l S = record {
+  at = λ c i k q.
+      let k′ : c < 512 = omega arith in
+      S .copied c i (omega arith) k q ∙ lent-word-of W p ws e a (c * W + i) (digits-lt k′ (omega arith));
+}
+
+-- one check of the second
+module _ (ws : List ℕ) (size : length ws ≡ 4096) (machine : (i : ℕ) → getD ws i 0 < 2 ^ 64) (c : ℕ) (few : c < 120) (before : List ℕ) (at : ℕ) where
+  word-is : (i : ℕ) → i < 8 → getD ws (c * 8 + i) 0 ≡ wordOf 8 (lent 8 ws) (c * 8 + i)
+  word-is i l = lent-word-of 8 (lit< tt) ws size machine (c * 8 + i) (omega arith)
+
+  abbrev found : Bool
+  found = any at (isRow before (getD ws (c * 8) 0) (getD ws (c * 8 + 1) 0))
+
+  module _ (j : Joined) (e : at ≡ j .checks) (H : HasRows 2 8 (j .matrix) at before) where
+    one-row : (d : ℕ) → d < at → isRow before (getD ws (c * 8) 0) (getD ws (c * 8 + 1) 0) d ≡ sameCheck 128 (j .matrix d) (lent 8 ws c)
+    unfolding isRow all
+    one-row d l =
+        let y : d * 2 + 0 ≡ d * 2 = add-zero (d * 2) in
+        let p₀ : getD before (d * 2) 0 ≡ wordOf 8 (j .matrix) (d * 8 + 0) = ap (λ (i : ℕ). getD before i 0) (sym y) ∙ H .at d 0 l (omega arith) in
+        let p₁ = H .at d 1 l (omega arith) in
+        let z : c * 8 + 0 ≡ c * 8 = add-zero (c * 8) in
+        let q₀ : getD ws (c * 8) 0 ≡ wordOf 8 (lent 8 ws) (c * 8 + 0) = ap (λ (i : ℕ). getD ws i 0) (sym z) ∙ word-is 0 (omega arith) in
+        let q₁ = word-is 1 (omega arith) in
+        rw (p₀, p₁, q₀, q₁) (same-words 2 8 (omega arith) (j .matrix) (lent 8 ws) d c)
+
+    earlier : found ≡ equalsEarlier 128 j (lent 8 ws c)
+    unfolding equalsEarlier
+    earlier =
+        any-cong at (isRow before (getD ws (c * 8) 0) (getD ws (c * 8 + 1) 0)) (λ d. sameCheck 128 (j .matrix d) (lent 8 ws c)) one-row
+        ∙ ap (λ (x : ℕ). any x (λ d. sameCheck 128 (j .matrix d) (lent 8 ws c))) e
+
+  -- it is one of the rows;
+  pub added-none : at ≤ 120 → found ≡ true → Added ws c before at before at
+  added-none l f = record {
+    added = λ j e H. rw (join-equal 128 j (lent 8 ws c) (sym (earlier j e H) ∙ f)) record {
+      number = λ q. e;
+      held = λ q. H;
+      many = λ q. absurd (omega arith);
+    };
+  }
+
+  -- it is none of them, and there is no room for it;
+  pub added-full : at ≡ 120 → found ≡ false → Added ws c before at before 121
+  added-full l f = record {
+    added = λ j e H. rw (join-new 128 j (lent 8 ws c) (sym (earlier j e H) ∙ f)) record {
+      number = λ q. absurd (omega arith);
+      held = λ q. absurd (omega arith);
+      many = λ q. rw (with-checks j (lent 8 ws c)) (omega arith);
+    };
+  }
+
+  -- or it is put behind them.
+  pub added-one : at < 120 → found ≡ false → (after : List ℕ) → CheckAt 8 2 ws before after c at → Added ws c before at after (at + 1)
+  added-one l f after C = record {
+    added = λ j e H.
+        let s : ℕ → Bool = lent 8 ws c in
+        let number : at + 1 ≡ withCheck j s .checks = rw (with-checks j s) (omega arith) in
+        rw (join-new 128 j s (sym (earlier j e H) ∙ f)) record {
+          number = λ q. number;
+          held = λ q. record { at = rows-held j e H };
+          many = λ q. absurd (omega arith);
+        };
+  }
+    where
+      rows-held : (j : Joined) → at ≡ j .checks → HasRows 2 8 (j .matrix) at before → (d i : ℕ) → d < at + 1 → i < 2
+          → getD after (d * 2 + i) 0 ≡ wordOf 8 (withCheck j (lent 8 ws c) .matrix) (d * 8 + i)
+      rows-held j e H d i k m =
+          elim (ℕ-discrete d at) [
+            | yes q ↦
+                let t : withCheck j (lent 8 ws c) .matrix at ≡ lent 8 ws c = rw e (with-last j (lent 8 ws c)) in
+                rw q (C .copied i m ∙ word-is i (omega arith)
+                ∙ row-same 8 (lent 8 ws) (withCheck j (lent 8 ws c) .matrix) c at i (omega arith) (λ b n. ap (λ (r : ℕ → Bool). r (i * 64 + b)) (sym t)))
+            | no q ↦
+                let d<at : d < at = omega arith in
+                let t = with-other j (lent 8 ws c) d (λ r. q (r ∙ sym e)) in
+                C .kept (d * 2 + i) (omega arith) ∙ H .at d i d<at m
+                ∙ row-same 8 (j .matrix) (withCheck j (lent 8 ws c) .matrix) d d i (omega arith) (λ b n. ap (λ (r : ℕ → Bool). r (i * 64 + b)) (sym t))
+          ]
+
+-- the checks of the second up to the next
+pub joined-next : (n : ℕ) (h : Matrix) (m : ℕ) (g : Matrix) (c : ℕ) → joined n h m g (c + 1) ≡ joinCheck n (joined n h m g c) (g c)
+unfolding joined
+joined-next n h m g c = rw (add-one c)
+
+-- the rows where all checks have room, and where one has none
+pub gathered-few : (j : Joined) (rows : List ℕ) (r : ℕ) → r ≤ 120 → r ≡ j .checks → HasRows 2 8 (j .matrix) r rows → Gathered j rows r
+gathered-few j rows r l e H = record { number = λ q. e; held = λ q. H; many = λ q. absurd (omega arith) }
+
+pub gathered-many : (h : Matrix) (m : ℕ) (g : Matrix) (c M : ℕ) → c < M → (rows : List ℕ) (r : ℕ) → 120 < r
+    → Gathered (joinCheck 128 (joined 128 h m g c) (g c)) rows r → Gathered (joined 128 h m g M) rows r
+gathered-many h m g c M k rows r l G =
+    let n : 120 < joined 128 h m g (c + 1) .checks = rw (joined-next 128 h m g c) (G .many l) in
+    record {
+      number = λ q. absurd (omega arith);
+      held = λ q. absurd (omega arith);
+      many = λ q. omega (arith, checks-most 128 h m g (c + 1) M (omega arith));
+    }
+
+-- words that are all 0
+pub spread-none : (U W : ℕ) (rows words : List ℕ) → Zeroed words (512 * W) → Spread U W rows 0 words
+spread-none U W rows words Z = record { at = λ i l. rw (le-ltb (i / W) 0 (omega arith)) (Z .none i l) }
+
+-- the next row of two words is written
+pub spread-next : (W : ℕ) → 2 ≤ W → (rows : List ℕ) (c : ℕ) (words : List ℕ) → c < 512 → length words ≡ 512 * W → Spread 2 W rows c words
+    → Spread 2 W rows (c + 1) (set (set words (c * W) (getD rows (c * 2) 0)) (c * W + 1) (getD rows (c * 2 + 1) 0))
+spread-next W w rows c words k size S = record { at = at }
+  where
+    first : List ℕ
+    first = set words (c * W) (getD rows (c * 2) 0)
+
+    room : (i : ℕ) → i < W → c * W + i < length words
+    room i l = omega (arith, digits-lt k l)
+
+    at : (i : ℕ) → i < 512 * W → getD (set first (c * W + 1) (getD rows (c * 2 + 1) 0)) i 0
+        ≡ cond (ltb (i / W) (c + 1) && ltb (i % W) 2) (getD rows (i / W * 2 + i % W) 0) 0
+    at i l =
+        elim (ℕ-discrete i (c * W + 1)) [
+          | yes q ↦
+              let o : 1 < W = omega arith in
+              rw (q, digits-div c o, digits-mod c o, lt-ltb c (c + 1) (omega arith))
+              (getD-set-same first (c * W + 1) (getD rows (c * 2 + 1) 0) 0 (omega (arith, room 1 o, length-set words (c * W) (getD rows (c * 2) 0))))
+          | no q ↦ getD-set-other first (c * W + 1) i (getD rows (c * 2 + 1) 0) 0 q ∙ elim (ℕ-discrete i (c * W)) [
+            | yes r ↦
+                let o : 0 < W = omega arith in
+                let s : i ≡ c * W + 0 = omega arith in
+                let z : c * W + 0 ≡ c * W = omega arith in
+                let y : c * 2 + 0 ≡ c * 2 = omega arith in
+                rw (s, digits-div c o, digits-mod c o, lt-ltb c (c + 1) (omega arith), y, z) (getD-set-same words (c * W) (getD rows (c * 2) 0) 0 (omega (arith, room 0 o)))
+            | no r ↦ getD-set-other words (c * W) i (getD rows (c * 2) 0) 0 r ∙ S .at i l ∙ elim (ℕ-discrete (i / W) c) [
+              | no t ↦ rw (below-next (i / W) c t)
+              | yes t ↦
+                  let m : c * W + i % W ≡ i = rw t at (div-add-mod' i W) in
+                  rw (le-ltb (i / W) c (omega arith), le-ltb (i % W) 2 (omega arith), and-false)
+            ]
+          ]
+        ]
+
+-- Rows that are all checks of a matrix, written: the words are those that hold it.
+pub spread-all : (U W : ℕ) → 0 < W → (h : Matrix) (N M : ℕ) → Clean h N M → N ≤ U * 64 → (rows words : List ℕ) → length words ≡ 512 * W
+    → HasRows U W h M rows → Spread U W rows M words → words ≡ pack W h
+spread-all U W p h N M K n rows words size H S =
+    ext-getD 0 words (pack W h) (size ∙ sym (pack-length W h)) (λ i l. S .at i (omega arith) ∙ at i ∙ sym (pack-at W h i (omega arith)))
+  where
+    none : (i : ℕ) → ((b : ℕ) → b < 64 → h (i / W) (i % W * 64 + b) ≡ false) → 0 ≡ wordOf W h i
+    none i f = same-bits 64 0 (wordOf W h i) (pow-pos 64) (word-lt W h i) (λ b l. bit-zero b ∙ sym (word-bit W h i b l ∙ f b l))
+
+    at : (i : ℕ) → cond (ltb (i / W) M && ltb (i % W) U) (getD rows (i / W * U + i % W) 0) 0 ≡ wordOf W h i
+    at i =
+        elim (decLt (i / W) M) [
+          | no k ↦ rw (le-ltb (i / W) M (omega arith)) (none i (λ b l. K .checks (i / W) (i % W * 64 + b) (omega arith)))
+          | yes k ↦ elim (decLt (i % W) U) [
+            | no m ↦ rw (lt-ltb (i / W) M k, le-ltb (i % W) U (omega arith)) (none i (λ b l. K .bits (i / W) (i % W * 64 + b) (omega arith)))
+            | yes m ↦ rw (lt-ltb (i / W) M k, lt-ltb (i % W) U m) (H .at (i / W) (i % W) k m ∙ ap (wordOf W h) (div-add-mod' i W))
+          ]
+        ]

@@ -29,8 +29,9 @@
  * `values` where it would stand are left as they were.
  *
  * REFUSALS. A call refuses for the first of its causes that holds, in the order
- * 1, 2, 3, 4, 13, then the rest by number. A refusal leaves every lent element
- * as it was, except for `values` and for PARITY_FULL of parity_orthogonalise.
+ * 1, 2, 3, 4, 13, then the rest by number; parity_join looks at each cause in both
+ * matrices before the next. A refusal leaves every lent element as it was, except
+ * for `values` and for PARITY_FULL of parity_orthogonalise.
  *
  * EMBEDDING. A call takes no memory from the heap and makes no system call. It
  * keeps no state: what it answers depends on its arguments alone, so that any
@@ -92,7 +93,7 @@ extern "C" {
 #define PARITY_BYTE 11
 /* Contradiction: checks that cannot be made even. */
 #define PARITY_CONTRADICTION 12
-/* k is above 0 in rank, encoding or mending. */
+/* k is above 0 in rank, encoding, mending or joining. */
 #define PARITY_EXTENDED 13
 /* k = 0: there is nothing to take back. */
 #define PARITY_NOTHING_TO_TAKE_BACK 15
@@ -105,6 +106,10 @@ extern "C" {
 #define PARITY_SET_SIZE 18
 /* The slice for the sets is too short; values: the places needed. */
 #define PARITY_SETS_SHORT 19
+/* Two matrices to be joined have different n. */
+#define PARITY_DIFFERENT_LENGTHS 20
+/* Joined, two matrices have more than PARITY_CHECKS_MOST checks. */
+#define PARITY_TOO_MANY_CHECKS 21
 
 /* The names of the house codes: the circulant of 23 bits, and the Hamming checks
  * for lengths 3, 7, 15 and 31. */
@@ -386,6 +391,27 @@ uint32_t parity_stopping_sets(const uint64_t *words, size_t words_len,
                               size_t t,
                               uint16_t *sets, size_t sets_len,
                               uint64_t *values, size_t values_len);
+
+/* Joins two matrices with k = 0 over the same n bits into a third: the first's
+ * checks, then those of the second that equal no earlier check of the result, in
+ * order. Two checks are equal if they contain the same bits. Equal checks of the
+ * first stay. The result has the same n, and k = 0. Its codewords are exactly
+ * those of both; of one with bits erased, peeling with it leaves no bit that either
+ * would have recovered.
+ *
+ * words1, words2: read. They may be the same slice.
+ * words3: all PARITY_WORDS are written by an answer.
+ * Values of the answer, 1: the number of checks.
+ * Refusals, each over both matrices before the next: 1 for any of the three
+ *   slices, 2, 3, 4, 13; 20 if n1 and n2 differ; 21 if more than
+ *   PARITY_CHECKS_MOST checks result.
+ */
+uint32_t parity_join(const uint64_t *words1, size_t words1_len,
+                     size_t n1, size_t m1, size_t k1,
+                     const uint64_t *words2, size_t words2_len,
+                     size_t n2, size_t m2, size_t k2,
+                     uint64_t *words3, size_t words3_len,
+                     uint64_t *values, size_t values_len);
 
 #ifdef __cplusplus
 }

@@ -33,6 +33,7 @@ enum Call {
     Encode,
     HouseCode,
     StoppingSets,
+    Join,
 }
 
 /// All that a call is lent and passed.
@@ -51,6 +52,10 @@ struct Job {
     word: Vec<u8>,
     t: usize,
     sets: Vec<u16>,
+    /// The second matrix of join, which has the same n and k, and the words of the third.
+    words2: Vec<u64>,
+    m2: usize,
+    words3: Vec<u64>,
     values: [u64; VALUES_MOST],
 }
 
@@ -74,6 +79,7 @@ fn in_plain(job: &mut Job) -> u32 {
         Call::Encode => plain::encode(&job.words, n, m, k, &job.input, &mut job.word, values),
         Call::HouseCode => plain::house_code(job.name, &mut job.words, values),
         Call::StoppingSets => plain::stopping_sets(&job.words, n, m, k, job.t, &mut job.sets, values),
+        Call::Join => plain::join(&job.words, n, m, k, &job.words2, n, job.m2, k, &mut job.words3, values),
     }
 }
 
@@ -84,6 +90,8 @@ fn in_library(job: &mut Job) -> u32 {
     let (input, input_len) = (job.input.as_ptr(), job.input.len());
     let (word, word_len) = (job.word.as_mut_ptr(), job.word.len());
     let (sets, sets_len) = (job.sets.as_mut_ptr(), job.sets.len());
+    let (words2, words2_len, m2) = (job.words2.as_ptr(), job.words2.len(), job.m2);
+    let (words3, words3_len) = (job.words3.as_mut_ptr(), job.words3.len());
     let (values, values_len) = (job.values.as_mut_ptr(), job.values.len());
     // Every pointer and length is that of a live vector, and no two overlap.
     unsafe {
@@ -113,6 +121,9 @@ fn in_library(job: &mut Job) -> u32 {
             Call::StoppingSets => {
                 ffi::parity_stopping_sets(words, words_len, n, m, k, job.t, sets, sets_len, values, values_len)
             }
+            Call::Join => ffi::parity_join(
+                words, words_len, n, m, k, words2, words2_len, n, m2, k, words3, words3_len, values, values_len,
+            ),
         }
     }
 }
@@ -290,6 +301,9 @@ impl Case {
             word: Vec::new(),
             t: 0,
             sets: Vec::new(),
+            words2: Vec::new(),
+            m2: 0,
+            words3: Vec::new(),
             values: [0; VALUES_MOST],
         }
     }
@@ -535,6 +549,27 @@ fn table(r: &mut Random, given: &[Case], cases: &[Case]) -> Result<(), String> {
     Ok(())
 }
 
+/// Joining: two dense matrices, which come to 120 checks, such a one with itself, and case L with itself.
+fn joined(r: &mut Random, l: &Case) -> Result<(), String> {
+    let mut dense = |name| {
+        let checks: Vec<Vec<usize>> = (0..60).map(|_| (0..120).filter(|_| r.below(2) == 0).collect()).collect();
+        Case::given(name, 120, &checks)
+    };
+    let (one, other) = (dense("dense 60 x 120"), dense("dense 60 x 120"));
+    println!("| call | two dense 60 x 120 | dense 60 x 120 with itself | case L with itself |");
+    println!("|---|--:|--:|--:|");
+    let mut line = "| join |".to_string();
+    for (first, second) in [(&one, &other), (&one, &one), (l, l)] {
+        let mut job = first.job(Call::Join);
+        (job.words2, job.m2) = (second.words.clone(), second.m);
+        job.words3 = vec![0; WORDS];
+        let (library, plain) = measure(&job)?;
+        line += &cell(library, plain, 1);
+    }
+    println!("{line}\n");
+    Ok(())
+}
+
 fn main() -> ExitCode {
     let r = &mut Random(0x9E37_79B9_7F4A_7C15);
     let given = cases(r);
@@ -550,6 +585,10 @@ fn main() -> ExitCode {
     }
     if result.is_ok() {
         result = small_sets(&given, &extended);
+    }
+    if result.is_ok() {
+        println!("Joined:\n");
+        result = joined(r, &given[1]);
     }
     match result {
         Ok(()) => ExitCode::SUCCESS,

@@ -119,4 +119,13 @@ extern "C" {
         sets: *mut u16, sets_len: usize,
         values: *mut u64, values_len: usize,
     ) -> u32;
+
+    pub fn parity_join(
+        words1: *const u64, words1_len: usize,
+        n1: usize, m1: usize, k1: usize,
+        words2: *const u64, words2_len: usize,
+        n2: usize, m2: usize, k2: usize,
+        words3: *mut u64, words3_len: usize,
+        values: *mut u64, values_len: usize,
+    ) -> u32;
 }

@@ -73,6 +73,10 @@ pub enum Refusal {
     SetSize,
     /// 19: the slice for the sets is too short.
     SetsShort { needed: usize },
+    /// 20: two matrices to be joined have different n.
+    DifferentLengths,
+    /// 21: joined, two matrices have more than 120 checks.
+    TooManyChecks,
 }
 
 impl Refusal {
@@ -97,6 +101,8 @@ impl Refusal {
             Refusal::UnknownName => 17,
             Refusal::SetSize => 18,
             Refusal::SetsShort { .. } => 19,
+            Refusal::DifferentLengths => 20,
+            Refusal::TooManyChecks => 21,
         }
     }
 }
@@ -130,6 +136,8 @@ impl std::fmt::Display for Refusal {
             Refusal::SetsShort { needed } => {
                 write!(f, "the slice for the sets is too short, {needed} places are needed")
             }
+            Refusal::DifferentLengths => write!(f, "two matrices to be joined have different n"),
+            Refusal::TooManyChecks => write!(f, "joined, two matrices have more than 120 checks"),
         }
     }
 }
@@ -248,6 +256,8 @@ fn reply(number: u32, values: Values) -> Result<Values, Refusal> {
         17 => Refusal::UnknownName,
         18 => Refusal::SetSize,
         19 => Refusal::SetsShort { needed: values[0] as usize },
+        20 => Refusal::DifferentLengths,
+        21 => Refusal::TooManyChecks,
         other => panic!("the library returned {other}, which is no refusal"),
     })
 }
@@ -533,4 +543,39 @@ pub fn stopping_sets<'a>(
     };
     let listed = reply(number, values)?[0] as usize;
     Ok(sets[..t * listed].chunks_exact(t))
+}
+
+/// Joins two matrices with k = 0 over the same bits into `words3`, all of which are written: the first's checks, then those of
+/// the second that equal no earlier check of the result; answers the number of checks.
+pub fn join(
+    words1: &[u64],
+    n1: usize,
+    m1: usize,
+    k1: usize,
+    words2: &[u64],
+    n2: usize,
+    m2: usize,
+    k2: usize,
+    words3: &mut [u64],
+) -> Result<usize, Refusal> {
+    let mut values: Values = [0; VALUES_MOST];
+    let number = unsafe {
+        ffi::parity_join(
+            words1.as_ptr(),
+            words1.len(),
+            n1,
+            m1,
+            k1,
+            words2.as_ptr(),
+            words2.len(),
+            n2,
+            m2,
+            k2,
+            words3.as_mut_ptr(),
+            words3.len(),
+            values.as_mut_ptr(),
+            values.len(),
+        )
+    };
+    reply(number, values).map(|v| v[0] as usize)
 }

@@ -1,5 +1,5 @@
-//! Cases A to K of document 01, cases of taking back, determining, the house codes and small stopping sets (document 02), through
-//! the wrapper.
+//! Cases A to K of document 01, cases of taking back, determining, the house codes, small stopping sets and joining (document 02),
+//! through the wrapper.
 
 use parity::{
     Determined, Held, HouseCode, Loaded, Mended, Orthogonalised, Peeled, Refusal, Shared, Split, TakenBack, WORDS,
@@ -183,6 +183,64 @@ fn unknown_names() {
         }
     }
     assert_eq!(Refusal::UnknownName.number(), 17);
+}
+
+/// A joined with C and C with itself, into words that held ones before; equal checks of the first stay.
+#[test]
+fn joined() {
+    let mut words = vec![u64::MAX; WORDS];
+    assert_eq!(parity::join(&a(), 7, 3, 0, &c(), 7, 3, 0, &mut words), Ok(6));
+    let both = [&[0, 3, 4, 6][..], &[1, 3, 5, 6], &[2, 4, 5, 6], &[0, 1, 2, 3], &[0, 1, 4, 5], &[0, 2, 6]];
+    assert_eq!(words, matrix(&both));
+    // a codeword of both, and one of A alone
+    assert_eq!(parity::verify(&words, 7, 6, 0, &[1, 1, 0, 0, 1, 1, 1]), Ok(false));
+    assert_eq!(parity::verify(&words, 7, 6, 0, &[0; 7]), Ok(true));
+    // C alone leaves all three erased bits
+    let mut word = [2, 2, 2, 0, 0, 0, 0];
+    assert_eq!(parity::peel(&c(), 7, 3, 0, &mut word), Ok(peeled(0, 0, 3, 0)));
+    assert_eq!(parity::peel(&words, 7, 6, 0, &mut word), Ok(peeled(3, 0, 0, 0)));
+    assert_eq!(word, [0; 7]);
+    assert_eq!(parity::join(&c(), 7, 3, 0, &c(), 7, 3, 0, &mut words), Ok(3));
+    assert_eq!(words, c());
+    let twice = matrix(&[&[0, 1, 2], &[0, 1, 2]]);
+    assert_eq!(parity::join(&twice, 3, 2, 0, &matrix(&[&[1], &[1], &[0, 1, 2]]), 3, 3, 0, &mut words), Ok(3));
+    assert_eq!(words, matrix(&[&[0, 1, 2], &[0, 1, 2], &[1]]));
+    assert_eq!(parity::join(&matrix(&[]), 2, 0, 0, &matrix(&[]), 2, 0, 0, &mut words), Ok(0));
+    assert_eq!(words, matrix(&[]));
+}
+
+/// Each cause is looked at in both matrices before the next; a refusal leaves the third words.
+#[test]
+fn not_joined() {
+    let mut extended = a();
+    parity::orthogonalise(&mut extended, 7, 3, 0).expect("it finishes");
+    let join = |first: (&[u64], usize, usize, usize), second: (&[u64], usize, usize, usize), length: usize| {
+        let mut words = vec![7; length];
+        let answer =
+            parity::join(first.0, first.1, first.2, first.3, second.0, second.1, second.2, second.3, &mut words);
+        assert_eq!(words, vec![7; length]);
+        answer.expect_err("it is refused")
+    };
+    let (good, broken) = (a(), matrix(&[&[0, 1], &[0, 1, 2]]));
+    let right = (&good[..], 7, 3, 0);
+    assert_eq!(join(right, right, WORDS - 1), Refusal::MatrixLength);
+    assert_eq!(join((&broken, 2, 1, 1), right, WORDS), Refusal::RuleA);
+    assert_eq!(join((&broken, 2, 1, 1), (&good, 0, 3, 0), WORDS), Refusal::Range);
+    assert_eq!(join((&good, 6, 3, 0), (&good, 7, 121, 0), WORDS), Refusal::Range);
+    assert_eq!(join((&broken, 2, 1, 1), (&good, 6, 3, 0), WORDS), Refusal::OneOutside);
+    assert_eq!(join((&good, 0, 3, 0), (&good[1..], 7, 3, 0), WORDS), Refusal::MatrixLength);
+    assert_eq!(join((&extended, 7, 3, 1), (&good, 8, 3, 0), WORDS), Refusal::Extended);
+    assert_eq!(join((&good, 8, 3, 0), (&extended, 7, 3, 1), WORDS), Refusal::Extended);
+    assert_eq!(join(right, (&good, 8, 3, 0), WORDS), Refusal::DifferentLengths);
+    let rising: Vec<Vec<usize>> = (0..121).map(|c| (0..7).filter(|b| (c + 1) >> b & 1 == 1).collect()).collect();
+    let rows: Vec<&[usize]> = rising.iter().map(Vec::as_slice).collect();
+    let (first, second) = (matrix(&rows[..61]), matrix(&rows[60..]));
+    assert_eq!(join((&first, 7, 61, 0), (&second, 7, 61, 0), WORDS), Refusal::TooManyChecks);
+    let mut words = vec![7; WORDS];
+    assert_eq!(parity::join(&first, 7, 61, 0, &matrix(&rows[60..120]), 7, 60, 0, &mut words), Ok(120));
+    assert_eq!(words, matrix(&rows[..120]));
+    assert_eq!(Refusal::DifferentLengths.number(), 20);
+    assert_eq!(Refusal::TooManyChecks.number(), 21);
 }
 
 #[test]

@@ -139,6 +139,8 @@ fn header_has_the_numbers_of_the_wrapper() {
         ("UNKNOWN_NAME", Refusal::UnknownName),
         ("SET_SIZE", Refusal::SetSize),
         ("SETS_SHORT", Refusal::SetsShort { needed: 0 }),
+        ("DIFFERENT_LENGTHS", Refusal::DifferentLengths),
+        ("TOO_MANY_CHECKS", Refusal::TooManyChecks),
     ];
     let mut due = vec![
         ("WORDS", parity::WORDS),

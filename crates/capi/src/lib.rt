@@ -2,7 +2,7 @@
 // that it carries at the front of `values`, as far as it reaches.
 use parity::Bit;
 ghost use mathlib.Core.Path.{_≡_};
-ghost use Rattle.parity.specs.Calls.{loadOutcome, writeOutcome, shareReply, countReply, splitOutcome, takeBackOutcome, orthogonaliseOutcome, verifyReply, extendOutcome, isStoppingReply, peelOutcome, rankReply, encodeOutcome, houseOutcome, determineOutcome, stoppingSetsOutcome};
+ghost use Rattle.parity.specs.Calls.{loadOutcome, writeOutcome, shareReply, countReply, splitOutcome, takeBackOutcome, orthogonaliseOutcome, verifyReply, extendOutcome, isStoppingReply, peelOutcome, rankReply, encodeOutcome, houseOutcome, determineOutcome, stoppingSetsOutcome, joinOutcome};
 ghost use Rattle.parity.specs.Block.{blockOutcome};
 ghost use Rattle.reply.specs.Passed.{Passed};
 
@@ -292,5 +292,27 @@ pub extern "C" fn parity_stopping_sets(
 {
     let listing = stopping_sets::list(words, n, m, k, t, sets);
     let numbered = reply::listing(listing);
+    reply::pass(numbered, values)
+}
+
+// Carries the number of checks.
+#[no_mangle]
+pub extern "C" fn parity_join(
+    words1: &[u64],
+    n1: usize,
+    m1: usize,
+    k1: usize,
+    words2: &[u64],
+    n2: usize,
+    m2: usize,
+    k2: usize,
+    words3: &mut [u64],
+    values: &mut [u64],
+) -> u32
+    ensures { λ r. ⌜ Passed (joinOutcome (now (words1 .entry)) n1 m1 k1 (now (words2 .entry)) n2 m2 k2 (now (words3 .entry)) .reply) (now (values .entry)) (now (values .exit)) r ⌝ }
+    ensures { λ r. ⌜ now (words3 .exit) ≡ joinOutcome (now (words1 .entry)) n1 m1 k1 (now (words2 .entry)) n2 m2 k2 (now (words3 .entry)) .after ⌝ }
+{
+    let joining = join::join(words1, n1, m1, k1, words2, n2, m2, k2, words3);
+    let numbered = reply::joining(joining);
     reply::pass(numbered, values)
 }

@@ -62,7 +62,7 @@ pub enum Refusal {
     },
     // 12: a contradiction in peeling.
     Contradiction,
-    // 13: k is above 0 in rank or encoding.
+    // 13: k is above 0 in rank, encoding, mending or joining.
     AddedBits,
     // 14: program input.
     ProgramInput,

@@ -6,6 +6,7 @@ use determine::Determining;
 use encode::Encoding;
 use encode::Ranking;
 use house::Copying;
+use join::Joining;
 use parity::Holders;
 use parity::Refusal;
 use peel::Peeling;
@@ -34,6 +35,7 @@ ghost use Rattle.encode.specs.Answers.{rankingReply, encodingReply};
 ghost use Rattle.house.specs.Answers.{copyingReply};
 ghost use Rattle.stopping_sets.specs.Answers.{listingReply};
 ghost use Rattle.block.specs.Answers.{mendingReply};
+ghost use Rattle.join.specs.Answers.{joiningReply};
 ghost use Rattle.reply.specs.Passed.{numberedReply, Passed, filled};
 
 // A number and the values that it carries.
@@ -114,6 +116,8 @@ fn refused(why: Refusal) -> Numbered
         Refusal::UnknownName => Numbered::Alone(17),
         Refusal::WrongSize => Numbered::Alone(18),
         Refusal::SetsTooShort { needed } => Numbered::One(19, needed as u64),
+        Refusal::DifferentLengths => Numbered::Alone(20),
+        Refusal::TooManyChecks => Numbered::Alone(21),
     }
 }
 
@@ -301,6 +305,16 @@ pub fn mending(answer: Mending) -> Numbered
     match answer {
         Mending::Made { stage, recovered } => Numbered::Two(0, stage, recovered),
         Mending::Refused(why) => refused(why),
+    }
+}
+
+// What joining answers.
+pub fn joining(answer: Joining) -> Numbered
+    ensures { λ r. ⌜ numberedReply r ≡ joiningReply answer ⌝ }
+{
+    match answer {
+        Joining::Joined { checks } => Numbered::One(0, checks as u64),
+        Joining::Refused(why) => refused(why),
     }
 }
 

@@ -4,6 +4,7 @@ use crate::cases;
 use crate::compare::compare;
 use crate::elimination;
 use crate::generate;
+use crate::joining;
 use crate::model::{self, Kind, Lent, Matrix, FORMS, KINDS, WORDS};
 use crate::random::Random;
 use crate::stack;
@@ -13,8 +14,8 @@ const CALLS: usize = 20_000;
 
 /// A matrix with words that span its code.
 #[derive(Clone)]
-struct Sample {
-    matrix: Matrix,
+pub struct Sample {
+    pub matrix: Matrix,
     basis: Vec<Vec<u8>>,
 }
 
@@ -25,7 +26,7 @@ impl Sample {
     }
 }
 
-struct Pools {
+pub struct Pools {
     small: Vec<Matrix>,
     medium: Vec<Sample>,
     full: Vec<Sample>,
@@ -120,7 +121,7 @@ impl Pools {
         }
     }
 
-    fn choose(&self, r: &mut Random, kind: Kind, added: Added) -> Sample {
+    pub fn choose(&self, r: &mut Random, kind: Kind, added: Added) -> Sample {
         let fits = |sample: &&Sample| match added {
             Added::None => sample.matrix.k == 0,
             Added::Some => sample.matrix.k > 0,
@@ -158,7 +159,7 @@ impl Pools {
 
 /// What k a matrix is to have.
 #[derive(Clone, Copy, PartialEq)]
-enum Added {
+pub enum Added {
     None,
     Some,
     Any,
@@ -266,13 +267,14 @@ fn good(r: &mut Random, kind: Kind, sample: &Sample) -> Lent {
             let needed = matrix.stopping_sets(lent.t).len();
             lent.sets = (0..needed + more).map(|_| r.next() as u16).collect();
         }
+        Kind::Join => unreachable!(),
     }
     lent
 }
 
 /// A way to make a call bad.
 #[derive(Clone, Copy, PartialEq)]
-enum Damage {
+pub enum Damage {
     WordsLength,
     Numbers,
     Near,
@@ -292,9 +294,12 @@ enum Damage {
     Name,
     SetSize,
     SetsShort,
+    ThirdLength,
+    Different,
+    TooMany,
 }
 
-fn damages(kind: Kind) -> Vec<Damage> {
+pub fn damages(kind: Kind) -> Vec<Damage> {
     use Damage::*;
     if kind == Kind::Load {
         return vec![WordsLength, RecordFault, RecordFault, RecordFault, RecordFault, RecordFault];
@@ -305,6 +310,7 @@ fn damages(kind: Kind) -> Vec<Damage> {
     let mut list = vec![WordsLength, Numbers, Near, Outside, RuleA, RuleA];
     list.extend_from_slice(match kind {
         Kind::Load | Kind::Count | Kind::HouseCode => &[],
+        Kind::Join => &[Extended, ThirdLength, Different, Different, TooMany, TooMany],
         Kind::Write => &[NotBack, NotBack, RecordShort, RecordShort],
         Kind::Share => &[Pair, Pair],
         Kind::Split => &[Pair, LowShare, LowShare, Full],
@@ -553,12 +559,15 @@ pub fn damage_record(r: &mut Random, record: &mut Vec<u32>, n: usize) {
     }
 }
 
-fn apply(r: &mut Random, damage: Damage, matrix: &Matrix, lent: &mut Lent) {
+fn wrong_length(r: &mut Random) -> usize {
+    let any = r.below(4096);
+    r.pick(&[0, 1, 8, 64, 960, 4088, 4095, 4095, 4097, 4097, 4104, 8192, any])
+}
+
+pub fn apply(r: &mut Random, damage: Damage, matrix: &Matrix, lent: &mut Lent) {
     match damage {
-        Damage::WordsLength => {
-            let any = r.below(4096);
-            lent.words.resize(r.pick(&[0, 1, 8, 64, 960, 4088, 4095, 4095, 4097, 4097, 4104, 8192, any]), 0);
-        }
+        Damage::WordsLength => lent.words.resize(wrong_length(r), 0),
+        Damage::ThirdLength => lent.words3.resize(wrong_length(r), 0),
         Damage::Numbers => match r.below(3) {
             0 => lent.n = out_of_range(r, lent.n, 1, 120),
             1 => lent.m = out_of_range(r, lent.m, 0, 120),
@@ -644,10 +653,14 @@ fn apply(r: &mut Random, damage: Damage, matrix: &Matrix, lent: &mut Lent) {
         }
         // These choose the matrix.
         Damage::Extended | Damage::Full | Damage::Nothing | Damage::NotBack => {}
+        Damage::Different | Damage::TooMany => {}
     }
 }
 
 fn one_call(r: &mut Random, kind: Kind, pools: &Pools) -> Lent {
+    if kind == Kind::Join {
+        return joining::one_call(r, pools);
+    }
     let zero = matches!(kind, Kind::Rank | Kind::Encode | Kind::MendBlock);
     let usual = match kind {
         Kind::TakeBack => Added::Some,
@@ -834,7 +847,7 @@ pub fn at_once() -> Result<usize, String> {
 #[derive(Default)]
 struct Tally {
     answers: usize,
-    refusals: [usize; 20],
+    refusals: [usize; 22],
     /// Answers whose first value is 1, and those whose first value is 0.
     yes: usize,
     no: usize,

@@ -60,6 +60,11 @@ pub fn lend(kind: Kind, matrix: &Matrix) -> Lent {
         word: Vec::new(),
         t: 0,
         sets: Vec::new(),
+        words2: Vec::new(),
+        n2: 0,
+        m2: 0,
+        k2: 0,
+        words3: Vec::new(),
     }
 }
 

@@ -12,9 +12,12 @@ use std::sync::OnceLock;
 pub fn describe(lent: &Lent) -> String {
     let mut text = format!("call {}\n", lent.kind.name());
     text += &format!("n {} m {} k {} u {} v {} name {}\n", lent.n, lent.m, lent.k, lent.u, lent.v, lent.name);
-    text += &format!("matrix slice of {} words; those that are not 0, by place:\n", lent.words.len());
-    for (place, word) in lent.words.iter().enumerate().filter(|(_, word)| **word != 0) {
-        text += &format!("  {place}: {word:#018x}\n");
+    text += &format!("second n {} m {} k {}\n", lent.n2, lent.m2, lent.k2);
+    for (which, words) in [("first", &lent.words), ("second", &lent.words2), ("third", &lent.words3)] {
+        text += &format!("{which} matrix slice of {} words; those that are not 0, by place:\n", words.len());
+        for (place, word) in words.iter().enumerate().filter(|(_, word)| **word != 0) {
+            text += &format!("  {place}: {word:#018x}\n");
+        }
     }
     text += &format!("record of {} words: {:08x?}\n", lent.record.len(), lent.record);
     text += &format!("bytes read, {}: {:?}\n", lent.input.len(), lent.input);
@@ -67,6 +70,8 @@ pub fn compare_with(lent: &Lent, before: Vec<u64>) -> Result<(Reply, Lent), Stri
         first_difference("byte read", &found.input, &due.input),
         first_difference("byte written", &found.word, &due.word),
         first_difference("place of the sets", &found.sets, &due.sets),
+        first_difference("word of the second matrix", &found.words2, &due.words2),
+        first_difference("word of the third matrix", &found.words3, &due.words3),
     ];
     text.extend(places.into_iter().flatten());
     Err(text)

@@ -47,6 +47,8 @@ pub fn call(lent: &mut Lent, values: &mut [u64]) -> Result<u32, String> {
     let mut input = Guarded::new(&lent.input, guard as u8);
     let mut word = Guarded::new(&lent.word, guard as u8);
     let mut sets = Guarded::new(&lent.sets, guard as u16);
+    let mut words2 = Guarded::new(&lent.words2, guard);
+    let mut words3 = Guarded::new(&lent.words3, guard);
     let mut carried = Guarded::new(values, guard);
     let (n, m, k, u, v, name, t) = (lent.n, lent.m, lent.k, lent.u, lent.v, lent.name, lent.t);
     let (words_ptr, words_len) = (words.content_mut(), words.len());
@@ -54,6 +56,8 @@ pub fn call(lent: &mut Lent, values: &mut [u64]) -> Result<u32, String> {
     let (input_ptr, input_len) = (input.content_mut() as *const u8, input.len());
     let (word_ptr, word_len) = (word.content_mut(), word.len());
     let (sets_ptr, sets_len) = (sets.content_mut(), sets.len());
+    let (words2_ptr, words2_len, n2, m2, k2) = (words2.content_mut(), words2.len(), lent.n2, lent.m2, lent.k2);
+    let (words3_ptr, words3_len) = (words3.content_mut(), words3.len());
     let (values_ptr, values_len) = (carried.content_mut(), carried.len());
     let mut number = 0;
     // Every pointer and length is that of a live vector's part, and no two overlap.
@@ -95,6 +99,10 @@ pub fn call(lent: &mut Lent, values: &mut [u64]) -> Result<u32, String> {
                 Kind::StoppingSets => ffi::parity_stopping_sets(
                     words_ptr, words_len, n, m, k, t, sets_ptr, sets_len, values_ptr, values_len,
                 ),
+                Kind::Join => ffi::parity_join(
+                    words_ptr, words_len, n, m, k, words2_ptr, words2_len, n2, m2, k2, words3_ptr, words3_len,
+                    values_ptr, values_len,
+                ),
             }
         }
     });
@@ -103,10 +111,12 @@ pub fn call(lent: &mut Lent, values: &mut [u64]) -> Result<u32, String> {
     lent.input.copy_from_slice(input.content());
     lent.word.copy_from_slice(word.content());
     lent.sets.copy_from_slice(sets.content());
+    lent.words2.copy_from_slice(words2.content());
+    lent.words3.copy_from_slice(words3.content());
     values.copy_from_slice(carried.content());
     let intact =
         words.intact() && record.intact() && input.intact() && word.intact() && sets.intact() && carried.intact();
-    if !intact {
+    if !intact || !words2.intact() || !words3.intact() {
         return Err("the library wrote outside a lent slice".to_string());
     }
     held.map(|_| number)

@@ -1,5 +1,5 @@
 //! Tests of the library from outside. `outside` runs all parts; `outside model`, `calls`, `losses`, `records`,
-//! `taking_back`, `holders`, `determining`, `solving`, `sets`, `blocks`, `stack`, `demand3`, `codes`, `mend` run the parts named, and the name of a call, as `outside peel`, runs that kind of
+//! `taking_back`, `holders`, `determining`, `solving`, `sets`, `blocks`, `joining`, `stack`, `demand3`, `codes`, `mend` run the parts named, and the name of a call, as `outside peel`, runs that kind of
 //! call alone. Ends with a status that is not 0 at the first difference, with the whole input that shows it.
 //! OUTSIDE_LAST=FILE keeps the input of the last call in FILE.
 
@@ -15,6 +15,7 @@ mod determining;
 mod elimination;
 mod generate;
 mod holders;
+mod joining;
 mod library;
 mod losses;
 mod mend;
@@ -30,7 +31,7 @@ use model::{Kind, KINDS};
 use std::process::ExitCode;
 use std::time::Instant;
 
-const PARTS: [&str; 14] = [
+const PARTS: [&str; 15] = [
     "model",
     "calls",
     "losses",
@@ -41,6 +42,7 @@ const PARTS: [&str; 14] = [
     "solving",
     "sets",
     "blocks",
+    "joining",
     "stack",
     "demand3",
     "codes",
@@ -83,6 +85,7 @@ fn run(part: &str, kinds: &[Kind]) -> Result<Outcome, String> {
         "solving" => noted(solving::run()),
         "sets" => noted(sets::run()),
         "blocks" => noted(blocks::run()),
+        "joining" => noted(joining::run()),
         "stack" => noted(stack::run()),
         "demand3" => noted(demand3::run()),
         "codes" => noted(codes::run()),

@@ -68,6 +68,12 @@ enum-told-14 c = search needs
 enum-known-why-6 : tie.Need-enum-known-why-6
 enum-known-why-6 c = search needs
 
+enum-told-15 : tie.Need-enum-told-15
+enum-told-15 c = search needs
+
+enum-told-16 : tie.Need-enum-told-16
+enum-told-16 c = search needs
+
 returns : tie.Need-returns
 returns c = sym (ap refusalOf (c .enum-told .given .1))
 
@@ -128,6 +134,12 @@ returns-19 c = sym (ap refusalOf (c .enum-told14 .given .1))
 returns-20 : tie.Need-returns-20
 returns-20 c = sym (ap refusalOf (c .before .why6 .given .1))
 
+returns-21 : tie.Need-returns-21
+returns-21 c = sym (ap refusalOf (c .enum-told15 .given .1))
+
+returns-22 : tie.Need-returns-22
+returns-22 c = sym (ap refusalOf (c .enum-told16 .given .1))
+
 pub refused-spec : {M : Type 1} → statement M
 refused-spec =
     tie.close
@@ -153,6 +165,8 @@ refused-spec =
     enum-told-13
     enum-told-14
     enum-known-why-6
+    enum-told-15
+    enum-told-16
     returns
     returns-2
     returns-3
@@ -172,4 +186,6 @@ refused-spec =
     returns-17
     returns-18
     returns-19
-    returns-20)
+    returns-20
+    returns-21
+    returns-22)

@@ -192,7 +192,8 @@ fn joined() {
     assert_eq!(parity::join(&a(), 7, 3, 0, &c(), 7, 3, 0, &mut words), Ok(6));
     let both = [&[0, 3, 4, 6][..], &[1, 3, 5, 6], &[2, 4, 5, 6], &[0, 1, 2, 3], &[0, 1, 4, 5], &[0, 2, 6]];
     assert_eq!(words, matrix(&both));
-    // a codeword of both, and one of A alone
+    // a codeword of C alone, and one of both
+    assert_eq!(parity::verify(&c(), 7, 3, 0, &[1, 1, 0, 0, 1, 1, 1]), Ok(true));
     assert_eq!(parity::verify(&words, 7, 6, 0, &[1, 1, 0, 0, 1, 1, 1]), Ok(false));
     assert_eq!(parity::verify(&words, 7, 6, 0, &[0; 7]), Ok(true));
     // C alone leaves all three erased bits

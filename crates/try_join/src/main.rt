@@ -2,7 +2,7 @@
 // line has the pair, the number of checks and the two words in use of the first seven, or the refusal, and a digest of the third words afterwards.
 use join::Joining;
 ghost use mathlib.Core.Path.{_≡_};
-ghost use Prim.Native.Nat.{_≤_};
+ghost use Prim.Native.Nat.{_≤_, _<_};
 ghost use lib.ListN.{length};
 
 fn field(head: &[u8], x: u64) {
@@ -125,17 +125,27 @@ fn put(words: &mut [u64], at: usize, x: u64) {
     }
 }
 
+// Check `c` of 120 bits becomes the one of number `x`.
+fn put_check(words: &mut [u64], c: usize, x: u64)
+    requires { ⌜ (c < 120) × (x < 1000) ⌝ }
+{
+    put(words, c * 8, x * 1000003 + 1);
+    put(words, c * 8 + 1, 0x00ff_ffff_ffff_ffff - x);
+}
+
 // `count` checks of 120 bits from number `from` on, no two of which are equal.
-fn different(words: &mut [u64], from: usize, count: usize) {
+fn different(words: &mut [u64], from: usize, count: usize)
+    requires { ⌜ (from ≤ 500) × (count ≤ 120) ⌝ }
+{
     for c in 0..count {
-        let x = (from % 1000 + c % 512) as u64;
-        put(words, c % 512 * 8, x * x + 1);
-        put(words, c % 512 * 8 + 1, 0x00ff_ffff_ffff_ffff - x);
+        put_check(words, c, (from + c) as u64);
     }
 }
 
 // So many checks from these numbers on, on either side.
-fn many(head: &[u8], from1: usize, m1: usize, from2: usize, m2: usize) {
+fn many(head: &[u8], from1: usize, m1: usize, from2: usize, m2: usize)
+    requires { ⌜ (from1 ≤ 500) × (m1 ≤ 120) × (from2 ≤ 500) × (m2 ≤ 120) ⌝ }
+{
     let mut words1 = [0u64; 4096];
     different(&mut words1, from1, m1);
     let mut words2 = [0u64; 4096];

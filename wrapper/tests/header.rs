@@ -105,10 +105,10 @@ fn read(path: &str) -> String {
 #[test]
 fn header_wrapper_and_crate_agree() {
     let header = of_header(&read("../include/parity.h"));
-    assert_eq!(header.len(), 17);
+    assert_eq!(header.len(), 18);
     assert_eq!(header, of_wrapper(&read("src/ffi.rs")));
     let text = read("../crates/capi/src/lib.rt");
-    assert_eq!(text.matches("extern \"C\"").count(), 17);
+    assert_eq!(text.matches("extern \"C\"").count(), 18);
     assert_eq!(header, of_crate(&text));
 }
 

@@ -7,4 +7,5 @@ pub mod Record
 pub mod Encoding
 pub mod House
 pub mod Joining
+pub mod Soft
 pub mod Causes

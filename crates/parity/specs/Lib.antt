@@ -10,9 +10,12 @@ pub mod Record
 pub mod Encoding
 pub mod House
 pub mod Joining
+pub mod Floats
+pub mod Soft
 pub mod Causes
 pub mod Calls
 pub mod Solving
 pub mod Block
+pub mod SoftCall
 pub mod Promises
 pub mod Mend

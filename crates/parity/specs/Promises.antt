@@ -13,12 +13,17 @@ use Rattle.parity.specs.Finite.{one, count, listFrom}
 use Rattle.parity.specs.Words.{isOne}
 use Rattle.parity.specs.StoppingSets.{isIn, flat, rising, ordered}
 use Rattle.parity.specs.Calls.{loadOutcome, writeOutcome, splitOutcome, takeBackOutcome, houseOutcome, byteOf, verifyReply, peelOutcome, determineOutcome, shareReply, orthogonaliseOutcome, isStoppingReply, stoppingSetsOutcome, joinOutcome}
-use mathlib.Core.Logic.{_↔_}
+use mathlib.Core.Logic.{_↔_, _⊎_}
 use Rattle.parity.specs.Demand3.{Call, runs, start, Verifies, erasing, Left, Recovered, none, Stand, Keeps}
 use lib.Dec.{eqb, ltb}
 use Rattle.parity.specs.Splits.{allBack, splitsSum, rebuilds}
 use Rattle.parity.specs.Solving.{solvingAll, isRun, isComplete}
 use Rattle.parity.specs.Block.{blockOutcome}
+use lib.Ieee.{Float, nan, binary32, neg, fits}
+use Rattle.parity.specs.Floats.{positiveZero, finite}
+use Rattle.parity.specs.Soft.{Messages, messageAt, toBits, sentAfter}
+use Rattle.parity.specs.SoftCall.{minSumOutcome}
+use Rattle.parity.specs.declared.Channel.the-variants.{Soft}
 
 -- M-101: a split that is made, followed by taking back, gives the same words and k; both answer the same s.
 abbrev pub SplitTakenBack : Type 0
@@ -294,3 +299,43 @@ abbrev pub JoinsBoth : Type 0
 JoinsBoth = (ws₁ : List ℕ) (n₁ m₁ k₁ : ℕ) (ws₂ : List ℕ) (n₂ m₂ k₂ : ℕ) (ws₃ : List ℕ) (checks : ℕ)
     → joinOutcome ws₁ n₁ m₁ k₁ ws₂ n₂ m₂ k₂ ws₃ .reply ≡ answer (checks ∷ [])
     → Joins ws₁ n₁ m₁ k₁ ws₂ n₂ m₂ k₂ (joinOutcome ws₁ n₁ m₁ k₁ ws₂ n₂ m₂ k₂ ws₃ .after) checks
+
+-- M-112: of N bits, one that check c contains, other than bit b, sent a soft value that is y, or whose negation y is.
+pub record OneInput (h : Matrix) (N : ℕ) (sent : Messages) (c b : ℕ) (y : Float) : Type 0 where
+  pub bit : ℕ
+  pub below : bit < N
+  pub contained : h c bit ≡ true
+  pub other : bit ≡ b → ⊥
+  pub input : Float
+  pub is-input : sent c bit ≡ Soft input
+  pub either : (y ≡ input) ⊎ (y ≡ neg input)
+
+-- A check's soft answer is exactly one input or its negation: in each round of a call that answers, at each check and bit. The floats of a lent
+-- slice are 32-bit floats.
+abbrev pub AnswerIsInput : Type 0
+AnswerIsInput = (ws : List ℕ) (n m k rounds : ℕ) (word : List ℕ) (floats : List Float) (bytes : List ℕ) (values : List Float)
+    → minSumOutcome ws n m k rounds word floats bytes values .reply ≡ answer []
+    → ((b : ℕ) → fits binary32 (getD floats b nan) ≡ true)
+    → (r c b : ℕ) → r < rounds → c < m + k → (y : Float)
+    → let sent = sentAfter (lent 8 ws) (n + k) (m + k) (messageAt word floats) r in
+    toBits (lent 8 ws) (n + k) sent c b ≡ Soft y → OneInput (lent 8 ws) (n + k) sent c b y
+
+-- Words holding only sure and erased bits, got from a codeword, after 512 rounds end as peeling ends: the call answers, whatever the floats and the
+-- messages held, and the floats are plus zero.
+abbrev pub EndsAsPeeling : Type 0
+EndsAsPeeling = (ws : List ℕ) (n m k : ℕ) (x : List ℕ) → Verifies ws n m k x → (e : ℕ → Bool) (floats : List Float) (bytes : List ℕ) (values : List Float)
+    → length floats ≡ n + k → length bytes ≡ 65536 → length values ≡ 65536
+    → minSumOutcome ws n m k 512 (erasing e x) floats bytes values ≡ record {
+      reply = answer [];
+      word = peelOutcome ws n m k (erasing e x) .after;
+      floats = replicate (n + k) positiveZero;
+      messageBytes = replicate 65536 0;
+      messageFloats = replicate 65536 positiveZero;
+    }
+
+-- Nothing that an answer writes is infinite or not a number.
+abbrev pub WritesFinite : Type 0
+WritesFinite = (ws : List ℕ) (n m k rounds : ℕ) (word : List ℕ) (floats : List Float) (bytes : List ℕ) (values : List Float)
+    → minSumOutcome ws n m k rounds word floats bytes values .reply ≡ answer []
+    → let o = minSumOutcome ws n m k rounds word floats bytes values in
+    ((b : ℕ) → b < n + k → finite (getD (o .floats) b nan) ≡ true) × ((i : ℕ) → i < 65536 → finite (getD (o .messageFloats) i nan) ≡ true)

@@ -1,4 +1,5 @@
-// The types that the calls share: the numbers of bits and of checks, the checks that hold a pair, the forms of a record, and the refusals.
+// The types that the calls share: the numbers of bits and of checks, the checks that hold a pair, the forms of a record, channel values, and
+// the refusals.
 ghost use mathlib.Core.Path.{_≡_};
 ghost use Rattle.parity.specs.Causes.{refusalOf};
 
@@ -19,6 +20,13 @@ pub enum Form {
     First,
     Second,
     Third,
+}
+
+// A channel value, a message or a result (M-112): a sure bit, a soft value whose sign favours 0 when positive, or erased.
+pub enum Channel {
+    Sure(bool),
+    Soft(f32),
+    Erased,
 }
 
 // Why a call is refused: document 01's causes, in its order, and those that document 02 adds, each with the values that it returns.

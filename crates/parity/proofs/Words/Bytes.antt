@@ -106,10 +106,12 @@ made-or-left false a = inr refl
 
 -- the word x in which the bytes of e are made 2
 module _ (n : ℕ) (x : List ℕ) (X : Word n 1 x) (e : ℕ → Bool) where
-  pub erased-got : (b : ℕ) → b < n → (byteOf (erasing e x) b ≡ 2) ⊎ (byteOf (erasing e x) b ≡ byteOf x b)
+  pub erased-at : (b : ℕ) → b < n → byteOf (erasing e x) b ≡ cond (e b) 2 (byteOf x b)
   unfolding erasing
-  erased-got b l =
-      rw (at-listFrom 0 (length x) (λ b. cond (e b) 2 (byteOf x b)) b (omega (arith, X .size)), zero-add b) (made-or-left (e b) (byteOf x b))
+  erased-at b l = at-listFrom 0 (length x) (λ b. cond (e b) 2 (byteOf x b)) b (omega (arith, X .size)) ∙ rw (zero-add b)
+
+  pub erased-got : (b : ℕ) → b < n → (byteOf (erasing e x) b ≡ 2) ⊎ (byteOf (erasing e x) b ≡ byteOf x b)
+  erased-got b l = rw (erased-at b l) (made-or-left (e b) (byteOf x b))
 
   pub erased-size : length (erasing e x) ≡ n
   unfolding erasing

@@ -16,8 +16,8 @@
  * SLICES. A slice is a pointer to its first element and then its number of
  * elements. A pointer is never NULL and is aligned for its elements, also when
  * the number is 0. A slice that a call may write (no `const`) overlaps no other
- * slice of the same call. A slice may have any length and n, m, k, u, v, t and
- * name any value: what does not fit is refused.
+ * slice of the same call. A slice may have any length and n, m, k, u, v, t, name
+ * and rounds any value: what does not fit is refused.
  *
  * RESULTS. Every call returns 0 for an answer, or the number of the refusal. The
  * values that the answer or the refusal carries fill the first elements of
@@ -29,9 +29,9 @@
  * `values` where it would stand are left as they were.
  *
  * REFUSALS. A call refuses for the first of its causes that holds, in the order
- * 1, 2, 3, 4, 13, then the rest by number; parity_join looks at each cause in both
- * matrices before the next. A refusal leaves every lent element as it was, except
- * for `values` and for PARITY_FULL of parity_orthogonalise.
+ * 1, 2, 3, 4, 13, 22, then the rest by number; parity_join looks at each cause in
+ * both matrices before the next. A refusal leaves every lent element as it was,
+ * except for `values` and for PARITY_FULL of parity_orthogonalise.
  *
  * EMBEDDING. A call takes no memory from the heap and makes no system call. It
  * keeps no state: what it answers depends on its arguments alone, so that any
@@ -59,6 +59,11 @@ extern "C" {
 #define PARITY_RECORD_MOST 14914
 /* The largest sets that parity_stopping_sets lists. */
 #define PARITY_SET_SIZE_MOST 4
+
+/* The most rounds of parity_min_sum, and the number of bytes and of floats that it
+ * needs for its messages. */
+#define PARITY_ROUNDS_MOST 512
+#define PARITY_MESSAGES 65536
 
 /* The most values that a call carries. */
 #define PARITY_VALUES_MOST 5
@@ -110,6 +115,11 @@ extern "C" {
 #define PARITY_DIFFERENT_LENGTHS 20
 /* Joined, two matrices have more than PARITY_CHECKS_MOST checks. */
 #define PARITY_TOO_MANY_CHECKS 21
+/* The number of rounds is outside 1 to PARITY_ROUNDS_MOST. */
+#define PARITY_ROUNDS 22
+/* A soft float that is not finite or above 1,048,576 in magnitude; values: its
+ * lowest place from 0. */
+#define PARITY_FLOAT 23
 
 /* The names of the house codes: the circulant of 23 bits, and the Hamming checks
  * for lengths 3, 7, 15 and 31. */
@@ -412,6 +422,38 @@ uint32_t parity_join(const uint64_t *words1, size_t words1_len,
                      size_t n2, size_t m2, size_t k2,
                      uint64_t *words3, size_t words3_len,
                      uint64_t *values, size_t values_len);
+
+/* Decodes a word of sure, soft and erased bits by min-sum rounds, each all checks
+ * and then all bits. A bit's byte is 0 or 1 (sure), 2 (erased) or 3 (soft); a soft
+ * bit has a float, whose sign favours 0 when positive, in the same place of
+ * `floats`. Before the first round bits send their channel value. To each of its
+ * bits a check sends: erased if another of its bits is erased; sure with their
+ * parity if all others are sure; else the least magnitude among the soft ones, its
+ * sign turned once for each sure 1 and each negative value. A bit sends each of
+ * its checks the first sure value among the channel and the other checks by rising
+ * number, else the soft ones added in that order, the whole sum cut to magnitude
+ * 1,048,576, else erased. The result of a bit is found likewise from all its
+ * checks. Zero counts as positive, and leaves as plus zero. A word of sure and
+ * erased bits, got from a codeword, ends after 512 rounds as parity_peel ends.
+ *
+ * words: read.
+ * rounds: 1 to PARITY_ROUNDS_MOST.
+ * word: n+k bytes of 0, 1, 2 or 3. An answer writes each bit's result.
+ * floats: n+k floats, read only where `word` has 3. An answer writes all of them:
+ *   plus zero unless the result is soft. None is infinite or not a number.
+ * message_bytes, message_floats: PARITY_MESSAGES each, whatever they hold. An
+ *   answer leaves them zero.
+ * Values of the answer: none.
+ * Refusals: 1, 2, 3, 4, 22; 10 for any of the four slices; 11 with the place in
+ *   `word`; 23 with the place in `floats`.
+ */
+uint32_t parity_min_sum(const uint64_t *words, size_t words_len,
+                        size_t n, size_t m, size_t k, size_t rounds,
+                        uint8_t *word, size_t word_len,
+                        float *floats, size_t floats_len,
+                        uint8_t *message_bytes, size_t message_bytes_len,
+                        float *message_floats, size_t message_floats_len,
+                        uint64_t *values, size_t values_len);
 
 #ifdef __cplusplus
 }

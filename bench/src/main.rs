@@ -34,6 +34,7 @@ enum Call {
     HouseCode,
     StoppingSets,
     Join,
+    MinSum,
 }
 
 /// All that a call is lent and passed.
@@ -56,6 +57,10 @@ struct Job {
     words2: Vec<u64>,
     m2: usize,
     words3: Vec<u64>,
+    rounds: usize,
+    floats: Vec<f32>,
+    message_bytes: Vec<u8>,
+    message_floats: Vec<f32>,
     values: [u64; VALUES_MOST],
 }
 
@@ -80,6 +85,17 @@ fn in_plain(job: &mut Job) -> u32 {
         Call::HouseCode => plain::house_code(job.name, &mut job.words, values),
         Call::StoppingSets => plain::stopping_sets(&job.words, n, m, k, job.t, &mut job.sets, values),
         Call::Join => plain::join(&job.words, n, m, k, &job.words2, n, job.m2, k, &mut job.words3, values),
+        Call::MinSum => plain::min_sum(
+            &job.words,
+            n,
+            m,
+            k,
+            job.rounds,
+            &mut job.word,
+            &mut job.floats,
+            &mut job.message_bytes,
+            &mut job.message_floats,
+        ),
     }
 }
 
@@ -92,6 +108,9 @@ fn in_library(job: &mut Job) -> u32 {
     let (sets, sets_len) = (job.sets.as_mut_ptr(), job.sets.len());
     let (words2, words2_len, m2) = (job.words2.as_ptr(), job.words2.len(), job.m2);
     let (words3, words3_len) = (job.words3.as_mut_ptr(), job.words3.len());
+    let (floats, floats_len) = (job.floats.as_mut_ptr(), job.floats.len());
+    let (bytes, bytes_len) = (job.message_bytes.as_mut_ptr(), job.message_bytes.len());
+    let (messages, messages_len) = (job.message_floats.as_mut_ptr(), job.message_floats.len());
     let (values, values_len) = (job.values.as_mut_ptr(), job.values.len());
     // Every pointer and length is that of a live vector, and no two overlap.
     unsafe {
@@ -124,6 +143,24 @@ fn in_library(job: &mut Job) -> u32 {
             Call::Join => ffi::parity_join(
                 words, words_len, n, m, k, words2, words2_len, n, m2, k, words3, words3_len, values, values_len,
             ),
+            Call::MinSum => ffi::parity_min_sum(
+                words,
+                words_len,
+                n,
+                m,
+                k,
+                job.rounds,
+                word,
+                word_len,
+                floats,
+                floats_len,
+                bytes,
+                bytes_len,
+                messages,
+                messages_len,
+                values,
+                values_len,
+            ),
         }
     }
 }
@@ -148,8 +185,9 @@ fn timed(run: fn(&mut Job) -> u32, job: &Job, scratch: &mut Job, times: u64, clo
     }
     let start = Instant::now();
     for _ in 0..times {
-        if matches!(job.call, Call::Peel | Call::Determine | Call::MendBlock) {
+        if matches!(job.call, Call::Peel | Call::Determine | Call::MendBlock | Call::MinSum) {
             scratch.word.copy_from_slice(&job.word);
+            scratch.floats.copy_from_slice(&job.floats);
         }
         black_box(run(black_box(scratch)));
     }
@@ -304,6 +342,10 @@ impl Case {
             words2: Vec::new(),
             m2: 0,
             words3: Vec::new(),
+            rounds: 0,
+            floats: Vec::new(),
+            message_bytes: Vec::new(),
+            message_floats: Vec::new(),
             values: [0; VALUES_MOST],
         }
     }
@@ -462,6 +504,17 @@ fn jobs(r: &mut Random, given: &Case, case: &Case) -> Vec<(String, Job)> {
             job.call = Call::MendBlock;
             row(&name.replace("determine", "mend_block"), job);
         }
+    }
+    // Soft sent bits of the zero codeword, one in ten of them false, and erased added bits.
+    let mut job = case.job(Call::MinSum);
+    job.word = vec![3; case.n + case.k];
+    job.word[case.n..].fill(2);
+    job.floats = (0..case.n + case.k).map(|b| (r.below(4000) as f32 / 1000.0 - 0.4) * (b < case.n) as u8 as f32).collect();
+    job.message_bytes = vec![0; plain::MESSAGES];
+    job.message_floats = vec![0.0; plain::MESSAGES];
+    for rounds in [1, 50, 512] {
+        job.rounds = rounds;
+        row(&format!("min_sum, rounds {rounds}"), job.clone());
     }
     let mut job = case.job(Call::Write);
     job.record = case.record();

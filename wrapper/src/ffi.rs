@@ -128,4 +128,14 @@ extern "C" {
         words3: *mut u64, words3_len: usize,
         values: *mut u64, values_len: usize,
     ) -> u32;
+
+    pub fn parity_min_sum(
+        words: *const u64, words_len: usize,
+        n: usize, m: usize, k: usize, rounds: usize,
+        word: *mut u8, word_len: usize,
+        floats: *mut f32, floats_len: usize,
+        message_bytes: *mut u8, message_bytes_len: usize,
+        message_floats: *mut f32, message_floats_len: usize,
+        values: *mut u64, values_len: usize,
+    ) -> u32;
 }

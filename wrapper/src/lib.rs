@@ -25,6 +25,10 @@ pub const VALUES_MOST: usize = 5;
 /// The most bytes of stack that a call needs.
 pub const STACK_MOST: usize = 65_536;
 
+/// The most rounds of [`min_sum`], and the number of bytes and of floats that it needs for its messages.
+pub const ROUNDS_MOST: usize = 512;
+pub const MESSAGES: usize = 65_536;
+
 /// The names of the house codes: the circulant of 23 bits, and the Hamming checks for lengths 3, 7, 15 and 31.
 pub const HOUSE_CIRCULANT: usize = 0;
 pub const HOUSE_HAMMING_3: usize = 1;
@@ -77,6 +81,10 @@ pub enum Refusal {
     DifferentLengths,
     /// 21: joined, two matrices have more than 120 checks.
     TooManyChecks,
+    /// 22: the number of rounds is outside 1 to [`ROUNDS_MOST`].
+    Rounds,
+    /// 23: a soft float that is not finite or above 1,048,576 in magnitude.
+    Float { place: usize },
 }
 
 impl Refusal {
@@ -103,6 +111,8 @@ impl Refusal {
             Refusal::SetsShort { .. } => 19,
             Refusal::DifferentLengths => 20,
             Refusal::TooManyChecks => 21,
+            Refusal::Rounds => 22,
+            Refusal::Float { .. } => 23,
         }
     }
 }
@@ -138,6 +148,8 @@ impl std::fmt::Display for Refusal {
             }
             Refusal::DifferentLengths => write!(f, "two matrices to be joined have different n"),
             Refusal::TooManyChecks => write!(f, "joined, two matrices have more than 120 checks"),
+            Refusal::Rounds => write!(f, "the number of rounds is outside 1 to 512"),
+            Refusal::Float { place } => write!(f, "a soft float that is not finite or too large at place {place}"),
         }
     }
 }
@@ -226,6 +238,35 @@ pub struct Mended {
     pub recovered: usize,
 }
 
+/// A bit as it was received or as it results: sure, soft with a value whose sign favours 0 when positive, or erased.
+#[derive(Clone, Copy, PartialEq, Debug)]
+pub enum Bit {
+    Sure(bool),
+    Soft(f32),
+    Erased,
+}
+
+impl Bit {
+    /// The byte and the float of a bit in slices lent to [`min_sum`].
+    pub fn parts(self) -> (u8, f32) {
+        match self {
+            Bit::Sure(one) => (one as u8, 0.0),
+            Bit::Soft(value) => (3, value),
+            Bit::Erased => (2, 0.0),
+        }
+    }
+
+    /// The bit of a byte and a float; the float is read only for byte 3. None for a byte above 3.
+    pub fn of(byte: u8, float: f32) -> Option<Bit> {
+        match byte {
+            0 | 1 => Some(Bit::Sure(byte == 1)),
+            2 => Some(Bit::Erased),
+            3 => Some(Bit::Soft(float)),
+            _ => None,
+        }
+    }
+}
+
 /// Room for the values of every call.
 type Values = [u64; VALUES_MOST];
 
@@ -258,6 +299,8 @@ fn reply(number: u32, values: Values) -> Result<Values, Refusal> {
         19 => Refusal::SetsShort { needed: values[0] as usize },
         20 => Refusal::DifferentLengths,
         21 => Refusal::TooManyChecks,
+        22 => Refusal::Rounds,
+        23 => Refusal::Float { place: values[0] as usize },
         other => panic!("the library returned {other}, which is no refusal"),
     })
 }
@@ -578,4 +621,66 @@ pub fn join(
         )
     };
     reply(number, values).map(|v| v[0] as usize)
+}
+
+/// Decodes a word of sure, soft and erased bits by min-sum rounds: each bit's result replaces its byte and its float. The
+/// messages need [`MESSAGES`] bytes and floats, whatever they hold; an answer leaves them zero.
+pub fn min_sum(
+    words: &[u64],
+    n: usize,
+    m: usize,
+    k: usize,
+    rounds: usize,
+    word: &mut [u8],
+    floats: &mut [f32],
+    message_bytes: &mut [u8],
+    message_floats: &mut [f32],
+) -> Result<(), Refusal> {
+    let mut values: Values = [0; VALUES_MOST];
+    let number = unsafe {
+        ffi::parity_min_sum(
+            words.as_ptr(),
+            words.len(),
+            n,
+            m,
+            k,
+            rounds,
+            word.as_mut_ptr(),
+            word.len(),
+            floats.as_mut_ptr(),
+            floats.len(),
+            message_bytes.as_mut_ptr(),
+            message_bytes.len(),
+            message_floats.as_mut_ptr(),
+            message_floats.len(),
+            values.as_mut_ptr(),
+            values.len(),
+        )
+    };
+    reply(number, values).map(|_| ())
+}
+
+/// [`min_sum`] on bits, in place.
+pub fn min_sum_bits(
+    words: &[u64],
+    n: usize,
+    m: usize,
+    k: usize,
+    rounds: usize,
+    bits: &mut [Bit],
+    message_bytes: &mut [u8],
+    message_floats: &mut [f32],
+) -> Result<(), Refusal> {
+    // A matrix has at most 512 bits: a slice of 513 is refused as a longer one is.
+    let length = bits.len().min(513);
+    let mut word = [0; 513];
+    let mut floats = [0.0; 513];
+    for (b, bit) in bits.iter().take(length).enumerate() {
+        (word[b], floats[b]) = bit.parts();
+    }
+    min_sum(words, n, m, k, rounds, &mut word[..length], &mut floats[..length], message_bytes, message_floats)?;
+    for (b, bit) in bits.iter_mut().enumerate() {
+        *bit = Bit::of(word[b], floats[b]).expect("a result is sure, soft or erased");
+    }
+    Ok(())
 }

@@ -1,8 +1,8 @@
-//! Cases A to K of document 01, cases of taking back, determining, the house codes, small stopping sets and joining (document 02),
+//! Cases A to K of document 01, cases of taking back, determining, the house codes, small stopping sets, joining and soft bits (document 02),
 //! through the wrapper.
 
 use parity::{
-    Determined, Held, HouseCode, Loaded, Mended, Orthogonalised, Peeled, Refusal, Shared, Split, TakenBack, WORDS,
+    Bit, Determined, Held, HouseCode, Loaded, Mended, Orthogonalised, Peeled, Refusal, Shared, Split, TakenBack, WORDS,
 };
 
 /// Checks 0 and 1 held the pair.
@@ -515,4 +515,54 @@ fn refusals() {
     assert_eq!(parity::take_back(&mut words, 7, 3, 1), Err(Refusal::RuleA));
     assert_eq!(words, c());
     assert_eq!(Refusal::CannotTakeBack.number(), 16);
+}
+
+/// Room for messages that holds something.
+fn messages() -> (Vec<u8>, Vec<f32>) {
+    (vec![77; parity::MESSAGES], vec![f32::NAN; parity::MESSAGES])
+}
+
+#[test]
+fn soft_bits() {
+    use Bit::{Erased, Soft, Sure};
+    let words = a();
+    let (mut bytes, mut floats) = messages();
+    // Check 0 gives bit 0 the least of 3, 1 and 2, turned by bit 3; bits 1 and 2 are in one check each, with an erased bit.
+    let mut bits = [Erased, Erased, Sure(false), Soft(-3.0), Soft(1.0), Erased, Soft(2.0)];
+    assert_eq!(parity::min_sum_bits(&words, 7, 3, 0, 1, &mut bits, &mut bytes, &mut floats), Ok(()));
+    assert_eq!(bits, [Soft(-1.0), Erased, Sure(false), Soft(-3.0), Soft(1.0), Soft(1.0), Soft(2.0)]);
+    assert!(bytes.iter().all(|byte| *byte == 0) && floats.iter().all(|float| float.to_bits() == 0));
+    // Case D: words of sure and erased bits end as peeling ends.
+    let mut extended = c();
+    assert!(parity::orthogonalise(&mut extended, 7, 3, 0).is_ok());
+    let mut word = [2, 2, 2, 1, 1, 1, 1, 2];
+    let mut values = [f32::INFINITY; 8];
+    assert_eq!(parity::min_sum(&extended, 7, 3, 1, 512, &mut word, &mut values, &mut bytes, &mut floats), Ok(()));
+    assert_eq!(word, [0, 0, 1, 1, 1, 1, 1, 0]);
+    assert!(values.iter().all(|float| float.to_bits() == 0));
+}
+
+#[test]
+fn soft_bits_refused() {
+    let words = a();
+    let (mut bytes, mut floats) = messages();
+    let mut word = [3, 0, 2, 1, 3, 3, 0];
+    let mut values = [1.0, f32::NAN, f32::INFINITY, 0.0, -1_048_576.0, 0.0, 0.0];
+    for rounds in [0, 513, usize::MAX] {
+        let refused = parity::min_sum(&words, 7, 3, 0, rounds, &mut word, &mut values, &mut bytes, &mut floats);
+        assert_eq!(refused, Err(Refusal::Rounds));
+    }
+    let refused = parity::min_sum(&words, 7, 3, 0, 1, &mut word, &mut values, &mut bytes, &mut floats[1..]);
+    assert_eq!(refused, Err(Refusal::Length));
+    let mut longer = vec![Bit::Erased; 600];
+    let refused = parity::min_sum_bits(&words, 7, 3, 0, 1, &mut longer, &mut bytes, &mut floats);
+    assert_eq!(refused, Err(Refusal::Length));
+    values[5] = f32::from_bits(1_048_576f32.to_bits() + 1);
+    let refused = parity::min_sum(&words, 7, 3, 0, 512, &mut word, &mut values, &mut bytes, &mut floats);
+    assert_eq!(refused, Err(Refusal::Float { place: 5 }));
+    word[6] = 4;
+    let refused = parity::min_sum(&words, 7, 3, 0, 512, &mut word, &mut values, &mut bytes, &mut floats);
+    assert_eq!(refused, Err(Refusal::Byte { place: 6 }));
+    assert_eq!(word, [3, 0, 2, 1, 3, 3, 4]);
+    assert!(bytes.iter().all(|byte| *byte == 77) && floats.iter().all(|float| float.is_nan()));
 }

@@ -25,6 +25,7 @@ fn rust_type(c: &str) -> String {
         "uint32_t" => "u32",
         "uint64_t" => "u64",
         "size_t" => "usize",
+        "float" => "f32",
         other => panic!("type {other}"),
     };
     match c.strip_suffix('*') {
@@ -105,10 +106,10 @@ fn read(path: &str) -> String {
 #[test]
 fn header_wrapper_and_crate_agree() {
     let header = of_header(&read("../include/parity.h"));
-    assert_eq!(header.len(), 18);
+    assert_eq!(header.len(), 19);
     assert_eq!(header, of_wrapper(&read("src/ffi.rs")));
     let text = read("../crates/capi/src/lib.rt");
-    assert_eq!(text.matches("extern \"C\"").count(), 18);
+    assert_eq!(text.matches("extern \"C\"").count(), 19);
     assert_eq!(header, of_crate(&text));
 }
 
@@ -141,6 +142,8 @@ fn header_has_the_numbers_of_the_wrapper() {
         ("SETS_SHORT", Refusal::SetsShort { needed: 0 }),
         ("DIFFERENT_LENGTHS", Refusal::DifferentLengths),
         ("TOO_MANY_CHECKS", Refusal::TooManyChecks),
+        ("ROUNDS", Refusal::Rounds),
+        ("FLOAT", Refusal::Float { place: 0 }),
     ];
     let mut due = vec![
         ("WORDS", parity::WORDS),
@@ -149,6 +152,8 @@ fn header_has_the_numbers_of_the_wrapper() {
         ("ADDED_MOST", 392),
         ("RECORD_MOST", parity::RECORD_MOST),
         ("SET_SIZE_MOST", parity::SET_SIZE_MOST),
+        ("ROUNDS_MOST", parity::ROUNDS_MOST),
+        ("MESSAGES", parity::MESSAGES),
         ("VALUES_MOST", parity::VALUES_MOST),
         ("STACK_MOST", parity::STACK_MOST),
         ("ANSWER", 0),

@@ -4,6 +4,7 @@ use parity::Bit;
 ghost use mathlib.Core.Path.{_≡_};
 ghost use Rattle.parity.specs.Calls.{loadOutcome, writeOutcome, shareReply, countReply, splitOutcome, takeBackOutcome, orthogonaliseOutcome, verifyReply, extendOutcome, isStoppingReply, peelOutcome, rankReply, encodeOutcome, houseOutcome, determineOutcome, stoppingSetsOutcome, joinOutcome};
 ghost use Rattle.parity.specs.Block.{blockOutcome};
+ghost use Rattle.parity.specs.SoftCall.{minSumOutcome};
 ghost use Rattle.reply.specs.Passed.{Passed};
 
 // Carries n, m and k.
@@ -314,5 +315,40 @@ pub extern "C" fn parity_join(
 {
     let joining = join::join(words1, n1, m1, k1, words2, n2, m2, k2, words3);
     let numbered = reply::joining(joining);
+    reply::pass(numbered, values)
+}
+
+// Carries nothing.
+#[no_mangle]
+pub extern "C" fn parity_min_sum(
+    words: &[u64],
+    n: usize,
+    m: usize,
+    k: usize,
+    rounds: usize,
+    word: &mut [u8],
+    floats: &mut [f32],
+    message_bytes: &mut [u8],
+    message_floats: &mut [f32],
+    values: &mut [u64],
+) -> u32
+    ensures { λ r. ⌜ Passed (minSumOutcome (now (words .entry)) n m k rounds (now (word .entry)) (now (floats .entry)) (now («message_bytes» .entry)) (now («message_floats» .entry)) .reply) (now (values .entry)) (now (values .exit)) r ⌝ }
+    ensures { λ r. ⌜ now (word .exit) ≡ minSumOutcome (now (words .entry)) n m k rounds (now (word .entry)) (now (floats .entry)) (now («message_bytes» .entry)) (now («message_floats» .entry)) .word ⌝ }
+    ensures { λ r. ⌜ now (floats .exit) ≡ minSumOutcome (now (words .entry)) n m k rounds (now (word .entry)) (now (floats .entry)) (now («message_bytes» .entry)) (now («message_floats» .entry)) .floats ⌝ }
+    ensures { λ r. ⌜ now («message_bytes» .exit) ≡ minSumOutcome (now (words .entry)) n m k rounds (now (word .entry)) (now (floats .entry)) (now («message_bytes» .entry)) (now («message_floats» .entry)) .messageBytes ⌝ }
+    ensures { λ r. ⌜ now («message_floats» .exit) ≡ minSumOutcome (now (words .entry)) n m k rounds (now (word .entry)) (now (floats .entry)) (now («message_bytes» .entry)) (now («message_floats» .entry)) .messageFloats ⌝ }
+{
+    let decoding = min_sum::min_sum(
+        words,
+        n,
+        m,
+        k,
+        rounds,
+        word,
+        floats,
+        message_bytes,
+        message_floats,
+    );
+    let numbered = reply::decoding(decoding);
     reply::pass(numbered, values)
 }

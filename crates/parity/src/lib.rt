@@ -90,6 +90,12 @@ pub enum Refusal {
     DifferentLengths,
     // 21: joined, they have more than 120 checks.
     TooManyChecks,
+    // 22: rounds outside 1 to 512.
+    WrongRounds,
+    // 23: a soft float that is not finite or above 1,048,576 in magnitude, at the lowest place.
+    WrongFloat {
+        place: usize,
+    },
 }
 
 // The number of a refusal in the papers' table.
@@ -124,5 +130,7 @@ pub fn number(r: Refusal) -> u64
         Refusal::SetsTooShort { needed: _ } => 19,
         Refusal::DifferentLengths => 20,
         Refusal::TooManyChecks => 21,
+        Refusal::WrongRounds => 22,
+        Refusal::WrongFloat { place: _ } => 23,
     }
 }

@@ -7,6 +7,7 @@ use encode::Encoding;
 use encode::Ranking;
 use house::Copying;
 use join::Joining;
+use min_sum::Decoding;
 use parity::Holders;
 use parity::Refusal;
 use peel::Peeling;
@@ -36,6 +37,7 @@ ghost use Rattle.house.specs.Answers.{copyingReply};
 ghost use Rattle.stopping_sets.specs.Answers.{listingReply};
 ghost use Rattle.block.specs.Answers.{mendingReply};
 ghost use Rattle.join.specs.Answers.{joiningReply};
+ghost use Rattle.min_sum.specs.Answers.{decodingReply};
 ghost use Rattle.reply.specs.Passed.{numberedReply, Passed, filled};
 
 // A number and the values that it carries.
@@ -118,6 +120,8 @@ fn refused(why: Refusal) -> Numbered
         Refusal::SetsTooShort { needed } => Numbered::One(19, needed as u64),
         Refusal::DifferentLengths => Numbered::Alone(20),
         Refusal::TooManyChecks => Numbered::Alone(21),
+        Refusal::WrongRounds => Numbered::Alone(22),
+        Refusal::WrongFloat { place } => Numbered::One(23, place as u64),
     }
 }
 
@@ -315,6 +319,16 @@ pub fn joining(answer: Joining) -> Numbered
     match answer {
         Joining::Joined { checks } => Numbered::One(0, checks as u64),
         Joining::Refused(why) => refused(why),
+    }
+}
+
+// What the call on soft bits answers.
+pub fn decoding(answer: Decoding) -> Numbered
+    ensures { λ r. ⌜ numberedReply r ≡ decodingReply answer ⌝ }
+{
+    match answer {
+        Decoding::Made => Numbered::Alone(0),
+        Decoding::Refused(why) => refused(why),
     }
 }
 

@@ -7,6 +7,7 @@ use crate::generate;
 use crate::joining;
 use crate::model::{self, Kind, Lent, Matrix, FORMS, KINDS, WORDS};
 use crate::random::Random;
+use crate::soft::{self, Mix};
 use crate::stack;
 use std::thread;
 
@@ -149,7 +150,7 @@ impl Pools {
         } else {
             generate::small_given(r)
         };
-        if matches!(kind, Kind::Verify | Kind::Peel | Kind::Determine | Kind::MendBlock) {
+        if matches!(kind, Kind::Verify | Kind::Peel | Kind::Determine | Kind::MendBlock | Kind::MinSum) {
             Sample::new(matrix)
         } else {
             Sample { matrix, basis: Vec::new() }
@@ -255,6 +256,12 @@ fn good(r: &mut Random, kind: Kind, sample: &Sample) -> Lent {
             lent.input = r.bits(matrix.n - matrix.rank());
             lent.word = r.bytes(matrix.n);
         }
+        Kind::MinSum => {
+            let codeword = elimination::combine(&sample.basis, bits, || r.chance(500));
+            let mix = r.pick(&[Mix::Mixed, Mix::Mixed, Mix::Sure, Mix::Soft]);
+            soft::fill(r, &mut lent, &codeword, mix);
+            lent.rounds = soft::rounds(r, matrix);
+        }
         Kind::HouseCode => {
             lent.name = r.below(5);
             lent.words = (0..WORDS).map(|_| r.next()).collect();
@@ -297,6 +304,8 @@ pub enum Damage {
     ThirdLength,
     Different,
     TooMany,
+    Rounds,
+    Floats,
 }
 
 pub fn damages(kind: Kind) -> Vec<Damage> {
@@ -323,6 +332,7 @@ pub fn damages(kind: Kind) -> Vec<Damage> {
         Kind::MendBlock => {
             &[Extended, Extended, Lengths, Lengths, Bytes, Bytes, Contradiction, Contradiction, Contradiction]
         }
+        Kind::MinSum => &[Rounds, Rounds, Lengths, Lengths, Lengths, Bytes, Bytes, Floats, Floats, Floats],
         Kind::Rank => &[Extended, Extended],
         Kind::Encode => &[Extended, Lengths, Lengths, Bytes, Bytes],
         Kind::StoppingSets => &[SetSize, SetSize, SetsShort, SetsShort, SetsShort],
@@ -607,6 +617,19 @@ pub fn apply(r: &mut Random, damage: Damage, matrix: &Matrix, lent: &mut Lent) {
         Damage::Lengths => match lent.kind {
             Kind::Verify | Kind::IsStopping => resized(r, &mut lent.input, matrix),
             Kind::Peel | Kind::Determine | Kind::MendBlock => resized(r, &mut lent.word, matrix),
+            Kind::MinSum => {
+                let length = r.pick(&[0, 512, soft::MESSAGES - 1, soft::MESSAGES + 1]);
+                match r.below(4) {
+                    0 => resized(r, &mut lent.word, matrix),
+                    1 => {
+                        let mut bytes = vec![0; lent.floats.len()];
+                        resized(r, &mut bytes, matrix);
+                        lent.floats.resize(bytes.len(), 0);
+                    }
+                    2 => lent.message_bytes.resize(length, 9),
+                    _ => lent.message_floats.resize(length, 9),
+                }
+            }
             _ => {
                 let both = r.below(3);
                 if both != 1 {
@@ -619,6 +642,7 @@ pub fn apply(r: &mut Random, damage: Damage, matrix: &Matrix, lent: &mut Lent) {
         },
         Damage::Bytes => match lent.kind {
             Kind::Peel | Kind::Determine | Kind::MendBlock => bad_bytes(r, &mut lent.word, 2),
+            Kind::MinSum => bad_bytes(r, &mut lent.word, 3),
             Kind::Verify => bad_bytes(r, &mut lent.input, 2),
             _ => bad_bytes(r, &mut lent.input, 1),
         },
@@ -650,6 +674,21 @@ pub fn apply(r: &mut Random, damage: Damage, matrix: &Matrix, lent: &mut Lent) {
             let needed = matrix.stopping_sets(lent.t.clamp(1, 4)).len();
             let any = r.below(needed + 1);
             lent.sets.resize(r.pick(&[needed.saturating_sub(1), needed.saturating_sub(1), 0, any]), 7);
+        }
+        Damage::Rounds => {
+            let any = r.next() as usize | 1 << 40;
+            lent.rounds = r.pick(&[0, 0, 513, 514, 1024, 1 << 32, usize::MAX, any]);
+        }
+        Damage::Floats => {
+            for _ in 0..r.between(1, 4) {
+                if !lent.word.is_empty() && !lent.floats.is_empty() {
+                    let place = r.below(lent.word.len().min(lent.floats.len()));
+                    lent.floats[place] = soft::unfit(r);
+                    if r.chance(800) {
+                        lent.word[place] = 3;
+                    }
+                }
+            }
         }
         // These choose the matrix.
         Damage::Extended | Damage::Full | Damage::Nothing | Damage::NotBack => {}
@@ -847,7 +886,7 @@ pub fn at_once() -> Result<usize, String> {
 #[derive(Default)]
 struct Tally {
     answers: usize,
-    refusals: [usize; 22],
+    refusals: [usize; 24],
     /// Answers whose first value is 1, and those whose first value is 0.
     yes: usize,
     no: usize,

@@ -65,6 +65,10 @@ pub fn lend(kind: Kind, matrix: &Matrix) -> Lent {
         m2: 0,
         k2: 0,
         words3: Vec::new(),
+        rounds: 0,
+        floats: Vec::new(),
+        message_bytes: Vec::new(),
+        message_floats: Vec::new(),
     }
 }
 

@@ -1,7 +1,7 @@
 //! One call compared: the library's number, values and every lent element against the model's.
 
 use crate::library;
-use crate::model::{self, Lent, Reply};
+use crate::model::{self, Kind, Lent, Reply};
 use crate::random::Random;
 use std::env;
 use std::ffi::OsString;
@@ -23,6 +23,11 @@ pub fn describe(lent: &Lent) -> String {
     text += &format!("bytes read, {}: {:?}\n", lent.input.len(), lent.input);
     text += &format!("bytes written, {}: {:?}\n", lent.word.len(), lent.word);
     text += &format!("t {}, slice for sets of {}, its first: {:?}\n", lent.t, lent.sets.len(), lent.sets.first());
+    if lent.kind == Kind::MinSum {
+        text += &format!("rounds {}; floats, {}: {:08x?}\n", lent.rounds, lent.floats.len(), lent.floats);
+        let (bytes, floats) = (&lent.message_bytes, &lent.message_floats);
+        text += &format!("messages: {} bytes {:?}, {} floats {:08x?}\n", bytes.len(), bytes.first(), floats.len(), floats.first());
+    }
     text
 }
 
@@ -72,6 +77,9 @@ pub fn compare_with(lent: &Lent, before: Vec<u64>) -> Result<(Reply, Lent), Stri
         first_difference("place of the sets", &found.sets, &due.sets),
         first_difference("word of the second matrix", &found.words2, &due.words2),
         first_difference("word of the third matrix", &found.words3, &due.words3),
+        first_difference("float", &found.floats, &due.floats),
+        first_difference("message byte", &found.message_bytes, &due.message_bytes),
+        first_difference("message float", &found.message_floats, &due.message_floats),
     ];
     text.extend(places.into_iter().flatten());
     Err(text)

@@ -49,8 +49,12 @@ pub fn call(lent: &mut Lent, values: &mut [u64]) -> Result<u32, String> {
     let mut sets = Guarded::new(&lent.sets, guard as u16);
     let mut words2 = Guarded::new(&lent.words2, guard);
     let mut words3 = Guarded::new(&lent.words3, guard);
+    let mut floats = Guarded::new(&lent.floats, guard as u32);
+    let mut bytes = Guarded::new(&lent.message_bytes, guard as u8);
+    let mut messages = Guarded::new(&lent.message_floats, guard as u32);
     let mut carried = Guarded::new(values, guard);
     let (n, m, k, u, v, name, t) = (lent.n, lent.m, lent.k, lent.u, lent.v, lent.name, lent.t);
+    let rounds = lent.rounds;
     let (words_ptr, words_len) = (words.content_mut(), words.len());
     let (record_ptr, record_len) = (record.content_mut(), record.len());
     let (input_ptr, input_len) = (input.content_mut() as *const u8, input.len());
@@ -58,6 +62,10 @@ pub fn call(lent: &mut Lent, values: &mut [u64]) -> Result<u32, String> {
     let (sets_ptr, sets_len) = (sets.content_mut(), sets.len());
     let (words2_ptr, words2_len, n2, m2, k2) = (words2.content_mut(), words2.len(), lent.n2, lent.m2, lent.k2);
     let (words3_ptr, words3_len) = (words3.content_mut(), words3.len());
+    // A float has the size and the alignment of its bits.
+    let (floats_ptr, floats_len) = (floats.content_mut() as *mut f32, floats.len());
+    let (bytes_ptr, bytes_len) = (bytes.content_mut(), bytes.len());
+    let (messages_ptr, messages_len) = (messages.content_mut() as *mut f32, messages.len());
     let (values_ptr, values_len) = (carried.content_mut(), carried.len());
     let mut number = 0;
     // Every pointer and length is that of a live vector's part, and no two overlap.
@@ -103,6 +111,10 @@ pub fn call(lent: &mut Lent, values: &mut [u64]) -> Result<u32, String> {
                     words_ptr, words_len, n, m, k, words2_ptr, words2_len, n2, m2, k2, words3_ptr, words3_len,
                     values_ptr, values_len,
                 ),
+                Kind::MinSum => ffi::parity_min_sum(
+                    words_ptr, words_len, n, m, k, rounds, word_ptr, word_len, floats_ptr, floats_len, bytes_ptr, bytes_len,
+                    messages_ptr, messages_len, values_ptr, values_len,
+                ),
             }
         }
     });
@@ -113,10 +125,15 @@ pub fn call(lent: &mut Lent, values: &mut [u64]) -> Result<u32, String> {
     lent.sets.copy_from_slice(sets.content());
     lent.words2.copy_from_slice(words2.content());
     lent.words3.copy_from_slice(words3.content());
+    lent.floats.copy_from_slice(floats.content());
+    lent.message_bytes.copy_from_slice(bytes.content());
+    lent.message_floats.copy_from_slice(messages.content());
     values.copy_from_slice(carried.content());
+    let joined = words2.intact() && words3.intact();
+    let soft = floats.intact() && bytes.intact() && messages.intact();
     let intact =
         words.intact() && record.intact() && input.intact() && word.intact() && sets.intact() && carried.intact();
-    if !intact || !words2.intact() || !words3.intact() {
+    if !intact || !joined || !soft {
         return Err("the library wrote outside a lent slice".to_string());
     }
     held.map(|_| number)

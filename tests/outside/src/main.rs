@@ -1,5 +1,5 @@
 //! Tests of the library from outside. `outside` runs all parts; `outside model`, `calls`, `losses`, `records`,
-//! `taking_back`, `holders`, `determining`, `solving`, `sets`, `blocks`, `joining`, `stack`, `demand3`, `codes`, `mend` run the parts named, and the name of a call, as `outside peel`, runs that kind of
+//! `taking_back`, `holders`, `determining`, `solving`, `sets`, `blocks`, `joining`, `soft`, `stack`, `demand3`, `codes`, `mend` run the parts named, and the name of a call, as `outside peel`, runs that kind of
 //! call alone. Ends with a status that is not 0 at the first difference, with the whole input that shows it.
 //! OUTSIDE_LAST=FILE keeps the input of the last call in FILE.
 
@@ -23,6 +23,7 @@ mod model;
 mod random;
 mod records;
 mod sets;
+mod soft;
 mod solving;
 mod stack;
 mod taking_back;
@@ -31,7 +32,7 @@ use model::{Kind, KINDS};
 use std::process::ExitCode;
 use std::time::Instant;
 
-const PARTS: [&str; 15] = [
+const PARTS: [&str; 16] = [
     "model",
     "calls",
     "losses",
@@ -43,6 +44,7 @@ const PARTS: [&str; 15] = [
     "sets",
     "blocks",
     "joining",
+    "soft",
     "stack",
     "demand3",
     "codes",
@@ -86,6 +88,7 @@ fn run(part: &str, kinds: &[Kind]) -> Result<Outcome, String> {
         "sets" => noted(sets::run()),
         "blocks" => noted(blocks::run()),
         "joining" => noted(joining::run()),
+        "soft" => noted(soft::run()),
         "stack" => noted(stack::run()),
         "demand3" => noted(demand3::run()),
         "codes" => noted(codes::run()),

@@ -74,6 +74,12 @@ enum-told-15 c = search needs
 enum-told-16 : tie.Need-enum-told-16
 enum-told-16 c = search needs
 
+enum-told-17 : tie.Need-enum-told-17
+enum-told-17 c = search needs
+
+enum-known-why-7 : tie.Need-enum-known-why-7
+enum-known-why-7 c = search needs
+
 returns : tie.Need-returns
 returns c = sym (ap refusalOf (c .enum-told .given .1))
 
@@ -140,6 +146,12 @@ returns-21 c = sym (ap refusalOf (c .enum-told15 .given .1))
 returns-22 : tie.Need-returns-22
 returns-22 c = sym (ap refusalOf (c .enum-told16 .given .1))
 
+returns-23 : tie.Need-returns-23
+returns-23 c = sym (ap refusalOf (c .enum-told17 .given .1))
+
+returns-24 : tie.Need-returns-24
+returns-24 c = sym (ap refusalOf (c .before .why7 .given .1))
+
 pub refused-spec : {M : Type 1} → statement M
 refused-spec =
     tie.close
@@ -167,6 +179,8 @@ refused-spec =
     enum-known-why-6
     enum-told-15
     enum-told-16
+    enum-told-17
+    enum-known-why-7
     returns
     returns-2
     returns-3
@@ -188,4 +202,6 @@ refused-spec =
     returns-19
     returns-20
     returns-21
-    returns-22)
+    returns-22
+    returns-23
+    returns-24)

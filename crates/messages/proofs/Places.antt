@@ -1,0 +1,103 @@
+-- Where the messages lie: check after check, each one of the matrix at a place of its own. Assumes nothing.
+use mathlib.Core.Path.{_≡_, refl, sym, _∙_}
+use mathlib.Core.Bool.{Bool, true}
+use mathlib.Core.List.{List}
+use Prim.Native.Nat.{ℕ, zero, suc, _+_, _<_, _≤_}
+use native.Mathlib.Decide.{ℕ-discrete}
+use native.Mathlib.Nat.{not-suc-le-zero, add-zero}
+use native.Mathlib.Omega.{arith}
+use lib.Arith.{le-zero}
+use lib.Ieee.{Float}
+use Rattle.parity.specs.Finite.{sum, count}
+use Rattle.parity.specs.Matrix.{Matrix}
+use Rattle.parity.proofs.Finite.Sums.{is-true, is-false, is}
+use Rattle.parity.specs.Soft.{Messages, toBits}
+use Rattle.soft.specs.Pass.{Sounds, checkAnswer}
+use Rattle.messages.specs.Memory.{start, place, held, Part, from, SoundAll, Answering}
+use Rattle.parity.specs.declared.Channel.{Channel}
+use Rattle.messages.proofs.Compact.{rank-less, check-row}
+
+-- the number with a rank
+pub rank-at : (p : ℕ → Bool) (N t : ℕ) → t < count N p → (b : ℕ) × (b < N) × (p b ≡ true) × (count b p ≡ t)
+unfolding count sum
+rank-at p zero t k = absurd (not-suc-le-zero k)
+rank-at p (suc N) t k = elim (is (p N)) [
+  | is-true e ↦ elim (ℕ-discrete t (count N p)) [
+    | yes q ↦ (N, omega arith, e, sym q)
+    | no d ↦ let (b, l, r, s) = rank-at p N t (fewer e d) in (b, omega arith, r, s)
+  ]
+  | is-false e ↦ let (b, l, r, s) = rank-at p N t (rw (e, add-zero) at k) in (b, omega arith, r, s)
+]
+  where
+    fewer : p N ≡ true → (t ≡ count N p → ⊥) → t < count N p
+    fewer e d = let l = rw e at k in omega arith
+
+module _ (h : Matrix) (N : ℕ) where
+  pub start-zero : start h N 0 ≡ 0
+  unfolding start sum
+  start-zero = refl
+
+  pub start-suc : (c : ℕ) → start h N (suc c) ≡ start h N c + count N (h c)
+  unfolding start sum
+  start-suc c = refl
+
+  pub start-mono : (c d : ℕ) → c ≤ d → start h N c ≤ start h N d
+  start-mono c zero k = rw (le-zero k) (omega arith)
+  start-mono c (suc d) k = elim (ℕ-discrete c (suc d)) [
+    | yes q ↦ rw q (omega arith)
+    | no n ↦ omega (arith, start-mono c d (omega arith), start-suc d)
+  ]
+
+  pub place-low : (c b : ℕ) → start h N c ≤ place h N c b
+  unfolding place
+  place-low c b = omega arith
+
+  pub place-high : (c b : ℕ) → b < N → h c b ≡ true → place h N c b < start h N (suc c)
+  unfolding place
+  place-high c b k e = omega (arith, start-suc c, rank-less (h c) b N k e)
+
+  pub answering-start : (M : ℕ) (ts : List ℕ) (xs : List Float) → Answering h N M 0 (held h N ts xs) ts xs
+  answering-start M ts xs = record { done = λ d b k. absurd (omega arith); left = λ d b k l m e. refl }
+
+  module _ (M : ℕ) (old : Messages) where
+    module _ (c : ℕ) (k : c < M) (ts : List ℕ) (xs : List Float) (A : Answering h N M c old ts xs) where
+      abbrev w : ℕ
+      w = count N (h c)
+
+      abbrev D : ℕ → Channel
+      D = from (start h N c) ts xs
+
+      row : (b : ℕ) → b < N → h c b ≡ true → D (count b (h c)) ≡ old c b
+      row b l e = sym (held-is b) ∙ A .left c b (omega arith) k l e
+        where
+          held-is : (b : ℕ) → held h N ts xs c b ≡ D (count b (h c))
+          held-is b = unfold held place in refl
+
+      pub answering-sounds : SoundAll h N M old → Sounds w D
+      answering-sounds S = record {
+        at = λ t l.
+            let (b, i, e, q) = rank-at (h c) N t l in
+            rw (← q, row b i e) (S .at c b k i e);
+      }
+
+      module _ (ts' : List ℕ) (xs' : List Float) (P : Part (start h N c) w (checkAnswer w D) ts xs ts' xs') where
+        here : (b : ℕ) → b < N → h c b ≡ true → held h N ts' xs' c b ≡ toBits h N old c b
+        unfolding held place toBits checkAnswer
+        here b l e = P .new (count b (h c)) (rank-less (h c) b N l e) ∙ check-row (h c) (old c) D N b e row
+
+        before : (d b : ℕ) → d < c → b < N → h d b ≡ true → held h N ts' xs' d b ≡ held h N ts xs d b
+        unfolding held
+        before d b j l e = P .before (place h N d b) (omega (arith, place-high d b l e, start-mono (suc d) c j))
+
+        after : (d b : ℕ) → c < d → held h N ts' xs' d b ≡ held h N ts xs d b
+        unfolding held
+        after d b j = P .after (place h N d b) (omega (arith, place-low d b, start-mono (suc c) d j, start-suc c))
+
+        pub answering-more : Answering h N M (c + 1) old ts' xs'
+        answering-more = record {
+          done = λ d b j l e. elim (ℕ-discrete d c) [
+            | yes q ↦ rw q (here b l (rw q at e))
+            | no n ↦ before d b (omega arith) l e ∙ A .done d b (omega arith) l e
+          ];
+          left = λ d b j m l e. after d b (omega arith) ∙ A .left d b (omega arith) m l e;
+        }

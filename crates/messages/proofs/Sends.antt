@@ -1,0 +1,114 @@
+-- A bit sends, and then all of them. Assumes nothing.
+use mathlib.Core.Path.{_≡_, refl, sym, ap, fun-ext, _∙_}
+use mathlib.Core.Bool.{true, _&&_, and-eq-true-iff}
+use mathlib.Core.List.{List}
+use Prim.Native.Nat.{ℕ, _+_, _<_}
+use native.Mathlib.Decide.{ℕ-discrete, decLt}
+use borrow.Author.Tests.{lt-ltb, le-ltb}
+use native.Mathlib.Omega.{arith}
+use lib.ListN.{length}
+use lib.Ieee.{Float}
+use Rattle.parity.specs.Finite.{count}
+use Rattle.parity.specs.Matrix.{Matrix}
+use Rattle.parity.specs.Soft.{Messages, messageAt, settled, bitSends, toChecks, but}
+use Rattle.soft.specs.Pass.{every, bitAnswer}
+use Rattle.rows.specs.Rows.{Columns}
+use Rattle.messages.specs.Memory.{held, across, column, heldAt, Part, from, Collected, Spread, BitSent, Sending, resultOf, Holds, Cursors, same, Inner}
+use Rattle.messages.specs.Loops.{SentAll, Filling}
+use Rattle.parity.specs.declared.Channel.{Channel}
+use Rattle.parity.proofs.Soft.Cong.{gathered-at}
+use Rattle.messages.proofs.Compact.{rank-less, gathered-row, all-row}
+
+module _ (h : Matrix) (N M b : ℕ) (v : Channel) (ts : List ℕ) (xs : List Float) (rt : List ℕ) (rx : List Float)
+    (C : Collected (column h b) M (heldAt h N ts xs b) rt rx) where
+  in-row : (i : ℕ) → i < M → h i b ≡ true → from 0 rt rx (count i (column h b)) ≡ heldAt h N ts xs b i
+  in-row i k e = ap (messageAt rt rx) (plain (count i (column h b))) ∙ C .at i k e
+    where
+      plain : (t : ℕ) → 0 + t ≡ t
+      plain t = omega arith
+
+  -- the result from the row
+  pub row-result : bitSends v (count M (column h b)) every (from 0 rt rx) ≡ bitSends v M (column h b) (heldAt h N ts xs b)
+  unfolding bitSends
+  row-result = ap settled (all-row (column h b) (heldAt h N ts xs b) (from 0 rt rx) v M in-row)
+
+  module _ (rt' : List ℕ) (rx' : List Float) (P : Part 0 (count M (column h b)) (bitAnswer v (count M (column h b)) (from 0 rt rx)) rt rx rt' rx')
+      (ts' : List ℕ) (xs' : List Float) (S : Spread h N M b M (messageAt rt' rx') ts xs ts' xs') where
+    sent-at : (d : ℕ) → d < M → h d b ≡ true → held h N ts' xs' d b ≡ bitSends v M (λ e. h e b && but d e) (heldAt h N ts xs b)
+    unfolding bitSends bitAnswer
+    sent-at d k e =
+        let t = count d (column h b) in
+        let z : t ≡ 0 + t = omega arith in
+        S .done d k e ∙ ap (messageAt rt' rx') z ∙ P .new t (rank-less (column h b) d M k e)
+        ∙ ap settled (gathered-row (column h b) (heldAt h N ts xs b) (from 0 rt rx) v M d e in-row)
+
+    pub bit-sent : BitSent h N M b v ts xs ts' xs'
+    bit-sent = record { tags = S .tags; values = S .values; done = sent-at; rest = λ d a k l e n. S .rest d a k l e (λ z. absurd (n z)) }
+
+-- ---- all bits
+module _ (h : Matrix) (N M : ℕ) (channel : ℕ → Channel) (old : Messages) where
+  pub sending-start : (ts : List ℕ) (xs : List Float) → Holds h N M old ts xs → Sending h N M 0 channel old ts xs
+  sending-start ts xs H = record { done = λ d a k l m. absurd (omega arith); left = λ d a k l m e. H .at d a k l e }
+
+  module _ (b : ℕ) (kb : b < N) (ts : List ℕ) (xs : List Float) (A : Sending h N M b channel old ts xs) (ts' : List ℕ) (xs' : List Float) (B : BitSent h N M b (channel b) ts xs ts' xs') where
+    here : (d : ℕ) → d < M → h d b ≡ true → held h N ts' xs' d b ≡ toChecks h M channel old d b
+    unfolding toChecks bitSends
+    here d k e = B .done d k e ∙ ap settled (gathered-at (channel b) M (λ f. h f b && but d f) (heldAt h N ts xs b) (λ f. old f b)
+        (λ i l q. A .left i b l kb (omega arith) (and-eq-true-iff (h i b) (but d i) .0 q .0)))
+
+    pub sending-more : Sending h N M (b + 1) channel old ts' xs'
+    sending-more = record {
+      done = λ d a k l m e. elim (ℕ-discrete a b) [
+        | yes z ↦ rw z (here d k (rw z at e))
+        | no z ↦ B .rest d a k l e z ∙ A .done d a k l (omega arith) e
+      ];
+      left = λ d a k l m e. B .rest d a k l e (λ z. omega arith) ∙ A .left d a k l (omega arith) e;
+    }
+
+-- the results, from messages that the lists hold
+pub result-is : (h : Matrix) (N M b : ℕ) (channel : ℕ → Channel) (m : Messages) (ts : List ℕ) (xs : List Float) → b < N → Holds h N M m ts xs
+    → resultOf h N M channel ts xs b ≡ bitSends (channel b) M (λ d. h d b) (λ d. m d b)
+unfolding resultOf bitSends
+result-is h N M b channel m ts xs k H = ap settled (gathered-at (channel b) M (column h b) (heldAt h N ts xs b) (λ d. m d b) (λ i l e. H .at i b l k e))
+
+pub sent-none : (h : Matrix) (M : ℕ) (channel : ℕ → Channel) (ts : List ℕ) (xs : List Float) → length ts ≡ 65536 → length xs ≡ 65536 → SentAll h M 0 channel (held h 512 ts xs) ts xs
+sent-none h M channel ts xs k l = record { tags = k; values = l; sending = sending-start h 512 M channel (held h 512 ts xs) ts xs (record { tags = k; values = l; at = λ d a i j e. refl }) }
+
+pub sent-more : (h : Matrix) (M b : ℕ) (channel : ℕ → Channel) (old : Messages) (ts : List ℕ) (xs : List Float) → b < 512 → SentAll h M b channel old ts xs
+    → (ts' : List ℕ) (xs' : List Float) → BitSent h 512 M b (channel b) ts xs ts' xs' → SentAll h M (b + 1) channel old ts' xs'
+sent-more h M b channel old ts xs k A ts' xs' B = record {
+  tags = B .tags ∙ A .tags;
+  values = B .values ∙ A .values;
+  sending = sending-more h 512 M channel old b k ts xs (A .sending) ts' xs' B;
+}
+
+pub result-at : (h : Matrix) (N M b : ℕ) (channel : ℕ → Channel) (ts : List ℕ) (xs : List Float) (r v : Channel) → r ≡ bitSends v M (column h b) (heldAt h N ts xs b) → v ≡ channel b
+    → r ≡ resultOf h N M channel ts xs b
+unfolding resultOf
+result-at h N M b channel ts xs r v e q = rw q at e
+
+-- ---- filling
+pub filling-none : (h : Matrix) (M : ℕ) (channel : ℕ → Channel) (at : List ℕ) (ts : List ℕ) (xs : List Float) → Cursors h 512 M 0 at → length ts ≡ 65536 → length xs ≡ 65536 → Filling h M 0 channel at ts xs
+filling-none h M channel at ts xs C k l = record { cursors = C; tags = k; values = l; filled = record { at = λ d a i j m. absurd (omega arith) } }
+
+pub filling-more : (h : Matrix) (M b : ℕ) (channel : ℕ → Channel) (at : List ℕ) (ts : List ℕ) (xs : List Float) → b < 512 → Filling h M b channel at ts xs → (v : Channel) → v ≡ channel b
+    → (ts' : List ℕ) (xs' : List Float) → Spread h 512 M b M (same v) ts xs ts' xs' → (at' : List ℕ) → Cursors h 512 M (b + 1) at' → Filling h M (b + 1) channel at' ts' xs'
+filling-more h M b channel at ts xs kb F v q ts' xs' S at' C = record {
+  cursors = C;
+  tags = S .tags ∙ F .tags;
+  values = S .values ∙ F .values;
+  filled = record {
+    at = λ d a i j m e. elim (ℕ-discrete a b) [
+      | yes z ↦ rw z (S .done d i (rw z at e) ∙ q)
+      | no z ↦ S .rest d a i j e (λ y. absurd (z y)) ∙ F .filled .at d a i j (omega arith) e
+    ];
+  };
+}
+
+-- ---- the columns
+-- the columns of M checks say the matrix, which has no others
+pub across-is : (h g : Matrix) (N M : ℕ) → Inner h N M → Columns M h g → across g ≡ h
+across-is h g N M I C = fun-ext (λ d. fun-ext (λ a. C .at a d ∙ elim (decLt d M) [
+  | yes k ↦ rw (lt-ltb d M k)
+  | no k ↦ rw (le-ltb d M (omega arith)) (sym (I .after d a (omega arith)))
+]))

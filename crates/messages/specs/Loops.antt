@@ -1,0 +1,56 @@
+-- Loops over the bits. Assumes nothing.
+use Prim.Native.Nat.{ℕ}
+use mathlib.Core.Path.{_≡_}
+use mathlib.Core.List.{List}
+use lib.ListN.{length}
+use lib.Ieee.{Float}
+use Rattle.parity.specs.Matrix.{Matrix}
+use Rattle.parity.specs.Soft.{Messages}
+use Rattle.messages.specs.Memory.{Cursors, Sending, Filled, Answering, held, resultOf}
+use Rattle.soft.specs.Pass.{Holding}
+use Rattle.parity.specs.declared.Channel.{Channel}
+
+-- the cursors are those of bit b, and the row has its size
+pub record Moved (h : Matrix) (M b : ℕ) (at : List ℕ) (rt : List ℕ) (rx : List Float) : Type 0 where
+  pub cursors : Cursors h 512 M b at
+  pub tags : length rt ≡ 512
+  pub values : length rx ≡ 512
+
+-- the first b bits have sent
+pub record SentAll (h : Matrix) (M b : ℕ) (channel : ℕ → Channel) (old : Messages) (ts : List ℕ) (xs : List Float) : Type 0 where
+  pub tags : length ts ≡ 65536
+  pub values : length xs ≡ 65536
+  pub sending : Sending h 512 M b channel old ts xs
+
+-- the channel values of the first b bits are written to their messages
+pub record Filling (h : Matrix) (M b : ℕ) (channel : ℕ → Channel) (at : List ℕ) (ts : List ℕ) (xs : List Float) : Type 0 where
+  pub cursors : Cursors h 512 M b at
+  pub tags : length ts ≡ 65536
+  pub values : length xs ≡ 65536
+  pub filled : Filled h 512 M b channel ts xs
+
+-- the cursors and the row have their sizes
+pub record Sized (at : List ℕ) (rt : List ℕ) (rx : List Float) : Type 0 where
+  pub cursors : length at ≡ 512
+  pub tags : length rt ≡ 512
+  pub values : length rx ≡ 512
+
+-- all checks have answered, by lists between
+pub record Heard (h : Matrix) (M : ℕ) (ts : List ℕ) (xs : List Float) (mt : List ℕ) (mx : List Float) : Type 0 where
+  pub tags : length mt ≡ 65536
+  pub values : length mx ≡ 65536
+  pub answering : Answering h 512 M M (held h 512 ts xs) mt mx
+
+-- a round: all checks, and then all N bits
+pub record Round (h : Matrix) (N M : ℕ) (channel : ℕ → Channel) (ts : List ℕ) (xs : List Float) (ts' : List ℕ) (xs' : List Float) : Type 0 where
+  pub mt : List ℕ
+  pub mx : List Float
+  pub heard : Heard h M ts xs mt mx
+  pub sent : SentAll h M N channel (held h 512 mt mx) ts' xs'
+
+-- the last half round, and the results
+pub record Last (h : Matrix) (N M : ℕ) (channel : ℕ → Channel) (ts : List ℕ) (xs : List Float) (w : List ℕ) (f : List Float) : Type 0 where
+  pub mt : List ℕ
+  pub mx : List Float
+  pub heard : Heard h M ts xs mt mx
+  pub results : Holding N (resultOf h 512 M channel mt mx) w f

@@ -1,0 +1,109 @@
+-- Messages in lent memory: one for each one of the matrix, check after check, a check's by rising bit. Assumes nothing.
+use Prim.Native.Nat.{ℕ, _+_, _<_, _≤_}
+use mathlib.Core.Path.{_≡_}
+use mathlib.Core.Bool.{Bool, true, false, _&&_}
+use mathlib.Core.List.{List}
+use lib.ListN.{length, getD}
+use lib.Ieee.{Float}
+use Rattle.parity.specs.Finite.{sum, count}
+use Rattle.parity.specs.Matrix.{Matrix}
+use Rattle.parity.specs.Soft.{Messages, messageAt, toBits, toChecks, bitSends, sound, but}
+use Rattle.parity.specs.declared.Channel.{Channel}
+
+-- the first place of check c: the ones of the checks before it, of N bits
+unfoldable pub start : Matrix → ℕ → ℕ → ℕ
+start h N c = sum c (λ d. count N (h d))
+
+-- the place of the message between check c and its bit b
+unfoldable pub place : Matrix → ℕ → ℕ → ℕ → ℕ
+place h N c b = start h N c + count b (h c)
+
+-- the messages that the lists hold
+unfoldable pub held : Matrix → ℕ → List ℕ → List Float → Messages
+held h N ts xs c b = messageAt ts xs (place h N c b)
+
+-- In w places from a on the lists hold g now, and elsewhere what they held.
+pub record Part (a w : ℕ) (g : ℕ → Channel) (ts : List ℕ) (xs : List Float) (ts' : List ℕ) (xs' : List Float) : Type 0 where
+  pub tags : length ts' ≡ length ts
+  pub values : length xs' ≡ length xs
+  pub new : (t : ℕ) → t < w → messageAt ts' xs' (a + t) ≡ g t
+  pub before : (i : ℕ) → i < a → messageAt ts' xs' i ≡ messageAt ts xs i
+  pub after : (i : ℕ) → a + w ≤ i → messageAt ts' xs' i ≡ messageAt ts xs i
+
+-- the values in the places from a on
+abbrev pub from : ℕ → List ℕ → List Float → ℕ → Channel
+from a ts xs t = messageAt ts xs (a + t)
+
+-- every soft message of the M checks is a number
+pub record SoundAll (h : Matrix) (N M : ℕ) (m : Messages) : Type 0 where
+  pub at : (c b : ℕ) → c < M → b < N → h c b ≡ true → sound (m c b) ≡ true
+
+-- The first c of M checks have answered; the others' messages are as they were.
+pub record Answering (h : Matrix) (N M c : ℕ) (old : Messages) (ts : List ℕ) (xs : List Float) : Type 0 where
+  pub done : (d b : ℕ) → d < c → b < N → h d b ≡ true → held h N ts xs d b ≡ toBits h N old d b
+  pub left : (d b : ℕ) → c ≤ d → d < M → b < N → h d b ≡ true → held h N ts xs d b ≡ old d b
+
+-- the matrix whose columns are g: bit, then check
+abbrev pub across : Matrix → Matrix
+across g c b = g b c
+
+-- the checks that contain bit b
+abbrev pub column : Matrix → ℕ → ℕ → Bool
+column h b c = h c b
+
+-- For each of the M checks, the place of its message with bit b, or of the next above b.
+pub record Cursors (h : Matrix) (N M b : ℕ) (at : List ℕ) : Type 0 where
+  pub size : length at ≡ 512
+  pub is : (c : ℕ) → c < M → getD at c 0 ≡ place h N c b
+
+-- what the messages at bit b are, by check
+abbrev pub heldAt : Matrix → ℕ → List ℕ → List Float → ℕ → ℕ → Channel
+heldAt h N ts xs b c = held h N ts xs c b
+
+-- The lists hold in a row the values f of the numbers below N that pass p.
+pub record Collected (p : ℕ → Bool) (N : ℕ) (f : ℕ → Channel) (ts : List ℕ) (xs : List Float) : Type 0 where
+  pub tags : length ts ≡ 512
+  pub values : length xs ≡ 512
+  pub at : (i : ℕ) → i < N → p i ≡ true → messageAt ts xs (count i p) ≡ f i
+
+-- The messages of bit b with the first c checks are those of the row, and every other is as it was.
+pub record Spread (h : Matrix) (N M b c : ℕ) (row : ℕ → Channel) (ts : List ℕ) (xs : List Float) (ts' : List ℕ) (xs' : List Float) : Type 0 where
+  pub tags : length ts' ≡ length ts
+  pub values : length xs' ≡ length xs
+  pub done : (d : ℕ) → d < c → h d b ≡ true → held h N ts' xs' d b ≡ row (count d (column h b))
+  pub rest : (d a : ℕ) → d < M → a < N → h d a ≡ true → (a ≡ b → c ≤ d) → held h N ts' xs' d a ≡ held h N ts xs d a
+
+-- The first b bits have sent; the messages at the others are as they were.
+pub record Sending (h : Matrix) (N M b : ℕ) (channel : ℕ → Channel) (old : Messages) (ts : List ℕ) (xs : List Float) : Type 0 where
+  pub done : (d a : ℕ) → d < M → a < N → a < b → h d a ≡ true → held h N ts xs d a ≡ toChecks h M channel old d a
+  pub left : (d a : ℕ) → d < M → a < N → b ≤ a → h d a ≡ true → held h N ts xs d a ≡ old d a
+
+-- Bit b, with the channel value v, has sent to its M checks; every other message is as it was.
+pub record BitSent (h : Matrix) (N M b : ℕ) (v : Channel) (ts : List ℕ) (xs : List Float) (ts' : List ℕ) (xs' : List Float) : Type 0 where
+  pub tags : length ts' ≡ length ts
+  pub values : length xs' ≡ length xs
+  pub done : (d : ℕ) → d < M → h d b ≡ true → held h N ts' xs' d b ≡ bitSends v M (λ e. h e b && but d e) (heldAt h N ts xs b)
+  pub rest : (d a : ℕ) → d < M → a < N → h d a ≡ true → (a ≡ b → ⊥) → held h N ts' xs' d a ≡ held h N ts xs d a
+
+-- the result of each bit, from the messages that the lists hold
+unfoldable pub resultOf : Matrix → ℕ → ℕ → (ℕ → Channel) → List ℕ → List Float → ℕ → Channel
+resultOf h N M channel ts xs b = bitSends (channel b) M (column h b) (heldAt h N ts xs b)
+
+-- The messages of the first b bits are m's.
+pub record Filled (h : Matrix) (N M b : ℕ) (m : ℕ → Channel) (ts : List ℕ) (xs : List Float) : Type 0 where
+  pub at : (d a : ℕ) → d < M → a < N → a < b → h d a ≡ true → held h N ts xs d a ≡ m a
+
+-- The lists hold the messages m, in the places of the ones.
+pub record Holds (h : Matrix) (N M : ℕ) (m : Messages) (ts : List ℕ) (xs : List Float) : Type 0 where
+  pub tags : length ts ≡ 65536
+  pub values : length xs ≡ 65536
+  pub at : (d a : ℕ) → d < M → a < N → h d a ≡ true → held h N ts xs d a ≡ m d a
+
+-- the same value for every check
+abbrev pub same : Channel → ℕ → Channel
+same v j = v
+
+-- The M checks contain no bit from N on, and no check after them contains one.
+pub record Inner (h : Matrix) (N M : ℕ) : Type 0 where
+  pub below : (d a : ℕ) → d < M → a < 512 → h d a ≡ true → a < N
+  pub after : (d a : ℕ) → M ≤ d → h d a ≡ false

@@ -1,0 +1,35 @@
+// A round: all checks, then all bits, on the messages in lent memory.
+use parity::Check;
+use rows::ones::weight;
+use soft::checks::check_answers;
+ghost use mathlib.Core.Path.{_≡_};
+ghost use Prim.Native.Nat.{_+_, _≤_, _<_};
+ghost use lib.ListN.{length};
+ghost use Rattle.parity.specs.Matrix.{lent};
+ghost use Rattle.soft.specs.Pass.{Sounds, checkAnswer};
+ghost use Rattle.messages.specs.Memory.{Part, from, start, held, SoundAll, Answering};
+
+// The check with `w` messages from place `a` on answers.
+fn check_at(tags: &mut [u8], values: &mut [f32], a: usize, w: usize)
+    requires { ⌜ (length (now tags) ≡ length (now values)) × (a + w ≤ length (now tags)) × (w < 65536) ⌝ }
+    requires { ⌜ Sounds w (from a (now tags) (now values)) ⌝ }
+    ensures { λ r. ⌜ Part a w (checkAnswer w (from a (now (tags .entry)) (now (values .entry)))) (now (tags .entry)) (now (values .entry)) (now (tags .exit)) (now (values .exit)) ⌝ }
+{
+    let e = a + w;
+    check_answers(&mut tags[a..e], &mut values[a..e]);
+}
+
+// All checks answer.
+pub fn checks_send(words: &[u64], checks: usize, tags: &mut [u8], values: &mut [f32])
+    requires { ⌜ (length (now words) ≡ 4096) × (checks ≤ 512) × (length (now tags) ≡ 65536) × (length (now values) ≡ 65536) ⌝ }
+    requires { ⌜ start (lent 8 (now words)) 512 checks ≤ 65536 ⌝ }
+    requires { ⌜ SoundAll (lent 8 (now words)) 512 checks (held (lent 8 (now words)) 512 (now tags) (now values)) ⌝ }
+    ensures { λ r. ⌜ Answering (lent 8 (now (words .entry))) 512 checks checks (held (lent 8 (now (words .entry))) 512 (now (tags .entry)) (now (values .entry))) (now (tags .exit)) (now (values .exit)) ⌝ }
+{
+    let mut a: usize = 0;
+    for c in 0..checks {
+        let w = weight(words, Check(c));
+        check_at(tags, values, a, w);
+        a += w;
+    }
+}

@@ -1,0 +1,5 @@
+pub mod Floats
+pub mod Course
+pub mod Fitting
+pub mod Cleared
+pub mod Outcome

@@ -1,0 +1,154 @@
+// Soft bits: min-sum rounds on a word of sure, soft and erased bits.
+mod clear;
+mod judge;
+mod rounds;
+
+use crate::clear::clear_bytes;
+use crate::clear::clear_floats;
+use crate::judge::judge;
+use crate::rounds::run;
+use matrix::Accepting;
+use parity::Refusal;
+use rows::columns::columns;
+use word::Admission;
+ghost use mathlib.Core.Path.{_≡_};
+ghost use Prim.Native.Nat.{_+_, _≤_};
+ghost use lib.ListN.{length, replicate};
+ghost use Rattle.parity.specs.Matrix.{lent};
+ghost use Rattle.parity.specs.Floats.{positiveZero};
+ghost use Rattle.parity.specs.Soft.{messageAt, resultAfter};
+ghost use Rattle.parity.specs.SoftCall.{minSumOutcome};
+ghost use Rattle.soft.specs.Pass.{Sounds};
+ghost use Rattle.messages.specs.Memory.{start, Inner};
+ghost use Rattle.min_sum.specs.Answers.{decodingReply, Results};
+
+// What the call on soft bits answers.
+pub enum Decoding {
+    Made,
+    Refused(Refusal),
+}
+
+fn no_places() -> [usize; 512]
+    ensures { λ r. ⌜ r ≡ replicate 512 0 ⌝ }
+{
+    [0usize; 512]
+}
+
+fn no_bytes() -> [u8; 512]
+    ensures { λ r. ⌜ r ≡ replicate 512 0 ⌝ }
+{
+    [0u8; 512]
+}
+
+fn no_floats() -> [f32; 512]
+    ensures { λ r. ⌜ r ≡ replicate 512 positiveZero ⌝ }
+{
+    [0.0f32; 512]
+}
+
+// Runs the rounds, with the columns of the matrix: the results replace the input, and the messages are left zero.
+fn by_columns(
+    words: &[u64],
+    bits: usize,
+    checks: usize,
+    rounds: usize,
+    word: &mut [u8],
+    floats: &mut [f32],
+    tags: &mut [u8],
+    values: &mut [f32],
+)
+    requires { ⌜ (length (now words) ≡ 4096) × (checks ≤ 512) × (bits ≤ 512) × (length (now tags) ≡ 65536) × (length (now values) ≡ 65536) ⌝ }
+    requires { ⌜ (length (now word) ≡ bits) × (length (now floats) ≡ bits) × (start (lent 8 (now words)) 512 checks ≤ 65536) × (1 ≤ rounds) ⌝ }
+    requires { ⌜ Inner (lent 8 (now words)) bits checks ⌝ }
+    requires { ⌜ Sounds bits (messageAt (now word) (now floats)) ⌝ }
+    ensures { λ r. ⌜ Results bits (resultAfter (lent 8 (now (words .entry))) 512 checks (messageAt (now (word .entry)) (now (floats .entry))) rounds) (now (word .exit)) (now (floats .exit)) (now (tags .exit)) (now (values .exit)) ⌝ }
+{
+    let cols = columns(words, checks);
+    let mut at = no_places();
+    let mut row_tags = no_bytes();
+    let mut row_values = no_floats();
+    run(
+        words,
+        &cols,
+        bits,
+        checks,
+        rounds,
+        &mut at,
+        &mut row_tags,
+        &mut row_values,
+        tags,
+        values,
+        word,
+        floats,
+    );
+    clear_bytes(tags);
+    clear_floats(values);
+}
+
+// Runs the rounds, likewise. `by_columns` is called at two places, so that the compiler leaves it a function of its own: its columns are then on the stack
+// while they are used, and not while the matrix is accepted.
+fn results(
+    words: &[u64],
+    bits: usize,
+    checks: usize,
+    rounds: usize,
+    word: &mut [u8],
+    floats: &mut [f32],
+    tags: &mut [u8],
+    values: &mut [f32],
+)
+    requires { ⌜ (length (now words) ≡ 4096) × (checks ≤ 512) × (bits ≤ 512) × (length (now tags) ≡ 65536) × (length (now values) ≡ 65536) ⌝ }
+    requires { ⌜ (length (now word) ≡ bits) × (length (now floats) ≡ bits) × (start (lent 8 (now words)) 512 checks ≤ 65536) × (1 ≤ rounds) ⌝ }
+    requires { ⌜ Inner (lent 8 (now words)) bits checks ⌝ }
+    requires { ⌜ Sounds bits (messageAt (now word) (now floats)) ⌝ }
+    ensures { λ r. ⌜ Results bits (resultAfter (lent 8 (now (words .entry))) 512 checks (messageAt (now (word .entry)) (now (floats .entry))) rounds) (now (word .exit)) (now (floats .exit)) (now (tags .exit)) (now (values .exit)) ⌝ }
+{
+    if rounds == 1 {
+        by_columns(words, bits, checks, 1, word, floats, tags, values);
+        return;
+    }
+    by_columns(words, bits, checks, rounds, word, floats, tags, values);
+}
+
+// Decodes a word of sure, soft and erased bits by min-sum rounds: each bit's result replaces its channel value.
+pub fn min_sum(
+    words: &[u64],
+    n: usize,
+    m: usize,
+    k: usize,
+    rounds: usize,
+    word: &mut [u8],
+    floats: &mut [f32],
+    message_bytes: &mut [u8],
+    message_floats: &mut [f32],
+) -> Decoding
+    ensures { λ r. ⌜ decodingReply r ≡ minSumOutcome (now (words .entry)) n m k rounds (now (word .entry)) (now (floats .entry)) (now («message_bytes» .entry)) (now («message_floats» .entry)) .reply ⌝ }
+    ensures { λ r. ⌜ now (word .exit) ≡ minSumOutcome (now (words .entry)) n m k rounds (now (word .entry)) (now (floats .entry)) (now («message_bytes» .entry)) (now («message_floats» .entry)) .word ⌝ }
+    ensures { λ r. ⌜ now (floats .exit) ≡ minSumOutcome (now (words .entry)) n m k rounds (now (word .entry)) (now (floats .entry)) (now («message_bytes» .entry)) (now («message_floats» .entry)) .floats ⌝ }
+    ensures { λ r. ⌜ now («message_bytes» .exit) ≡ minSumOutcome (now (words .entry)) n m k rounds (now (word .entry)) (now (floats .entry)) (now («message_bytes» .entry)) (now («message_floats» .entry)) .messageBytes ⌝ }
+    ensures { λ r. ⌜ now («message_floats» .exit) ≡ minSumOutcome (now (words .entry)) n m k rounds (now (word .entry)) (now (floats .entry)) (now («message_bytes» .entry)) (now («message_floats» .entry)) .messageFloats ⌝ }
+{
+    let accepted = matrix::accept(words, n, m, k);
+    match accepted {
+        Accepting::Refused(r) => Decoding::Refused(r),
+        Accepting::Accepted => {
+            let judged = judge(n + k, rounds, word, floats, message_bytes, message_floats);
+            match judged {
+                Admission::Refused(r) => Decoding::Refused(r),
+                Admission::Admitted => {
+                    results(
+                        words,
+                        n + k,
+                        m + k,
+                        rounds,
+                        word,
+                        floats,
+                        message_bytes,
+                        message_floats,
+                    );
+                    Decoding::Made
+                }
+            }
+        }
+    }
+}

@@ -1,0 +1,5 @@
+pub mod Places
+pub mod Two
+pub mod Answers
+pub mod Adding
+pub mod SoftAlone

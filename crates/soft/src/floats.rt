@@ -1,0 +1,52 @@
+// Comparison and negation of 32-bit floats.
+ghost use mathlib.Core.Path.{_≡_};
+ghost use Rattle.parity.specs.Floats.{plusZero, magnitude, turned, cut, infinite};
+
+// Zero becomes plus zero.
+pub fn plus_zero(x: f32) -> f32
+    ensures { λ r. ⌜ r ≡ plusZero x ⌝ }
+{
+    if x == 0.0 {
+        return 0.0;
+    }
+    x
+}
+
+pub fn magnitude_of(x: f32) -> f32
+    ensures { λ r. ⌜ r ≡ magnitude x ⌝ }
+{
+    if x < 0.0 {
+        return -x;
+    }
+    x
+}
+
+// The sign turned, or not.
+pub fn turn(odd: bool, x: f32) -> f32
+    ensures { λ r. ⌜ r ≡ turned odd x ⌝ }
+{
+    if odd {
+        return plus_zero(-x);
+    }
+    plus_zero(x)
+}
+
+// Cut to magnitude 1,048,576.
+pub fn cut_off(x: f32) -> f32
+    ensures { λ r. ⌜ r ≡ cut x ⌝ }
+{
+    if 1048576.0 < x {
+        return 1048576.0;
+    }
+    if x < -1048576.0 {
+        return -1048576.0;
+    }
+    x
+}
+
+// Above every finite float.
+pub fn infinity() -> f32
+    ensures { λ r. ⌜ r ≡ infinite ⌝ }
+{
+    f32::from_bits(0x7f80_0000)
+}

@@ -1,0 +1,228 @@
+// Min-sum rounds on words of sure, soft and erased bits, and bad input. A line has the case, what the call answers, and the bits afterwards: 0 or 1,
+// ? for erased, x for a byte above 3, and of a soft bit the eight hexadecimal digits of its float.
+use min_sum::Decoding;
+use parity::Refusal;
+ghost use mathlib.Core.Path.{_≡_};
+ghost use lib.ListN.{length};
+
+fn refused(r: Refusal) {
+    io::write_all(1, b"REFUSED ");
+    io::print_decimal(1, parity::number(r));
+    match r {
+        Refusal::WrongByte { place: p } => {
+            io::write_all(1, b" at ");
+            io::print_decimal(1, p as u64);
+        }
+        Refusal::WrongFloat { place: p } => {
+            io::write_all(1, b" at ");
+            io::print_decimal(1, p as u64);
+        }
+        _ => {}
+    }
+}
+
+// The bits of a float, and of one that is not a number those of the quiet NaN.
+fn bits_of(x: f32) -> u32 {
+    if x == x {
+        return f32::to_bits(x);
+    }
+    0x7fc0_0000
+}
+
+// One bit: its byte, and its float if it is soft.
+fn symbol(byte: u8, float: f32) {
+    match byte {
+        0 => {
+            io::write_all(1, b" 0");
+        }
+        1 => {
+            io::write_all(1, b" 1");
+        }
+        2 => {
+            io::write_all(1, b" ?");
+        }
+        3 => {
+            io::write_all(1, b" ");
+            io::print_hex(1, bits_of(float) as u64, 8);
+        }
+        _ => {
+            io::write_all(1, b" x");
+        }
+    }
+}
+
+fn show(word: &[u8], floats: &[f32]) {
+    let mut i: usize = 0;
+    while i < word.len() {
+        if i < floats.len() {
+            symbol(word[i], floats[i]);
+        }
+        i += 1;
+    }
+}
+
+fn no_floats() -> [f32; 65536] {
+    [0.0f32; 65536]
+}
+
+fn line(
+    head: &[u8],
+    words: &[u64],
+    n: usize,
+    m: usize,
+    k: usize,
+    rounds: usize,
+    word: &mut [u8],
+    floats: &mut [f32],
+) {
+    io::write_all(1, head);
+    io::write_all(1, b", rounds ");
+    io::print_decimal(1, rounds as u64);
+    io::write_all(1, b": ");
+    let mut bytes = io::large_buffer();
+    let mut values = no_floats();
+    let answer = min_sum::min_sum(
+        words,
+        n,
+        m,
+        k,
+        rounds,
+        word,
+        floats,
+        &mut bytes,
+        &mut values,
+    );
+    match answer {
+        Decoding::Made => {
+            io::write_all(1, b"made");
+        }
+        Decoding::Refused(r) => refused(r),
+    }
+    show(word, floats);
+    io::write_all(1, b"\n");
+}
+
+fn a_words(words: &[u64]) {
+    let mut soft = [3, 3, 3, 3, 3, 3, 3];
+    let mut f = [1.5f32, -2.0, 3.25, 0.5, -0.25, 8.0, 4.0];
+    line(b"A, soft", words, 7, 3, 0, 1, &mut soft, &mut f);
+    line(b"A, what is left", words, 7, 3, 0, 3, &mut soft, &mut f);
+    let mut mixed = [2, 2, 0, 3, 1, 3, 3];
+    let mut g = [7.0f32, 7.0, 7.0, -0.75, 7.0, 0.1, -0.3];
+    line(b"A, mixed", words, 7, 3, 0, 1, &mut mixed, &mut g);
+    line(b"A, mixed, further", words, 7, 3, 0, 20, &mut mixed, &mut g);
+    let mut zero = [3, 3, 3, 3, 3, 2, 3];
+    let mut z = [-0.0f32, 0.0, -1.0, 0.0, -0.0, 9.0, -3.0];
+    line(b"A, zeros", words, 7, 3, 0, 2, &mut zero, &mut z);
+    let mut large = [3, 3, 3, 3, 3, 3, 3];
+    let mut l = [
+        1048576.0f32,
+        -1048576.0,
+        1048575.0,
+        1048576.0,
+        -1048576.0,
+        1048576.0,
+        -0.5,
+    ];
+    line(b"A, at the limit", words, 7, 3, 0, 9, &mut large, &mut l);
+}
+
+fn a_refused(words: &[u64]) {
+    let mut w = [3, 0, 2, 1, 3, 3, 0];
+    let mut f = [1.0f32, 0.0, 0.0, 0.0, -1.0, 0.5, 0.0];
+    line(b"A", words, 7, 3, 0, 0, &mut w, &mut f);
+    line(b"A", words, 7, 3, 0, 513, &mut w, &mut f);
+    f[1] = f32::from_bits(0x7fc0_0000);
+    f[2] = f32::from_bits(0xff80_0000);
+    line(
+        b"A, floats that are not read",
+        words,
+        7,
+        3,
+        0,
+        1,
+        &mut w,
+        &mut f,
+    );
+    let mut v = [3, 0, 2, 1, 3, 3, 0];
+    f[4] = f32::from_bits(0xc980_0001);
+    f[5] = f32::from_bits(0x7f80_0000);
+    line(b"A, two wrong floats", words, 7, 3, 0, 1, &mut v, &mut f);
+    v[5] = 4;
+    line(b"A, a wrong byte", words, 7, 3, 0, 512, &mut v, &mut f);
+    let mut short = [0.0f32; 6];
+    line(b"A, n - 1 floats", words, 7, 3, 0, 512, &mut v, &mut short);
+    let few = [0u64; 4095];
+    line(b"4,095 words", &few, 7, 3, 0, 0, &mut v, &mut short);
+}
+
+fn case_a() {
+    let mut words = [0u64; 4096];
+    words[0] = 0b1011001;
+    words[8] = 0b1101010;
+    words[16] = 0b1110100;
+    a_words(&words);
+    a_refused(&words);
+}
+
+// D, extended: {2,3,7} {4,5,7} {0,2,6} {0,1,7}; its word ends as peeling ends.
+fn case_d() {
+    let mut words = [0u64; 4096];
+    words[0] = 0b10001100;
+    words[8] = 0b10110000;
+    words[16] = 0b1000101;
+    words[24] = 0b10000011;
+    let mut w = [2, 2, 2, 1, 1, 1, 1, 2];
+    let mut f = [-1.0f32; 8];
+    line(b"D, sure and erased", &words, 7, 3, 1, 512, &mut w, &mut f);
+    let mut v = [2, 2, 2, 3, 3, 1, 1, 2];
+    let mut g = [0.0f32, 0.0, 0.0, -2.5, -1.25, 0.0, 0.0, 0.0];
+    line(b"D, soft", &words, 7, 3, 1, 4, &mut v, &mut g);
+}
+
+// {2} {0,2} and an empty check: bits 1 and 3 are in no check, and check 0 has one bit, to which it sends sure 0.
+fn few_bits() {
+    let mut words = [0u64; 4096];
+    words[0] = 0b100;
+    words[8] = 0b101;
+    let mut w = [3, 3, 3, 2];
+    let mut f = [-4.0f32, -0.0, 1.0, 0.0];
+    line(b"a check of one bit", &words, 4, 3, 0, 2, &mut w, &mut f);
+    let none = [0u64; 4096];
+    let mut v = [3, 1];
+    let mut g = [-0.0f32, 3.0];
+    line(b"no checks", &none, 2, 0, 0, 512, &mut v, &mut g);
+}
+
+// L: check c contains bit (c + e) mod 23 for e in 0, 1, 2, 3, 4, 7, 10, 12.
+fn fill_l(words: &mut [u64])
+    requires { ⌜ length (now words) ≡ 4096 ⌝ }
+{
+    let mut x: u64 = 0b1010010011111;
+    for c in 0..23 {
+        words[c * 8] = x;
+        x = ((x << 1) | (x >> 22)) & 0x7fffff;
+    }
+}
+
+// Soft bits near the zero codeword of L, three of them false.
+fn case_l() {
+    let mut words = [0u64; 4096];
+    fill_l(&mut words);
+    let mut w = [3u8; 23];
+    let mut f = [1.25f32; 23];
+    f[3] = -0.5;
+    f[7] = 0.125;
+    f[11] = -1.0;
+    f[12] = 2.5;
+    f[20] = -0.0625;
+    line(b"L", &words, 23, 23, 0, 1, &mut w, &mut f);
+    line(b"L, further", &words, 23, 23, 0, 40, &mut w, &mut f);
+}
+
+fn main() {
+    case_a();
+    case_d();
+    few_bits();
+    case_l();
+}

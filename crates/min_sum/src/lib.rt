@@ -103,8 +103,8 @@ fn results(
     requires { ⌜ Sounds bits (messageAt (now word) (now floats)) ⌝ }
     ensures { λ r. ⌜ Results bits (resultAfter (lent 8 (now (words .entry))) 512 checks (messageAt (now (word .entry)) (now (floats .entry))) rounds) (now (word .exit)) (now (floats .exit)) (now (tags .exit)) (now (values .exit)) ⌝ }
 {
-    if rounds == 1 {
-        by_columns(words, bits, checks, 1, word, floats, tags, values);
+    if rounds < 2 {
+        by_columns(words, bits, checks, rounds, word, floats, tags, values);
         return;
     }
     by_columns(words, bits, checks, rounds, word, floats, tags, values);

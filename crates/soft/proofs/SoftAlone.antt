@@ -1,19 +1,17 @@
 -- Sums of soft values alone, over their floats. Assumes nothing.
 use mathlib.Core.Path.{_≡_, refl, sym, ap, _∙_}
-use mathlib.Core.Bool.{Bool, true, false, true≢false, false≢true}
 use mathlib.Core.List.{List}
-use Prim.Native.Nat.{ℕ, _+_, _<_, _≤_}
+use Prim.Native.Nat.{ℕ, _+_, _<_}
 use native.Mathlib.Decide.{ℕ-discrete}
 use native.Mathlib.Omega.{arith}
 use lib.ListN.{getD, length, set, length-set}
 use lib.Seq.{getD-set-same, getD-set-other}
 use lib.Ieee.{Float, nan, binary32, add}
 use Rattle.parity.specs.Soft.{byteFor, floatFor, messageAt, joined}
-use Rattle.parity.specs.declared.Channel.{Channel}
 use Rattle.parity.specs.declared.Channel.the-variants.{Soft}
 use Rattle.parity.proofs.Soft.Cong.{gathered-cong}
 use Rattle.soft.specs.Pass.{Holding}
-use Rattle.soft.specs.Sums.{partSum, AllSoft, AddedTo, softAt, SoftSums}
+use Rattle.soft.specs.Sums.{partSum, AddedTo, softAt, SoftSums}
 use Rattle.soft.proofs.Adding.{sum-none, sum-other, sum-at, sum-next}
 
 -- ---- adding

@@ -1,11 +1,10 @@
 -- `results` meets its contract. Assumes nothing.
-use native.Mathlib.Omega.{arith}
 use borrow.Author.Needs.{needs}
 use Rattle.min_sum.proofs.results.Statement.{statement}
 use Rattle.min_sum.proofs.results.Tie as tie
 
 by-columns-requires : tie.Need-by-columns-requires
-by-columns-requires c κs = let s = c .before .before .before .before .before .before .before .before .before .before in (s .pre .0, ((s .pre .1 .0 .0, s .pre .1 .0 .1, s .pre .1 .0 .2, omega arith), s .pre .1 .1))
+by-columns-requires c κs = search needs
 
 same-length : tie.Need-same-length
 same-length c = search needs
@@ -20,7 +19,7 @@ same-length-4 : tie.Need-same-length-4
 same-length-4 c = search needs
 
 returns : tie.Need-returns
-returns c = rw (c .before .before .before .before .before .before .before .before .before .before .before .before .before .if1 .taken) (c .before .before .before .before .before .before .before .before .by-columns .ensures)
+returns c = c .before .before .before .before .before .before .before .before .by-columns .ensures
 
 by-columns-requires-2 : tie.Need-by-columns-requires-2
 by-columns-requires-2 c κs = search needs

@@ -23,7 +23,7 @@ next-one-requires : tie.Need-next-one-requires Inv-loop μ-loop
 next-one-requires c κs = let s = c .before .before .before .before .before .before in (omega (arith, s .pre .0 .0, s .pre .0 .2), search needs, search needs)
 
 loop-holds : tie.Need-loop-holds Inv-loop μ-loop
-loop-holds c = 
+loop-holds c =
     let s = c .before .before .before .before .before .before .before in
     let h = across (lent 8 (s .args .cols .now)) in
     let T = c .next-one .ensures in (
@@ -34,7 +34,7 @@ loop-holds c =
     )
 
 mul-p : tie.Need-mul-p Inv-loop μ-loop
-mul-p c = 
+mul-p c =
     let i = c in
     let l = i .before .loop in
     let s = i .before .before .before .before .before .before .before .before .before in
@@ -42,7 +42,7 @@ mul-p c =
     omega (arith, t, s .pre .0 .1, l .inv .2 .size)
 
 slice-read-p : tie.Need-slice-read-p Inv-loop μ-loop
-slice-read-p c = 
+slice-read-p c =
     let i = c .before in
     let l = i .before .loop in
     let s = i .before .before .before .before .before .before .before .before .before in
@@ -50,7 +50,7 @@ slice-read-p c =
     omega (arith, t, s .pre .0 .1, l .inv .2 .size)
 
 shared-slice-read-row-tags : tie.Need-shared-slice-read-row-tags Inv-loop μ-loop
-shared-slice-read-row-tags c = 
+shared-slice-read-row-tags c =
     let i = c .before .before in
     let l = i .before .loop in
     let s = i .before .before .before .before .before .before .before .before .before in
@@ -60,7 +60,7 @@ shared-slice-read-row-tags c =
     omega (arith, q, s .pre .0 .3)
 
 slice-write-row-tags : tie.Need-slice-write-row-tags Inv-loop μ-loop
-slice-write-row-tags c = 
+slice-write-row-tags c =
     let i = c .before .before in
     let l = i .before .loop in
     let s = i .before .before .before .before .before .before .before .before .before in
@@ -70,7 +70,7 @@ slice-write-row-tags c =
     omega (arith, t, s .pre .0 .1, l .inv .1, count-bound (l .c) p, l .inv .3 .tags)
 
 mul-row-values : tie.Need-mul-row-values Inv-loop μ-loop
-mul-row-values c = 
+mul-row-values c =
     let i = c .before .before in
     let l = i .before .loop in
     let s = i .before .before .before .before .before .before .before .before .before in
@@ -80,7 +80,7 @@ mul-row-values c =
     omega (arith, q, s .pre .0 .4)
 
 shared-slice-read-row-values : tie.Need-shared-slice-read-row-values Inv-loop μ-loop
-shared-slice-read-row-values c = 
+shared-slice-read-row-values c =
     let i = c .before .before .before in
     let l = i .before .loop in
     let s = i .before .before .before .before .before .before .before .before .before in
@@ -90,7 +90,7 @@ shared-slice-read-row-values c =
     omega (arith, q, s .pre .0 .4)
 
 mul-row-values-2 : tie.Need-mul-row-values-2 Inv-loop μ-loop
-mul-row-values-2 c = 
+mul-row-values-2 c =
     let i = c .before .before .before in
     let l = i .before .loop in
     let s = i .before .before .before .before .before .before .before .before .before in
@@ -100,7 +100,7 @@ mul-row-values-2 c =
     omega (arith, t, s .pre .0 .1, l .inv .1, count-bound (l .c) p, l .inv .3 .values)
 
 slice-write-row-values : tie.Need-slice-write-row-values Inv-loop μ-loop
-slice-write-row-values c = 
+slice-write-row-values c =
     let i = c .before .before .before in
     let l = i .before .loop in
     let s = i .before .before .before .before .before .before .before .before .before in
@@ -110,7 +110,7 @@ slice-write-row-values c =
     omega (arith, t, s .pre .0 .1, l .inv .1, count-bound (l .c) p, l .inv .3 .values)
 
 add-at : tie.Need-add-at Inv-loop μ-loop
-add-at c = 
+add-at c =
     let i = c .before .before .before in
     let l = i .before .loop in
     let s = i .before .before .before .before .before .before .before .before .before in
@@ -120,7 +120,7 @@ add-at c =
     omega (arith, q)
 
 mul-at : tie.Need-mul-at Inv-loop μ-loop
-mul-at c = 
+mul-at c =
     let i = c .before .before .before in
     let l = i .before .loop in
     let s = i .before .before .before .before .before .before .before .before .before in
@@ -128,7 +128,7 @@ mul-at c =
     omega (arith, t, s .pre .0 .1, l .inv .2 .size)
 
 slice-write-at : tie.Need-slice-write-at Inv-loop μ-loop
-slice-write-at c = 
+slice-write-at c =
     let i = c .before .before .before in
     let l = i .before .loop in
     let s = i .before .before .before .before .before .before .before .before .before in
@@ -136,7 +136,7 @@ slice-write-at c =
     omega (arith, t, s .pre .0 .1, l .inv .2 .size)
 
 add-d : tie.Need-add-d Inv-loop μ-loop
-add-d c = 
+add-d c =
     let i = c .before .before .before in
     let l = i .before .loop in
     let s = i .before .before .before .before .before .before .before .before .before in
@@ -146,7 +146,7 @@ add-d c =
     omega (arith, t, s .pre .0 .1, l .inv .1, count-bound (l .c) p)
 
 add-next-one : tie.Need-add-next-one Inv-loop μ-loop
-add-next-one c = 
+add-next-one c =
     let i = c .before .before .before in
     let l = i .before .loop in
     let s = i .before .before .before .before .before .before .before .before .before in
@@ -154,7 +154,7 @@ add-next-one c =
     omega (arith, t, s .pre .0 .1)
 
 next-one-requires-2 : tie.Need-next-one-requires-2 Inv-loop μ-loop
-next-one-requires-2 c κs = 
+next-one-requires-2 c κs =
     let i = c .before .before .before in
     let l = i .before .loop in
     let s = i .before .before .before .before .before .before .before .before .before in
@@ -162,7 +162,7 @@ next-one-requires-2 c κs =
     (omega (arith, s .pre .0 .0, s .pre .0 .2), search needs, omega (arith, t, s .pre .0 .1))
 
 loop-less : tie.Need-loop-less Inv-loop μ-loop
-loop-less c = 
+loop-less c =
     let i = c .before .before .before .before in
     let l = i .before .loop in
     let s = i .before .before .before .before .before .before .before .before .before in
@@ -170,7 +170,7 @@ loop-less c =
     omega (arith, t, s .pre .0 .1, c .next-one2 .ensures .least)
 
 loop-again : tie.Need-loop-again Inv-loop μ-loop
-loop-again c = 
+loop-again c =
     let i = c .before .before .before .before in
     let l = i .before .loop in
     let s = i .before .before .before .before .before .before .before .before .before in
@@ -197,7 +197,7 @@ same-length-3 : tie.Need-same-length-3 Inv-loop μ-loop
 same-length-3 c = c .before .loop .inv .3 .values ∙ sym (c .before .before .before .before .before .before .before .before .before .pre .1 .0 .1)
 
 returns : tie.Need-returns Inv-loop μ-loop
-returns c = 
+returns c =
     let l = c .before .loop in
     let s = c .before .before .before .before .before .before .before .before .before in
     let h = across (lent 8 (s .args .cols .now)) in

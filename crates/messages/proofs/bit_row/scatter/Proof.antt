@@ -25,14 +25,14 @@ next-one-requires : tie.Need-next-one-requires Inv-loop μ-loop
 next-one-requires c κs = let s = c .before .before .before .before .before .before in (omega (arith, s .pre .0 .0, s .pre .0 .2), search needs, search needs)
 
 loop-holds : tie.Need-loop-holds Inv-loop μ-loop
-loop-holds c = 
+loop-holds c =
     let s = c .before .before .before .before .before .before .before in
     let h = across (lent 8 (s .args .cols .now)) in
     let T = c .next-one .ensures in
     (at-first h (s .args .checks) (s .args .b) _ T, count-first (column h (s .args .b)) _ T, spread-first h 512 (s .args .checks) (s .args .b) (s .pre .0 .2) _ _ _ _ T)
 
 mul-p : tie.Need-mul-p Inv-loop μ-loop
-mul-p c = 
+mul-p c =
     let i = c in
     let l = i .before .loop in
     let s = i .before .before .before .before .before .before .before .before .before in
@@ -40,7 +40,7 @@ mul-p c =
     omega (arith, t, s .pre .0 .1, s .pre .1 .1 .size)
 
 shared-slice-read-p : tie.Need-shared-slice-read-p Inv-loop μ-loop
-shared-slice-read-p c = 
+shared-slice-read-p c =
     let i = c .before in
     let l = i .before .loop in
     let s = i .before .before .before .before .before .before .before .before .before in
@@ -48,7 +48,7 @@ shared-slice-read-p c =
     omega (arith, t, s .pre .0 .1, s .pre .1 .1 .size)
 
 sub-p : tie.Need-sub-p Inv-loop μ-loop
-sub-p c = 
+sub-p c =
     let i = c .before in
     let l = i .before .loop in
     let s = i .before .before .before .before .before .before .before .before .before in
@@ -58,7 +58,7 @@ sub-p c =
     omega (arith, B .0)
 
 shared-slice-read-tags : tie.Need-shared-slice-read-tags Inv-loop μ-loop
-shared-slice-read-tags c = 
+shared-slice-read-tags c =
     let i = c .before .before in
     let l = i .before .loop in
     let s = i .before .before .before .before .before .before .before .before .before in
@@ -68,7 +68,7 @@ shared-slice-read-tags c =
     omega (arith, t, s .pre .0 .1, l .inv .1, count-bound (l .c) p, s .pre .1 .0 .0)
 
 slice-write-tags : tie.Need-slice-write-tags Inv-loop μ-loop
-slice-write-tags c = 
+slice-write-tags c =
     let i = c .before .before in
     let l = i .before .loop in
     let s = i .before .before .before .before .before .before .before .before .before in
@@ -78,7 +78,7 @@ slice-write-tags c =
     omega (arith, B .0, B .1, l .inv .2 .tags, s .pre .0 .3)
 
 mul-values : tie.Need-mul-values Inv-loop μ-loop
-mul-values c = 
+mul-values c =
     let i = c .before .before in
     let l = i .before .loop in
     let s = i .before .before .before .before .before .before .before .before .before in
@@ -88,7 +88,7 @@ mul-values c =
     omega (arith, t, s .pre .0 .1, l .inv .1, count-bound (l .c) p, s .pre .1 .0 .1)
 
 shared-slice-read-values : tie.Need-shared-slice-read-values Inv-loop μ-loop
-shared-slice-read-values c = 
+shared-slice-read-values c =
     let i = c .before .before .before in
     let l = i .before .loop in
     let s = i .before .before .before .before .before .before .before .before .before in
@@ -98,7 +98,7 @@ shared-slice-read-values c =
     omega (arith, t, s .pre .0 .1, l .inv .1, count-bound (l .c) p, s .pre .1 .0 .1)
 
 mul-values-2 : tie.Need-mul-values-2 Inv-loop μ-loop
-mul-values-2 c = 
+mul-values-2 c =
     let i = c .before .before .before in
     let l = i .before .loop in
     let s = i .before .before .before .before .before .before .before .before .before in
@@ -108,7 +108,7 @@ mul-values-2 c =
     omega (arith, B .0, B .1, l .inv .2 .values, s .pre .0 .4)
 
 slice-write-values : tie.Need-slice-write-values Inv-loop μ-loop
-slice-write-values c = 
+slice-write-values c =
     let i = c .before .before .before in
     let l = i .before .loop in
     let s = i .before .before .before .before .before .before .before .before .before in
@@ -118,7 +118,7 @@ slice-write-values c =
     omega (arith, B .0, B .1, l .inv .2 .values, s .pre .0 .4)
 
 add-d : tie.Need-add-d Inv-loop μ-loop
-add-d c = 
+add-d c =
     let i = c .before .before .before in
     let l = i .before .loop in
     let s = i .before .before .before .before .before .before .before .before .before in
@@ -128,7 +128,7 @@ add-d c =
     omega (arith, t, s .pre .0 .1, l .inv .1, count-bound (l .c) p)
 
 add-next-one : tie.Need-add-next-one Inv-loop μ-loop
-add-next-one c = 
+add-next-one c =
     let i = c .before .before .before in
     let l = i .before .loop in
     let s = i .before .before .before .before .before .before .before .before .before in
@@ -136,7 +136,7 @@ add-next-one c =
     omega (arith, t, s .pre .0 .1)
 
 next-one-requires-2 : tie.Need-next-one-requires-2 Inv-loop μ-loop
-next-one-requires-2 c κs = 
+next-one-requires-2 c κs =
     let i = c .before .before .before in
     let l = i .before .loop in
     let s = i .before .before .before .before .before .before .before .before .before in
@@ -144,7 +144,7 @@ next-one-requires-2 c κs =
     (omega (arith, s .pre .0 .0, s .pre .0 .2), search needs, omega (arith, t, s .pre .0 .1))
 
 loop-less : tie.Need-loop-less Inv-loop μ-loop
-loop-less c = 
+loop-less c =
     let i = c .before .before .before .before in
     let l = i .before .loop in
     let s = i .before .before .before .before .before .before .before .before .before in
@@ -152,7 +152,7 @@ loop-less c =
     omega (arith, t, s .pre .0 .1, c .next-one2 .ensures .least)
 
 loop-again : tie.Need-loop-again Inv-loop μ-loop
-loop-again c = 
+loop-again c =
     let i = c .before .before .before .before in
     let l = i .before .loop in
     let s = i .before .before .before .before .before .before .before .before .before in
@@ -178,7 +178,7 @@ same-length-2 : tie.Need-same-length-2 Inv-loop μ-loop
 same-length-2 c = c .before .loop .inv .2 .values
 
 returns : tie.Need-returns Inv-loop μ-loop
-returns c = 
+returns c =
     let l = c .before .loop in
     let s = c .before .before .before .before .before .before .before .before .before in
     spread-end (across (lent 8 (s .args .cols .now))) 512 (s .args .checks) (s .args .b) (s .pre .0 .2) _ _ _ (l .c) _ _ (l .inv .2) (omega (arith, c .loop-test .left))

@@ -22,7 +22,7 @@ loop-holds : tie.Need-loop-holds Inv-loop μ-loop
 loop-holds c = let s = c .before .before .before .before .before .before in (omega arith, filling-none _ _ _ _ _ _ (s .pre .1 .1) (s .pre .0 .3) (s .pre .0 .4))
 
 shared-slice-read-fill-bit : tie.Need-shared-slice-read-fill-bit Inv-loop μ-loop
-shared-slice-read-fill-bit c = 
+shared-slice-read-fill-bit c =
     let i = c .before .before in
     let l = i .before .loop in
     let s = i .before .before .before .before .before .before .before .before in
@@ -30,7 +30,7 @@ shared-slice-read-fill-bit c =
     omega (arith, t, s .pre .1 .0 .0)
 
 mul-fill-bit : tie.Need-mul-fill-bit Inv-loop μ-loop
-mul-fill-bit c = 
+mul-fill-bit c =
     let i = c .before .before in
     let l = i .before .loop in
     let s = i .before .before .before .before .before .before .before .before in
@@ -38,7 +38,7 @@ mul-fill-bit c =
     omega (arith, t, s .pre .0 .2, s .pre .1 .0 .1)
 
 shared-slice-read-fill-bit-2 : tie.Need-shared-slice-read-fill-bit-2 Inv-loop μ-loop
-shared-slice-read-fill-bit-2 c = 
+shared-slice-read-fill-bit-2 c =
     let i = c .before .before .before in
     let l = i .before .loop in
     let s = i .before .before .before .before .before .before .before .before in
@@ -46,7 +46,7 @@ shared-slice-read-fill-bit-2 c =
     omega (arith, t, s .pre .1 .0 .1)
 
 fill-bit-requires : tie.Need-fill-bit-requires Inv-loop μ-loop
-fill-bit-requires c κs = 
+fill-bit-requires c κs =
     let i = c .before .before .before .before .before in
     let l = i .before .loop in
     let s = i .before .before .before .before .before .before .before .before in
@@ -54,7 +54,7 @@ fill-bit-requires c κs =
     ((s .pre .0 .0, s .pre .0 .1, omega (arith, t, s .pre .0 .2), l .inv .1 .tags, l .inv .1 .values), (s .pre .1 .0 .2, l .inv .1 .cursors))
 
 add-b : tie.Need-add-b Inv-loop μ-loop
-add-b c = 
+add-b c =
     let i = c .before .before .before .before .before .before .before .before .before .before .before .before in
     let l = i .before .loop in
     let s = i .before .before .before .before .before .before .before .before in
@@ -62,7 +62,7 @@ add-b c =
     omega (arith, t, s .pre .0 .2)
 
 loop-less : tie.Need-loop-less Inv-loop μ-loop
-loop-less c = 
+loop-less c =
     let i = c .before .before .before .before .before .before .before .before .before .before .before .before in
     let l = i .before .loop in
     let s = i .before .before .before .before .before .before .before .before in
@@ -70,7 +70,7 @@ loop-less c =
     omega (arith, t)
 
 loop-again : tie.Need-loop-again Inv-loop μ-loop
-loop-again c = 
+loop-again c =
     let i = c .before .before .before .before .before .before .before .before .before .before .before .before in
     let l = i .before .loop in
     let s = i .before .before .before .before .before .before .before .before in
@@ -90,7 +90,7 @@ same-length-3 : tie.Need-same-length-3 Inv-loop μ-loop
 same-length-3 c = c .before .loop .inv .1 .values ∙ sym (c .before .before .before .before .before .before .before .before .pre .0 .4)
 
 returns : tie.Need-returns Inv-loop μ-loop
-returns c = 
+returns c =
     let l = c .before .loop in
     let e : l .b ≡ c .before .before .before .before .before .before .before .before .args .bits = omega (arith, c .loop-test .left) in
     rw e at (l .inv .1)

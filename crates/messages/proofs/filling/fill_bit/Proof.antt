@@ -6,7 +6,7 @@ use Rattle.parity.specs.Matrix.{lent}
 use borrow.Author.Needs.{needs}
 use native.Mathlib.Omega.{arith}
 use Prim.Native.Nat.{_≤_, _<_, _-_}
-use mathlib.Core.Path.{_≡_, refl, sym, _∙_}
+use mathlib.Core.Path.{refl, sym, _∙_}
 use Rattle.messages.proofs.filling.fill_bit.Statement.{statement}
 use Rattle.messages.proofs.filling.fill_bit.Tie as tie
 
@@ -22,7 +22,7 @@ next-one-requires : tie.Need-next-one-requires Inv-loop μ-loop
 next-one-requires c κs = let s = c .before .before .before .before in (omega (arith, s .pre .0 .0, s .pre .0 .2), search needs, search needs)
 
 loop-holds : tie.Need-loop-holds Inv-loop μ-loop
-loop-holds c = 
+loop-holds c =
     let s = c .before .before .before .before .before in
     let h = across (lent 8 (s .args .cols .now)) in
     let T = c .next-one .ensures in (
@@ -32,7 +32,7 @@ loop-holds c =
     )
 
 mul-p : tie.Need-mul-p Inv-loop μ-loop
-mul-p c = 
+mul-p c =
     let i = c in
     let l = i .before .loop in
     let s = i .before .before .before .before .before .before .before in
@@ -40,7 +40,7 @@ mul-p c =
     omega (arith, t, s .pre .0 .1, l .inv .1 .size)
 
 slice-read-p : tie.Need-slice-read-p Inv-loop μ-loop
-slice-read-p c = 
+slice-read-p c =
     let i = c .before in
     let l = i .before .loop in
     let s = i .before .before .before .before .before .before .before in
@@ -48,7 +48,7 @@ slice-read-p c =
     omega (arith, t, s .pre .0 .1, l .inv .1 .size)
 
 slice-write-tags : tie.Need-slice-write-tags Inv-loop μ-loop
-slice-write-tags c = 
+slice-write-tags c =
     let i = c .before in
     let l = i .before .loop in
     let s = i .before .before .before .before .before .before .before in
@@ -58,7 +58,7 @@ slice-write-tags c =
     omega (arith, q, l .inv .2 .tags, s .pre .0 .3)
 
 mul-values : tie.Need-mul-values Inv-loop μ-loop
-mul-values c = 
+mul-values c =
     let i = c .before in
     let l = i .before .loop in
     let s = i .before .before .before .before .before .before .before in
@@ -68,7 +68,7 @@ mul-values c =
     omega (arith, q, l .inv .2 .values, s .pre .0 .4)
 
 slice-write-values : tie.Need-slice-write-values Inv-loop μ-loop
-slice-write-values c = 
+slice-write-values c =
     let i = c .before in
     let l = i .before .loop in
     let s = i .before .before .before .before .before .before .before in
@@ -78,7 +78,7 @@ slice-write-values c =
     omega (arith, q, l .inv .2 .values, s .pre .0 .4)
 
 add-at : tie.Need-add-at Inv-loop μ-loop
-add-at c = 
+add-at c =
     let i = c .before in
     let l = i .before .loop in
     let s = i .before .before .before .before .before .before .before in
@@ -88,7 +88,7 @@ add-at c =
     omega (arith, q)
 
 mul-at : tie.Need-mul-at Inv-loop μ-loop
-mul-at c = 
+mul-at c =
     let i = c .before in
     let l = i .before .loop in
     let s = i .before .before .before .before .before .before .before in
@@ -96,7 +96,7 @@ mul-at c =
     omega (arith, t, s .pre .0 .1, l .inv .1 .size)
 
 slice-write-at : tie.Need-slice-write-at Inv-loop μ-loop
-slice-write-at c = 
+slice-write-at c =
     let i = c .before in
     let l = i .before .loop in
     let s = i .before .before .before .before .before .before .before in
@@ -104,7 +104,7 @@ slice-write-at c =
     omega (arith, t, s .pre .0 .1, l .inv .1 .size)
 
 add-next-one : tie.Need-add-next-one Inv-loop μ-loop
-add-next-one c = 
+add-next-one c =
     let i = c .before in
     let l = i .before .loop in
     let s = i .before .before .before .before .before .before .before in
@@ -112,7 +112,7 @@ add-next-one c =
     omega (arith, t, s .pre .0 .1)
 
 next-one-requires-2 : tie.Need-next-one-requires-2 Inv-loop μ-loop
-next-one-requires-2 c κs = 
+next-one-requires-2 c κs =
     let i = c .before in
     let l = i .before .loop in
     let s = i .before .before .before .before .before .before .before in
@@ -120,7 +120,7 @@ next-one-requires-2 c κs =
     (omega (arith, s .pre .0 .0, s .pre .0 .2), search needs, omega (arith, t, s .pre .0 .1))
 
 loop-less : tie.Need-loop-less Inv-loop μ-loop
-loop-less c = 
+loop-less c =
     let i = c .before .before in
     let l = i .before .loop in
     let s = i .before .before .before .before .before .before .before in
@@ -128,7 +128,7 @@ loop-less c =
     omega (arith, t, s .pre .0 .1, c .next-one2 .ensures .least)
 
 loop-again : tie.Need-loop-again Inv-loop μ-loop
-loop-again c = 
+loop-again c =
     let i = c .before .before in
     let l = i .before .loop in
     let s = i .before .before .before .before .before .before .before in
@@ -156,7 +156,7 @@ same-length-3 : tie.Need-same-length-3 Inv-loop μ-loop
 same-length-3 c = c .before .loop .inv .2 .values
 
 returns : tie.Need-returns Inv-loop μ-loop
-returns c = 
+returns c =
     let l = c .before .loop in
     let s = c .before .before .before .before .before .before .before in
     let h = across (lent 8 (s .args .cols .now)) in

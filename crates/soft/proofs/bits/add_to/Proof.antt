@@ -2,7 +2,6 @@
 use mathlib.Core.Path.{_≡_}
 use Prim.Native.Nat.{_≤_, _-_}
 use native.Mathlib.Omega.{arith}
-use borrow.Author.Needs.{needs}
 use Rattle.soft.specs.Sums.{AddedTo}
 use Rattle.soft.proofs.SoftAlone.{added-none, added-more}
 use Rattle.soft.proofs.bits.add_to.Statement.{statement}

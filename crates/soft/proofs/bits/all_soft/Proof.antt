@@ -5,7 +5,6 @@ use Prim.Native.Nat.{ℕ, _≤_, _<_, _-_}
 use native.Mathlib.Omega.{arith}
 use lib.ListN.{length, getD}
 use borrow.Author.Count.{below-more}
-use borrow.Author.Needs.{needs}
 use Rattle.soft.proofs.bits.all_soft.Statement.{statement}
 use Rattle.soft.proofs.bits.all_soft.Tie as tie
 

@@ -3,7 +3,6 @@ use mathlib.Core.Path.{_≡_, refl}
 use Prim.Native.Nat.{_≤_, _-_}
 use native.Mathlib.Omega.{arith}
 use lib.ListN.{length}
-use borrow.Author.Needs.{needs}
 use Rattle.soft.specs.Sums.{SoftSums}
 use Rattle.soft.proofs.SoftAlone.{alone-none, alone-more}
 use Rattle.soft.proofs.bits.soft_sums.Statement.{statement}

@@ -26,9 +26,10 @@ returns c =
     let C = A .before .before .before .before in
     let s = C .before .before .before .before .before .before in
     let soft = C .before .before .all-soft .ensures .at (A .before .before .if1 .taken) in
-    rw (C .channel .given .1)
-        (alone-all (s .args .tags .now) (s .args .values .now) _ soft (s .pre) _ _ (A .soft-sums .ensures),
-        alone-holding (s .args .tags .now) (s .args .values .now) _ soft (s .pre) _ _ (A .soft-sums .ensures))
+    rw (C .channel .given .1) (
+      alone-all (s .args .tags .now) (s .args .values .now) _ soft (s .pre) _ _ (A .soft-sums .ensures),
+      alone-holding (s .args .tags .now) (s .args .values .now) _ soft (s .pre) _ _ (A .soft-sums .ensures),
+    )
 
 mixed-sums-requires : tie.Need-mixed-sums-requires
 mixed-sums-requires c κs = search needs

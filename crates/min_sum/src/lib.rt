@@ -9,7 +9,7 @@ use crate::judge::judge;
 use crate::rounds::run;
 use matrix::Accepting;
 use parity::Refusal;
-use rows::columns::columns;
+use rows::columns::fill;
 use word::Admission;
 ghost use mathlib.Core.Path.{_≡_};
 ghost use Prim.Native.Nat.{_+_, _≤_};
@@ -26,6 +26,12 @@ ghost use Rattle.min_sum.specs.Answers.{decodingReply, Results};
 pub enum Decoding {
     Made,
     Refused(Refusal),
+}
+
+fn no_columns() -> [u64; 4096]
+    ensures { λ r. ⌜ r ≡ replicate 4096 0 ⌝ }
+{
+    [0u64; 4096]
 }
 
 fn no_places() -> [usize; 512]
@@ -63,7 +69,8 @@ fn by_columns(
     requires { ⌜ Sounds bits (messageAt (now word) (now floats)) ⌝ }
     ensures { λ r. ⌜ Results bits (resultAfter (lent 8 (now (words .entry))) 512 checks (messageAt (now (word .entry)) (now (floats .entry))) rounds) (now (word .exit)) (now (floats .exit)) (now (tags .exit)) (now (values .exit)) ⌝ }
 {
-    let cols = columns(words, checks);
+    let mut cols = no_columns();
+    fill(words, &mut cols, 8, checks);
     let mut at = no_places();
     let mut row_tags = no_bytes();
     let mut row_values = no_floats();

@@ -4,6 +4,8 @@ use lib.Ieee.{Float}
 use Rattle.parity.specs.Floats.{positiveZero}
 use lib.ListN.{length, replicate, length-replicate}
 use mathlib.Core.Path.{ap, _∙_}
+use native.Mathlib.Omega.{arith}
+use Rattle.rows.proofs.Fill.{empty}
 use Rattle.messages.proofs.Sends.{across-is}
 use Rattle.messages.specs.Loops.{Sized}
 use Rattle.parity.specs.Matrix.{lent}
@@ -11,8 +13,17 @@ use borrow.Author.Needs.{needs}
 use Rattle.min_sum.proofs.by_columns.Statement.{statement}
 use Rattle.min_sum.proofs.by_columns.Tie as tie
 
-columns-requires : tie.Need-columns-requires
-columns-requires c κs = search needs
+no-columns-requires : tie.Need-no-columns-requires
+no-columns-requires c κs = search needs
+
+slice-aggregate-fill : tie.Need-slice-aggregate-fill
+slice-aggregate-fill c = search needs
+
+fill-requires : tie.Need-fill-requires
+fill-requires c κs =
+    let e = c .before .no-columns .ensures in
+    let s = c .before .before .before .before .before .before .before in
+    ((s .pre .0 .0, rw e (length-replicate {A = ℕ} 4096 0), omega (arith, s .pre .0 .1), s .pre .0 .1), empty 8 4096 _ e)
 
 no-places-requires : tie.Need-no-places-requires
 no-places-requires c κs = search needs
@@ -37,15 +48,18 @@ slice-aggregate-run-4 c = search needs
 
 run-requires : tie.Need-run-requires
 run-requires c κs =
-    let s = c .before .before .before .before .before .before .before .before .before .before .before .before .before .before .before .before .before in
+    let s = c .before .before .before .before .before .before .before .before .before .before .before .before .before .before .before .before .before .before .before .before in
     let h = lent 8 (s .args .words .now) in
-    let C = c .before .before .before .before .before .before .before .before .before .before .before .columns .ensures in
+    let C = c .before .before .before .before .before .before .before .before .before .before .before .before .fill in
+    let long = C .kept .1 .0 ∙ ap length (c .before .before .before .before .before .before .before .before .before .before .before .before .before .before .no-columns .ensures) ∙ length-replicate {A = ℕ} 4096 0 in
     let sized : Sized _ _ _ = record {
       cursors = ap length (c .before .before .before .before .before .before .before .before .before .before .no-places .ensures) ∙ length-replicate {A = ℕ} 512 0;
       tags = ap length (c .before .before .before .before .before .before .before .before .before .no-bytes .ensures) ∙ length-replicate {A = ℕ} 512 0;
       values = ap length (c .before .before .before .before .before .before .before .before .no-floats .ensures) ∙ length-replicate {A = Float} 512 positiveZero;
-    } in
-    (s .pre .0, (s .pre .1 .0, (sized, (s .pre .1 .1 .0, (s .pre .1 .1 .1, (search needs, across-is h _ (s .args .bits) (s .args .checks) (s .pre .1 .1 .0) C))))))
+    } in (
+      s .pre .0,
+      (s .pre .1 .0, (sized, (s .pre .1 .1 .0, (s .pre .1 .1 .1, (long, across-is h _ (s .args .bits) (s .args .checks) (s .pre .1 .1 .0) (C .ensures)))))),
+    )
 
 clear-bytes-requires : tie.Need-clear-bytes-requires
 clear-bytes-requires c κs = search needs
@@ -67,7 +81,7 @@ same-length-4 c = search needs
 
 returns : tie.Need-returns
 returns c =
-    let s = c .before .before .before .before .before .before .before .before .before .before .before .before .before .before .before .before .before .before .before .before .before .before .before .before .before .before .before .before .before .before .before .before .before .before .before .before .before in
+    let s = c .before .before .before .before .before .before .before .before .before .before .before .before .before .before .before .before .before .before .before .before .before .before .before .before .before .before .before .before .before .before .before .before .before .before .before .before .before .before .before .before in
     let R = c .before .before .before .before .before .before .before .before .before .before .before .before .before .before .before .before .before .before .before .run in
     record {
       held = R .ensures;
@@ -79,7 +93,9 @@ pub by-columns-spec : {M : Type 1} → statement M
 by-columns-spec =
     tie.close
     (tie.spec
-    columns-requires
+    no-columns-requires
+    slice-aggregate-fill
+    fill-requires
     no-places-requires
     no-bytes-requires
     no-floats-requires

@@ -18,7 +18,7 @@ ghost use Rattle.parity.specs.Matrix.{lent};
 ghost use Rattle.parity.specs.Floats.{positiveZero};
 ghost use Rattle.parity.specs.Soft.{messageAt, resultAfter};
 ghost use Rattle.parity.specs.SoftCall.{minSumOutcome};
-ghost use Rattle.soft.specs.Pass.{Sounds};
+ghost use Rattle.soft.specs.Pass.{Holding, Sounds};
 ghost use Rattle.messages.specs.Memory.{start, Inner};
 ghost use Rattle.min_sum.specs.Answers.{decodingReply, Results};
 
@@ -52,7 +52,7 @@ fn no_floats() -> [f32; 512]
     [0.0f32; 512]
 }
 
-// Runs the rounds, with the columns of the matrix: the results replace the input, and the messages are left zero.
+// Runs the rounds, with the columns of the matrix: the results replace the input.
 fn by_columns(
     words: &[u64],
     bits: usize,
@@ -67,7 +67,7 @@ fn by_columns(
     requires { ⌜ (length (now word) ≡ bits) × (length (now floats) ≡ bits) × (start (lent 8 (now words)) 512 checks ≤ 65536) × (1 ≤ rounds) ⌝ }
     requires { ⌜ Inner (lent 8 (now words)) bits checks ⌝ }
     requires { ⌜ Sounds bits (messageAt (now word) (now floats)) ⌝ }
-    ensures { λ r. ⌜ Results bits (resultAfter (lent 8 (now (words .entry))) 512 checks (messageAt (now (word .entry)) (now (floats .entry))) rounds) (now (word .exit)) (now (floats .exit)) (now (tags .exit)) (now (values .exit)) ⌝ }
+    ensures { λ r. ⌜ Holding bits (resultAfter (lent 8 (now (words .entry))) 512 checks (messageAt (now (word .entry)) (now (floats .entry))) rounds) (now (word .exit)) (now (floats .exit)) ⌝ }
 {
     let mut cols = no_columns();
     fill(words, &mut cols, 8, checks);
@@ -88,12 +88,10 @@ fn by_columns(
         word,
         floats,
     );
-    clear_bytes(tags);
-    clear_floats(values);
 }
 
-// Runs the rounds, likewise. `by_columns` is called at two places, so that the compiler leaves it a function of its own: its columns are then on the stack
-// while they are used, and not while the matrix is accepted.
+// Runs the rounds, and leaves the messages zero. `by_columns` is called at two places, so that the compiler leaves it a function of its own: its columns are
+// then on the stack while they are used, and not while the matrix is accepted.
 fn results(
     words: &[u64],
     bits: usize,
@@ -112,9 +110,13 @@ fn results(
 {
     if rounds < 2 {
         by_columns(words, bits, checks, rounds, word, floats, tags, values);
+        clear_bytes(tags);
+        clear_floats(values);
         return;
     }
     by_columns(words, bits, checks, rounds, word, floats, tags, values);
+    clear_bytes(tags);
+    clear_floats(values);
 }
 
 // Decodes a word of sure, soft and erased bits by min-sum rounds: each bit's result replaces its channel value.

@@ -61,12 +61,6 @@ run-requires c κs =
       (s .pre .1 .0, (sized, (s .pre .1 .1 .0, (s .pre .1 .1 .1, (long, across-is h _ (s .args .bits) (s .args .checks) (s .pre .1 .1 .0) (C .ensures)))))),
     )
 
-clear-bytes-requires : tie.Need-clear-bytes-requires
-clear-bytes-requires c κs = search needs
-
-clear-floats-requires : tie.Need-clear-floats-requires
-clear-floats-requires c κs = search needs
-
 same-length : tie.Need-same-length
 same-length c = search needs
 
@@ -80,14 +74,7 @@ same-length-4 : tie.Need-same-length-4
 same-length-4 c = search needs
 
 returns : tie.Need-returns
-returns c =
-    let s = c .before .before .before .before .before .before .before .before .before .before .before .before .before .before .before .before .before .before .before .before .before .before .before .before .before .before .before .before .before .before .before .before .before .before .before .before .before .before .before .before in
-    let R = c .before .before .before .before .before .before .before .before .before .before .before .before .before .before .before .before .before .before .before .run in
-    record {
-      held = R .ensures;
-      tags-zero = c .before .before .before .before .before .before .clear-bytes .ensures ∙ ap (λ n. replicate n 0) (R .kept .1 .1 .1 .1 .1 .1 .1 .1 .0 ∙ s .pre .0 .3);
-      values-zero = c .before .before .clear-floats .ensures ∙ ap (λ n. replicate n positiveZero) (R .kept .1 .1 .1 .1 .1 .1 .1 .1 .1 .0 ∙ s .pre .0 .4);
-    }
+returns c = c .before .before .before .before .before .before .before .before .before .before .before .run .ensures
 
 pub by-columns-spec : {M : Type 1} → statement M
 by-columns-spec =
@@ -104,8 +91,6 @@ by-columns-spec =
     slice-aggregate-run-3
     slice-aggregate-run-4
     run-requires
-    clear-bytes-requires
-    clear-floats-requires
     same-length
     same-length-2
     same-length-3

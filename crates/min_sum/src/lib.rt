@@ -90,8 +90,8 @@ fn by_columns(
     );
 }
 
-// Runs the rounds, and leaves the messages zero. `by_columns` is called at two places, so that the compiler leaves it a function of its own: its columns are
-// then on the stack while they are used, and not while the matrix is accepted.
+// Runs the rounds, and leaves the messages zero. `by_columns` is called at two places that the compiler cannot join, so that it leaves it a function of
+// its own: its columns are then on the stack while they are used, and not while the matrix is accepted.
 fn results(
     words: &[u64],
     bits: usize,
@@ -109,7 +109,7 @@ fn results(
     ensures { λ r. ⌜ Results bits (resultAfter (lent 8 (now (words .entry))) 512 checks (messageAt (now (word .entry)) (now (floats .entry))) rounds) (now (word .exit)) (now (floats .exit)) (now (tags .exit)) (now (values .exit)) ⌝ }
 {
     if rounds < 2 {
-        by_columns(words, bits, checks, rounds, word, floats, tags, values);
+        by_columns(words, bits, checks, 1, word, floats, tags, values);
         clear_bytes(tags);
         clear_floats(values);
         return;

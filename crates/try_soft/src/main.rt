@@ -2,6 +2,7 @@
 // ? for erased, x for a byte above 3, and of a soft bit the eight hexadecimal digits of its float.
 use min_sum::Decoding;
 use parity::Refusal;
+use soft::floats::infinity;
 ghost use mathlib.Core.Path.{_≡_};
 ghost use lib.ListN.{length};
 
@@ -132,8 +133,8 @@ fn a_refused(words: &[u64]) {
     let mut f = [1.0f32, 0.0, 0.0, 0.0, -1.0, 0.5, 0.0];
     line(b"A", words, 7, 3, 0, 0, &mut w, &mut f);
     line(b"A", words, 7, 3, 0, 513, &mut w, &mut f);
-    f[1] = f32::from_bits(0x7fc0_0000);
-    f[2] = f32::from_bits(0xff80_0000);
+    f[1] = infinity() - infinity();
+    f[2] = -infinity();
     line(
         b"A, floats that are not read",
         words,
@@ -145,8 +146,8 @@ fn a_refused(words: &[u64]) {
         &mut f,
     );
     let mut v = [3, 0, 2, 1, 3, 3, 0];
-    f[4] = f32::from_bits(0xc980_0001);
-    f[5] = f32::from_bits(0x7f80_0000);
+    f[4] = -1048576.125;
+    f[5] = infinity();
     line(b"A, two wrong floats", words, 7, 3, 0, 1, &mut v, &mut f);
     v[5] = 4;
     line(b"A, a wrong byte", words, 7, 3, 0, 512, &mut v, &mut f);

@@ -108,10 +108,10 @@ fn results(
     requires { ⌜ Sounds bits (messageAt (now word) (now floats)) ⌝ }
     ensures { λ r. ⌜ Results bits (resultAfter (lent 8 (now (words .entry))) 512 checks (messageAt (now (word .entry)) (now (floats .entry))) rounds) (now (word .exit)) (now (floats .exit)) (now (tags .exit)) (now (values .exit)) ⌝ }
 {
-    if rounds < 2 {
-        by_columns(words, bits, checks, 1, word, floats, tags, values);
-        clear_bytes(tags);
+    if bits == checks {
+        by_columns(words, checks, checks, rounds, word, floats, tags, values);
         clear_floats(values);
+        clear_bytes(tags);
         return;
     }
     by_columns(words, bits, checks, rounds, word, floats, tags, values);

@@ -1,6 +1,5 @@
 -- `results` meets its contract. Assumes nothing.
 use mathlib.Core.Path.{_≡_, ap, _∙_}
-use native.Mathlib.Omega.{arith}
 use lib.ListN.{replicate}
 use Rattle.parity.specs.Floats.{positiveZero}
 use borrow.Author.Needs.{needs}
@@ -9,8 +8,9 @@ use Rattle.min_sum.proofs.results.Tie as tie
 
 by-columns-requires : tie.Need-by-columns-requires
 by-columns-requires c κs =
-    let P = c .before .before .before .before .before .before .before .before .before .before .pre in
-    (P .0, ((P .1 .0 .0, P .1 .0 .1, P .1 .0 .2, omega arith), (P .1 .1 .0, P .1 .1 .1)))
+    let s = c .before .before .before .before .before .before .before .before .before .before in
+    let e : s .args .bits ≡ s .args .checks = c .before .before .before .before .if1 .taken in
+    rw e at (s .pre)
 
 clear-bytes-requires : tie.Need-clear-bytes-requires
 clear-bytes-requires c κs = search needs
@@ -34,11 +34,11 @@ returns : tie.Need-returns
 returns c =
     let s = c .before .before .before .before .before .before .before .before .before .before .before .before .before .before .before .before .before .before .before .before .before .before .before .before .before .before .before in
     let B = c .before .before .before .before .before .before .before .before .before .before .before .before .before .before .before .before .by-columns in
-    let e : s .args .rounds ≡ 1 = omega (arith, s .pre .1 .0 .3, c .before .before .before .before .before .before .before .before .before .before .before .before .before .before .before .before .before .before .before .before .before .if1 .taken) in
+    let e : s .args .bits ≡ s .args .checks = c .before .before .before .before .before .before .before .before .before .before .before .before .before .before .before .before .before .before .before .before .before .if1 .taken in
     record {
       held = rw e (B .ensures);
-      tags-zero = c .before .before .before .before .before .before .clear-bytes .ensures ∙ ap (λ n. replicate n 0) (B .kept .1 .1 .1 .1 .1 .1 .0 ∙ s .pre .0 .3);
-      values-zero = c .before .before .clear-floats .ensures ∙ ap (λ n. replicate n positiveZero) (B .kept .1 .1 .1 .1 .1 .1 .1 .0 ∙ s .pre .0 .4);
+      tags-zero = c .before .before .clear-bytes .ensures ∙ ap (λ n. replicate n 0) (B .kept .1 .1 .1 .1 .1 .1 .0 ∙ s .pre .0 .3);
+      values-zero = c .before .before .before .before .before .before .clear-floats .ensures ∙ ap (λ n. replicate n positiveZero) (B .kept .1 .1 .1 .1 .1 .1 .1 .0 ∙ s .pre .0 .4);
     }
 
 by-columns-requires-2 : tie.Need-by-columns-requires-2
@@ -77,8 +77,8 @@ results-spec =
     tie.close
     (tie.spec
     by-columns-requires
-    clear-bytes-requires
     clear-floats-requires
+    clear-bytes-requires
     same-length
     same-length-2
     same-length-3

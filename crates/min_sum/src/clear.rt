@@ -16,7 +16,7 @@ pub fn clear_floats(floats: &mut [f32])
     ensures { λ r. ⌜ now (floats .exit) ≡ replicate (length (now (floats .entry))) positiveZero ⌝ }
 {
     let n = floats.len();
-    for i in 0..n {
-        floats[i] = 0.0;
+    for place in 0..n {
+        floats[place] = 0.0;
     }
 }

@@ -1,9 +1,12 @@
--- What the constants are. Assumes nothing.
+-- What the constants are, and that only the whole sum is cut. Assumes nothing.
 use mathlib.Core.Path.{_≡_, refl}
-use mathlib.Core.Bool.{false, true}
+use mathlib.Core.Bool.{false, true, cond}
 use lib.IntN.{pos}
-use lib.Ieee.{inf, fin, neg, ofBits}
+use lib.Ieee.{inf, fin, span, climb, size, odd, units, round, neg, sum, add, lt, eq, ofFields, ofBits}
+use lib.Dec.{eqb}
 use Rattle.parity.specs.Floats.{positiveZero, limit, negativeLimit, infinite}
+use Rattle.parity.specs.Soft.{gathered, bitSends}
+use Rattle.parity.specs.declared.Channel.the-variants.{Soft}
 
 pub zero-is : positiveZero ≡ fin false 0 (pos 0)
 unfolding ofBits
@@ -20,3 +23,8 @@ lower-is = refl
 pub infinite-is : infinite ≡ inf false
 unfolding ofBits
 infinite-is = refl
+
+-- Only the whole sum is cut: 1,048,576 and 1,048,576 and minus 1,048,576 are 1,048,576.
+only-whole-sum : bitSends (Soft limit) 2 (λ i. true) (λ i. cond (eqb i 0) (Soft limit) (Soft negativeLimit)) ≡ Soft limit
+unfolding bitSends gathered ofBits ofFields neg add sum round units odd size span climb lt eq
+only-whole-sum = refl

@@ -64,6 +64,8 @@ extern "C" {
  * needs for its messages. */
 #define PARITY_ROUNDS_MOST 512
 #define PARITY_MESSAGES 65536
+/* The most other bits of a check in parity_min_sum_range. */
+#define PARITY_OTHERS_MOST 511
 
 /* The most values that a call carries. */
 #define PARITY_VALUES_MOST 5
@@ -120,6 +122,8 @@ extern "C" {
 /* A soft float that is not finite or above 1,048,576 in magnitude; values: its
  * lowest place from 0. */
 #define PARITY_FLOAT 23
+/* A low above its high; values: its lowest place from 0. */
+#define PARITY_LOW_ABOVE_HIGH 24
 
 /* The names of the house codes: the circulant of 23 bits, and the Hamming checks
  * for lengths 3, 7, 15 and 31. */
@@ -454,6 +458,26 @@ uint32_t parity_min_sum(const uint64_t *words, size_t words_len,
                         uint8_t *message_bytes, size_t message_bytes_len,
                         float *message_floats, size_t message_floats_len,
                         uint64_t *values, size_t values_len);
+
+/* The range of one check's min-sum answer, where each of its other bits has a soft
+ * value known within a range: what the check sends (see parity_min_sum) lies
+ * between the two ends for every choice of floats inside the ranges, and each end
+ * is sent for some choice. A zero of either sign is the same value, and an end that
+ * is zero is plus zero. With no other bits the check sends sure 0.
+ *
+ * lows, highs: read. One float of each for every other bit, 0 to
+ *   PARITY_OTHERS_MOST.
+ * ends: a range puts its low and its high into the first two elements, as far as
+ *   the slice reaches; all others are left as they were, and all of them with
+ *   sure 0 and a refusal.
+ * Values of the answer (1): 0 for sure 0, 3 for a range.
+ * Refusals: 10 if the lengths of `lows` and `highs` differ or pass
+ *   PARITY_OTHERS_MOST; 23 with the place in `lows`, else that in `highs`; 24.
+ */
+uint32_t parity_min_sum_range(const float *lows, size_t lows_len,
+                              const float *highs, size_t highs_len,
+                              float *ends, size_t ends_len,
+                              uint64_t *values, size_t values_len);
 
 #ifdef __cplusplus
 }

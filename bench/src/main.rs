@@ -3,6 +3,7 @@
 
 mod plain;
 mod program;
+mod ranges;
 
 use parity::{ffi, VALUES_MOST};
 use std::hint::black_box;
@@ -642,6 +643,10 @@ fn main() -> ExitCode {
     if result.is_ok() {
         println!("Joined:\n");
         result = joined(r, &given[1]);
+    }
+    if result.is_ok() {
+        println!("Ranges:\n");
+        result = ranges::run(r);
     }
     match result {
         Ok(()) => ExitCode::SUCCESS,

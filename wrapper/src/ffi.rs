@@ -138,4 +138,11 @@ extern "C" {
         message_floats: *mut f32, message_floats_len: usize,
         values: *mut u64, values_len: usize,
     ) -> u32;
+
+    pub fn parity_min_sum_range(
+        lows: *const f32, lows_len: usize,
+        highs: *const f32, highs_len: usize,
+        ends: *mut f32, ends_len: usize,
+        values: *mut u64, values_len: usize,
+    ) -> u32;
 }

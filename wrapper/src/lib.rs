@@ -28,6 +28,8 @@ pub const STACK_MOST: usize = 65_536;
 /// The most rounds of [`min_sum`], and the number of bytes and of floats that it needs for its messages.
 pub const ROUNDS_MOST: usize = 512;
 pub const MESSAGES: usize = 65_536;
+/// The most other bits of a check in [`min_sum_range`].
+pub const OTHERS_MOST: usize = 511;
 
 /// The names of the house codes: the circulant of 23 bits, and the Hamming checks for lengths 3, 7, 15 and 31.
 pub const HOUSE_CIRCULANT: usize = 0;
@@ -85,6 +87,8 @@ pub enum Refusal {
     Rounds,
     /// 23: a soft float that is not finite or above 1,048,576 in magnitude.
     Float { place: usize },
+    /// 24: a low above its high.
+    LowAboveHigh { place: usize },
 }
 
 impl Refusal {
@@ -113,6 +117,7 @@ impl Refusal {
             Refusal::TooManyChecks => 21,
             Refusal::Rounds => 22,
             Refusal::Float { .. } => 23,
+            Refusal::LowAboveHigh { .. } => 24,
         }
     }
 }
@@ -150,6 +155,7 @@ impl std::fmt::Display for Refusal {
             Refusal::TooManyChecks => write!(f, "joined, two matrices have more than 120 checks"),
             Refusal::Rounds => write!(f, "the number of rounds is outside 1 to 512"),
             Refusal::Float { place } => write!(f, "a soft float that is not finite or too large at place {place}"),
+            Refusal::LowAboveHigh { place } => write!(f, "a low above its high at place {place}"),
         }
     }
 }
@@ -267,6 +273,15 @@ impl Bit {
     }
 }
 
+/// What a check sends, where its other bits have soft values known within a range.
+#[derive(Clone, Copy, PartialEq, Debug)]
+pub enum Ranged {
+    /// There are no other bits: sure 0.
+    SureZero,
+    /// A soft value from `low` to `high`: each is sent for some choice, and for no choice a value outside.
+    Within { low: f32, high: f32 },
+}
+
 /// Room for the values of every call.
 type Values = [u64; VALUES_MOST];
 
@@ -301,6 +316,7 @@ fn reply(number: u32, values: Values) -> Result<Values, Refusal> {
         21 => Refusal::TooManyChecks,
         22 => Refusal::Rounds,
         23 => Refusal::Float { place: values[0] as usize },
+        24 => Refusal::LowAboveHigh { place: values[0] as usize },
         other => panic!("the library returned {other}, which is no refusal"),
     })
 }
@@ -683,4 +699,26 @@ pub fn min_sum_bits(
         *bit = Bit::of(word[b], floats[b]).expect("a result is sure, soft or erased");
     }
     Ok(())
+}
+
+/// The range of one check's min-sum answer over all choices inside the ranges of its other bits, from their lows and highs.
+pub fn min_sum_range(lows: &[f32], highs: &[f32]) -> Result<Ranged, Refusal> {
+    let mut ends = [0.0; 2];
+    let mut values: Values = [0; VALUES_MOST];
+    let number = unsafe {
+        ffi::parity_min_sum_range(
+            lows.as_ptr(),
+            lows.len(),
+            highs.as_ptr(),
+            highs.len(),
+            ends.as_mut_ptr(),
+            ends.len(),
+            values.as_mut_ptr(),
+            values.len(),
+        )
+    };
+    reply(number, values).map(|v| match v[0] {
+        0 => Ranged::SureZero,
+        _ => Ranged::Within { low: ends[0], high: ends[1] },
+    })
 }

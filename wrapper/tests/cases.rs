@@ -1,8 +1,9 @@
-//! Cases A to K of document 01, cases of taking back, determining, the house codes, small stopping sets, joining and soft bits (document 02),
-//! through the wrapper.
+//! Cases A to K of document 01, cases of taking back, determining, the house codes, small stopping sets, joining, soft bits and ranges
+//! (document 02), through the wrapper.
 
 use parity::{
-    Bit, Determined, Held, HouseCode, Loaded, Mended, Orthogonalised, Peeled, Refusal, Shared, Split, TakenBack, WORDS,
+    Bit, Determined, Held, HouseCode, Loaded, Mended, Orthogonalised, Peeled, Ranged, Refusal, Shared, Split, TakenBack,
+    WORDS,
 };
 
 /// Checks 0 and 1 held the pair.
@@ -565,4 +566,28 @@ fn soft_bits_refused() {
     assert_eq!(refused, Err(Refusal::Byte { place: 6 }));
     assert_eq!(word, [3, 0, 2, 1, 3, 3, 4]);
     assert!(bytes.iter().all(|byte| *byte == 77) && floats.iter().all(|float| float.is_nan()));
+}
+
+#[test]
+fn ranges() {
+    assert_eq!(parity::min_sum_range(&[], &[]), Ok(Ranged::SureZero));
+    let within = |low, high| Ok(Ranged::Within { low, high });
+    assert_eq!(parity::min_sum_range(&[-1.5], &[2.25]), within(-1.5, 2.25));
+    assert_eq!(parity::min_sum_range(&[1.0, -2.0], &[3.0, -0.5]), within(-2.0, -0.5));
+    assert_eq!(parity::min_sum_range(&[-1.0, 0.5], &[4.0, 2.0]), within(-1.0, 2.0));
+    // A zero of either sign is the same value, and an end that is zero is plus zero.
+    for zero in [0.0, -0.0] {
+        match parity::min_sum_range(&[zero, -5.0], &[2.0, -3.0]) {
+            Ok(Ranged::Within { low, high }) => assert_eq!((low, high.to_bits()), (-2.0, 0)),
+            other => panic!("{other:?}"),
+        }
+    }
+    let (low, high) = ([-0.5; 512], [3.0; 512]);
+    assert_eq!(parity::min_sum_range(&low[1..], &high[1..]), within(-0.5, 3.0));
+    assert_eq!(parity::min_sum_range(&low, &high), Err(Refusal::Length));
+    assert_eq!(parity::min_sum_range(&low[..3], &high[..2]), Err(Refusal::Length));
+    let above = f32::from_bits(1_048_576f32.to_bits() + 1);
+    assert_eq!(parity::min_sum_range(&[1.0, 2.0, above], &[f32::INFINITY, 1.0, 3.0]), Err(Refusal::Float { place: 2 }));
+    assert_eq!(parity::min_sum_range(&[1.0, 2.0], &[0.5, f32::NAN]), Err(Refusal::Float { place: 1 }));
+    assert_eq!(parity::min_sum_range(&[1.0, 2.0, 3.0], &[1.0, 1.5, 2.0]), Err(Refusal::LowAboveHigh { place: 1 }));
 }

@@ -106,10 +106,10 @@ fn read(path: &str) -> String {
 #[test]
 fn header_wrapper_and_crate_agree() {
     let header = of_header(&read("../include/parity.h"));
-    assert_eq!(header.len(), 19);
+    assert_eq!(header.len(), 20);
     assert_eq!(header, of_wrapper(&read("src/ffi.rs")));
     let text = read("../crates/capi/src/lib.rt");
-    assert_eq!(text.matches("extern \"C\"").count(), 19);
+    assert_eq!(text.matches("extern \"C\"").count(), 20);
     assert_eq!(header, of_crate(&text));
 }
 
@@ -144,6 +144,7 @@ fn header_has_the_numbers_of_the_wrapper() {
         ("TOO_MANY_CHECKS", Refusal::TooManyChecks),
         ("ROUNDS", Refusal::Rounds),
         ("FLOAT", Refusal::Float { place: 0 }),
+        ("LOW_ABOVE_HIGH", Refusal::LowAboveHigh { place: 0 }),
     ];
     let mut due = vec![
         ("WORDS", parity::WORDS),
@@ -154,6 +155,7 @@ fn header_has_the_numbers_of_the_wrapper() {
         ("SET_SIZE_MOST", parity::SET_SIZE_MOST),
         ("ROUNDS_MOST", parity::ROUNDS_MOST),
         ("MESSAGES", parity::MESSAGES),
+        ("OTHERS_MOST", parity::OTHERS_MOST),
         ("VALUES_MOST", parity::VALUES_MOST),
         ("STACK_MOST", parity::STACK_MOST),
         ("ANSWER", 0),

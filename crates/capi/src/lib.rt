@@ -5,7 +5,8 @@ ghost use mathlib.Core.Path.{_≡_};
 ghost use Rattle.parity.specs.Calls.{loadOutcome, writeOutcome, shareReply, countReply, splitOutcome, takeBackOutcome, orthogonaliseOutcome, verifyReply, extendOutcome, isStoppingReply, peelOutcome, rankReply, encodeOutcome, houseOutcome, determineOutcome, stoppingSetsOutcome, joinOutcome};
 ghost use Rattle.parity.specs.Block.{blockOutcome};
 ghost use Rattle.parity.specs.SoftCall.{minSumOutcome};
-ghost use Rattle.reply.specs.Passed.{Passed};
+ghost use Rattle.parity.specs.SoftRange.{minSumRangeOutcome};
+ghost use Rattle.reply.specs.Passed.{Passed, endsFilled};
 
 // Carries n, m and k.
 #[no_mangle]
@@ -350,5 +351,21 @@ pub extern "C" fn parity_min_sum(
         message_floats,
     );
     let numbered = reply::decoding(decoding);
+    reply::pass(numbered, values)
+}
+
+// Carries 0 for sure 0, or 3 for a range, whose low and high are put at the front of `ends`.
+#[no_mangle]
+pub extern "C" fn parity_min_sum_range(
+    lows: &[f32],
+    highs: &[f32],
+    ends: &mut [f32],
+    values: &mut [u64],
+) -> u32
+    ensures { λ r. ⌜ Passed (minSumRangeOutcome (now (lows .entry)) (now (highs .entry)) .reply) (now (values .entry)) (now (values .exit)) r ⌝ }
+    ensures { λ r. ⌜ now (ends .exit) ≡ endsFilled (minSumRangeOutcome (now (lows .entry)) (now (highs .entry)) .ends) (now (ends .entry)) ⌝ }
+{
+    let ranging = min_sum_range::range(lows, highs);
+    let numbered = reply::ranging(ranging, ends);
     reply::pass(numbered, values)
 }

@@ -1,4 +1,3 @@
-pub mod Floats
 pub mod Course
 pub mod Fitting
 pub mod Cleared

@@ -1,6 +1,6 @@
 // Causes 22, 10, 11 and 23.
 use parity::Refusal;
-use soft::floats::magnitude_of;
+use soft::floats::too_large;
 use word::Admission;
 use word::bytes::first_above;
 ghost use mathlib.Core.Path.{_≡_};
@@ -11,13 +11,6 @@ ghost use Rattle.parity.specs.Finite.{least};
 ghost use Rattle.parity.specs.Floats.{tooLarge};
 ghost use Rattle.parity.specs.SoftCall.{wrongFloat, softReply};
 ghost use Rattle.word.specs.Answers.{admissionReply};
-
-// Whether a soft float is not finite or above 1,048,576 in magnitude.
-fn too_large(x: f32) -> bool
-    ensures { λ r. ⌜ r ≡ tooLarge x ⌝ }
-{
-    !(magnitude_of(x) <= 1048576.0)
-}
 
 // Whether a byte says soft and its float is too large.
 fn wrong(tag: u8, x: f32) -> bool

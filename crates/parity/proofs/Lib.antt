@@ -8,4 +8,5 @@ pub mod Encoding
 pub mod House
 pub mod Joining
 pub mod Soft
+pub mod SoftRange
 pub mod Causes

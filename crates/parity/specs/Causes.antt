@@ -7,7 +7,7 @@ use Rattle.parity.specs.Matrix.{cause}
 use Rattle.parity.specs.declared.Holders.{Holders}
 use Rattle.parity.specs.declared.Holders.the-variants.{None, Both}
 use Rattle.parity.specs.declared.Refusal.{Refusal}
-use Rattle.parity.specs.declared.Refusal.the-variants.{MatrixLength, OutOfRange, OneOutside, RuleABroken, FaultyWord, RecordTooShort, NotAPair, ShareBelowTwo, NoRoomToSplit, NoRoomLeft, WrongLength, WrongByte, Contradiction, AddedBits, ProgramInput, NothingToTakeBack, CannotTakeBack, UnknownName, WrongSize, SetsTooShort, DifferentLengths, TooManyChecks, WrongRounds, WrongFloat}
+use Rattle.parity.specs.declared.Refusal.the-variants.{MatrixLength, OutOfRange, OneOutside, RuleABroken, FaultyWord, RecordTooShort, NotAPair, ShareBelowTwo, NoRoomToSplit, NoRoomLeft, WrongLength, WrongByte, Contradiction, AddedBits, ProgramInput, NothingToTakeBack, CannotTakeBack, UnknownName, WrongSize, SetsTooShort, DifferentLengths, TooManyChecks, WrongRounds, WrongFloat, LowAboveHigh}
 
 -- What a call returns: 0 for an answer, or the cause's number; and the values that it carries, in document 01's order. Yes is 1, no is 0.
 pub record Reply : Type 0 where
@@ -51,6 +51,7 @@ refusalOf DifferentLengths = refusal 20 []
 refusalOf TooManyChecks = refusal 21 []
 refusalOf WrongRounds = refusal 22 []
 refusalOf (WrongFloat place) = refusal 23 (place ∷ [])
+refusalOf (LowAboveHigh place) = refusal 24 (place ∷ [])
 
 -- The refusal where its cause holds, and else what comes after it in the order of the checks.
 abbrev pub refuse : Bool → Reply → Reply → Reply

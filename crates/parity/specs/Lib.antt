@@ -17,5 +17,6 @@ pub mod Calls
 pub mod Solving
 pub mod Block
 pub mod SoftCall
+pub mod SoftRange
 pub mod Promises
 pub mod Mend

@@ -1,5 +1,5 @@
-// The types that the calls share: the numbers of bits and of checks, the checks that hold a pair, the forms of a record, channel values, and
-// the refusals.
+// The types that the calls share: the numbers of bits and of checks, the checks that hold a pair, the forms of a record, channel values, ranges,
+// and the refusals.
 ghost use mathlib.Core.Path.{_≡_};
 ghost use Rattle.parity.specs.Causes.{refusalOf};
 
@@ -27,6 +27,12 @@ pub enum Channel {
     Sure(bool),
     Soft(f32),
     Erased,
+}
+
+// A low and a high between which a soft value lies (M-113).
+pub struct Ends {
+    pub low: f32,
+    pub high: f32,
 }
 
 // Why a call is refused: document 01's causes, in its order, and those that document 02 adds, each with the values that it returns.
@@ -96,6 +102,10 @@ pub enum Refusal {
     WrongFloat {
         place: usize,
     },
+    // 24: a low above its high, at the lowest place.
+    LowAboveHigh {
+        place: usize,
+    },
 }
 
 // The number of a refusal in the papers' table.
@@ -132,5 +142,6 @@ pub fn number(r: Refusal) -> u64
         Refusal::TooManyChecks => 21,
         Refusal::WrongRounds => 22,
         Refusal::WrongFloat { place: _ } => 23,
+        Refusal::LowAboveHigh { place: _ } => 24,
     }
 }

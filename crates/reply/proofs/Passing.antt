@@ -4,7 +4,8 @@ use mathlib.Core.List.{List, [], _∷_, _++_}
 use Prim.Native.Nat.{ℕ}
 use lib.ListN.{length, set}
 use Rattle.parity.specs.Causes.{Reply, refusal}
-use Rattle.reply.specs.Passed.{filled, Passed}
+use lib.Ieee.{Float}
+use Rattle.reply.specs.Passed.{filled, endsFilled, Passed}
 
 pub fill-none : (old : List ℕ) → old ≡ filled [] old
 unfolding filled
@@ -34,3 +35,15 @@ same e h = rw (sym e) h
 -- values at the front are passed
 pub front : {vs old new : List ℕ} (number : ℕ) → new ≡ filled vs old → Passed (refusal number vs) old new number
 front number e = record { number = refl; values = e }
+
+-- no ends, and two
+pub ends-none : (old : List Float) → old ≡ endsFilled [] old
+unfolding endsFilled
+ends-none [] = refl
+ends-none (x ∷ xs) = refl
+
+pub ends-two : (a b : Float) (old : List Float) → set (set old 0 a) 1 b ≡ endsFilled (a ∷ b ∷ []) old
+unfolding endsFilled
+ends-two a b [] = refl
+ends-two a b (x ∷ []) = refl
+ends-two a b (x ∷ y ∷ xs) = ap (λ (t : List Float). a ∷ b ∷ t) (ends-none xs)

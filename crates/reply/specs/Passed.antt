@@ -4,6 +4,7 @@ use mathlib.Core.Path.{_≡_}
 use mathlib.Core.List.{List, [], _∷_, _++_}
 use Prim.Native.Nat.{ℕ}
 use lib.ListN.{length, take, drop}
+use lib.Ieee.{Float}
 use Rattle.parity.specs.Causes.{Reply, refusal}
 use Rattle.reply.specs.declared.Numbered.{Numbered}
 use Rattle.reply.specs.declared.Numbered.the-variants.{Alone, One, Two, Three, Four, Five}
@@ -19,6 +20,10 @@ numberedReply (Five number a b c d e) = refusal number (a ∷ b ∷ c ∷ d ∷ 
 -- the values fill the first elements as far as the list reaches; its other elements are left
 unfoldable pub filled : List ℕ → List ℕ → List ℕ
 filled vs old = take (length old) vs ++ drop (length vs) old
+
+-- likewise the ends of a range, in a lent list of floats
+unfoldable pub endsFilled : List Float → List Float → List Float
+endsFilled es old = take (length old) es ++ drop (length es) old
 
 pub record Passed (reply : Reply) (old new : List ℕ) (returned : ℕ) : Type 0 where
   pub number : returned ≡ reply .number

@@ -8,6 +8,7 @@ use encode::Ranking;
 use house::Copying;
 use join::Joining;
 use min_sum::Decoding;
+use min_sum_range::Ranging;
 use parity::Holders;
 use parity::Refusal;
 use peel::Peeling;
@@ -38,7 +39,8 @@ ghost use Rattle.stopping_sets.specs.Answers.{listingReply};
 ghost use Rattle.block.specs.Answers.{mendingReply};
 ghost use Rattle.join.specs.Answers.{joiningReply};
 ghost use Rattle.min_sum.specs.Answers.{decodingReply};
-ghost use Rattle.reply.specs.Passed.{numberedReply, Passed, filled};
+ghost use Rattle.min_sum_range.specs.Answers.{rangingOutcome};
+ghost use Rattle.reply.specs.Passed.{numberedReply, Passed, filled, endsFilled};
 
 // A number and the values that it carries.
 pub enum Numbered {
@@ -122,6 +124,7 @@ fn refused(why: Refusal) -> Numbered
         Refusal::TooManyChecks => Numbered::Alone(21),
         Refusal::WrongRounds => Numbered::Alone(22),
         Refusal::WrongFloat { place } => Numbered::One(23, place as u64),
+        Refusal::LowAboveHigh { place } => Numbered::One(24, place as u64),
     }
 }
 
@@ -329,6 +332,31 @@ pub fn decoding(answer: Decoding) -> Numbered
     match answer {
         Decoding::Made => Numbered::Alone(0),
         Decoding::Refused(why) => refused(why),
+    }
+}
+
+// Puts one end at a place, if there is such a place.
+fn put_end(ends: &mut [f32], place: usize, end: f32)
+    ensures { λ _. ⌜ now (ends .exit) ≡ set (now (ends .entry)) place end ⌝ }
+{
+    if place < ends.len() {
+        ends[place] = end;
+    }
+}
+
+// What the call on ranges answers; a range's ends are put at the front of the lent slice, as far as that reaches.
+pub fn ranging(answer: Ranging, ends: &mut [f32]) -> Numbered
+    ensures { λ r. ⌜ numberedReply r ≡ rangingOutcome answer .reply ⌝ }
+    ensures { λ r. ⌜ now (ends .exit) ≡ endsFilled (rangingOutcome answer .ends) (now (ends .entry)) ⌝ }
+{
+    match answer {
+        Ranging::SureZero => Numbered::One(0, 0),
+        Ranging::Within(range) => {
+            put_end(ends, 0, range.low);
+            put_end(ends, 1, range.high);
+            Numbered::One(0, 3)
+        }
+        Ranging::Refused(why) => refused(why),
     }
 }
 

@@ -48,7 +48,7 @@ fn does_turn(v: Channel) -> bool
 }
 
 // The other Boolean where `flip` says so.
-fn flipped(flip: bool, x: bool) -> bool
+pub fn flipped(flip: bool, x: bool) -> bool
     ensures { λ r. ⌜ r ≡ cond flip (not x) x ⌝ }
 {
     if flip {

@@ -1,6 +1,6 @@
 // Comparison and negation of 32-bit floats.
 ghost use mathlib.Core.Path.{_≡_};
-ghost use Rattle.parity.specs.Floats.{plusZero, magnitude, turned, cut, infinite};
+ghost use Rattle.parity.specs.Floats.{plusZero, magnitude, turned, cut, infinite, tooLarge};
 
 // Zero becomes plus zero.
 pub fn plus_zero(x: f32) -> f32
@@ -49,4 +49,11 @@ pub fn infinity() -> f32
     ensures { λ r. ⌜ r ≡ infinite ⌝ }
 {
     f32::from_bits(0x7f80_0000)
+}
+
+// Whether a soft float is not finite or above 1,048,576 in magnitude.
+pub fn too_large(x: f32) -> bool
+    ensures { λ r. ⌜ r ≡ tooLarge x ⌝ }
+{
+    !(magnitude_of(x) <= 1048576.0)
 }

@@ -138,3 +138,36 @@ pub fn call(lent: &mut Lent, values: &mut [u64]) -> Result<u32, String> {
     }
     held.map(|_| number)
 }
+
+/// The number of the call on ranges, and how many bytes of stack it used. Floats are their bits.
+pub fn range(
+    lows: &mut [u32],
+    highs: &mut [u32],
+    ends: &mut [u32],
+    values: &mut [u64],
+) -> Result<(u32, usize), String> {
+    let guard = 0xC3A5_5A3C_0F1E_2D4Bu64;
+    let mut low = Guarded::new(lows, guard as u32);
+    let mut high = Guarded::new(highs, guard as u32);
+    let mut end = Guarded::new(ends, guard as u32);
+    let mut carried = Guarded::new(values, guard);
+    let (low_ptr, low_len) = (low.content_mut() as *const f32, low.len());
+    let (high_ptr, high_len) = (high.content_mut() as *const f32, high.len());
+    let (end_ptr, end_len) = (end.content_mut() as *mut f32, end.len());
+    let (values_ptr, values_len) = (carried.content_mut(), carried.len());
+    let mut number = 0;
+    // Every pointer and length is that of a live vector's part, and no two overlap.
+    let used = stack::bounded(|| {
+        number = unsafe {
+            ffi::parity_min_sum_range(low_ptr, low_len, high_ptr, high_len, end_ptr, end_len, values_ptr, values_len)
+        }
+    });
+    lows.copy_from_slice(low.content());
+    highs.copy_from_slice(high.content());
+    ends.copy_from_slice(end.content());
+    values.copy_from_slice(carried.content());
+    if !(low.intact() && high.intact() && end.intact() && carried.intact()) {
+        return Err("the library wrote outside a lent slice".to_string());
+    }
+    used.map(|bytes| (number, bytes))
+}

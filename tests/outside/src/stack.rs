@@ -65,13 +65,19 @@ pub fn figure() -> usize {
 
 static MOST: [AtomicUsize; KINDS.len()] = [const { AtomicUsize::new(0) }; KINDS.len()];
 
-/// Runs a call of the library, and fails if it used more stack than the header says.
-pub fn held<F: FnMut()>(kind: Kind, call: F) -> Result<(), String> {
+/// Runs a call of the library, and fails if it used more stack than the header says. Answers how many bytes it used.
+pub fn bounded<F: FnMut()>(call: F) -> Result<usize, String> {
     let bytes = used(call);
-    MOST[kind as usize].fetch_max(bytes, Ordering::Relaxed);
     if bytes > figure() {
         return Err(format!("the call used {bytes} bytes of stack, and the header says {} at most", figure()));
     }
+    Ok(bytes)
+}
+
+/// The same for a call of a kind, whose most bytes are kept.
+pub fn held<F: FnMut()>(kind: Kind, call: F) -> Result<(), String> {
+    let bytes = bounded(call)?;
+    MOST[kind as usize].fetch_max(bytes, Ordering::Relaxed);
     Ok(())
 }
 

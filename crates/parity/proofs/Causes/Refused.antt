@@ -8,7 +8,7 @@ use Rattle.parity.specs.Matrix.{cause}
 use Rattle.parity.specs.Causes.{Reply, answer, refusalOf, accepting}
 use Rattle.parity.specs.Calls.{acceptReply}
 use Rattle.parity.specs.declared.Refusal.{Refusal}
-use Rattle.parity.specs.declared.Refusal.the-variants.{MatrixLength, OutOfRange, OneOutside, RuleABroken, FaultyWord, RecordTooShort, NotAPair, ShareBelowTwo, NoRoomToSplit, NoRoomLeft, WrongLength, WrongByte, Contradiction, AddedBits, ProgramInput, NothingToTakeBack, CannotTakeBack, UnknownName, WrongSize, SetsTooShort, DifferentLengths, TooManyChecks, WrongRounds, WrongFloat}
+use Rattle.parity.specs.declared.Refusal.the-variants.{MatrixLength, OutOfRange, OneOutside, RuleABroken, FaultyWord, RecordTooShort, NotAPair, ShareBelowTwo, NoRoomToSplit, NoRoomLeft, WrongLength, WrongByte, Contradiction, AddedBits, ProgramInput, NothingToTakeBack, CannotTakeBack, UnknownName, WrongSize, SetsTooShort, DifferentLengths, TooManyChecks, WrongRounds, WrongFloat, LowAboveHigh}
 use Rattle.parity.proofs.Matrix.Accept.{Accepted, accepts, accepting-answers, accepting-refuses, accept-answers}
 
 -- no refusal has number 0
@@ -37,6 +37,7 @@ refused-number DifferentLengths e = omega arith
 refused-number TooManyChecks e = omega arith
 refused-number WrongRounds e = omega arith
 refused-number (WrongFloat place) e = omega arith
+refused-number (LowAboveHigh place) e = omega arith
 
 module _ (ws : List ℕ) (n m k : ℕ) where
   -- A matrix that acceptance refuses is refused in the same way by every call behind it.

@@ -67,7 +67,7 @@ either-zero x y f p = elim (is (eq y positiveZero)) [ is-true q ↦ rw q (zero y
         signed false r = rw zero-is r
         signed true r = rw zero-is (unfold neg in either-neg x (fin true 0 (pos 0)) r)
 
-fits-neg : (x : Float) → fits binary32 x ≡ true → fits binary32 (neg x) ≡ true
+pub fits-neg : (x : Float) → fits binary32 x ≡ true → fits binary32 (neg x) ≡ true
 unfolding fits neg
 fits-neg nan e = refl
 fits-neg (inf s) e = refl

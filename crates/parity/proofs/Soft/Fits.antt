@@ -53,11 +53,11 @@ cond-fit : (b : Bool) (x y : Float) → fits binary32 x ≡ true → fits binary
 cond-fit true x y p q = p
 cond-fit false x y p q = q
 
-zero-fit : fits binary32 positiveZero ≡ true
+pub zero-fit : fits binary32 positiveZero ≡ true
 unfolding fits ofBits
 zero-fit = refl
 
-limit-fit : fits binary32 limit ≡ true
+pub limit-fit : fits binary32 limit ≡ true
 unfolding fits ofBits
 limit-fit = refl
 

@@ -139,7 +139,7 @@ finite-float (Sure b) e = rw zero-is
 finite-float (Soft x) e = e
 finite-float Erased e = rw zero-is
 
-finite-zero : finite positiveZero ≡ true
+pub finite-zero : finite positiveZero ≡ true
 finite-zero = rw zero-is
 
 pub writes-finite : WritesFinite

@@ -6,10 +6,10 @@ use Prim.Native.Nat.{ℕ, zero, suc, _+_, _-_, _*_, _^_, _<_}
 use native.Mathlib.Omega.{arith}
 use borrow.Author.Tests.{not-true}
 use lib.Dec.{ltb}
-use lib.Ieee.{Float, nan, inf, fin, binary32, Format, prec, emax, low, add, sum, round, units, odd, neg, lt, eq, isNan, up, down}
+use lib.Ieee.{Float, nan, inf, fin, binary32, Format, prec, emax, low, add, sum, round, units, odd, neg, lt, eq, isNan, up, down, le, ofBits}
 use Rattle.parity.specs.Finite.{any}
 use Rattle.parity.proofs.Finite.Sums.{is-true, is-false, is}
-use Rattle.parity.specs.Floats.{positiveZero, limit, negativeLimit, plusZero, turned, cut, finite}
+use Rattle.parity.specs.Floats.{positiveZero, limit, negativeLimit, plusZero, magnitude, turned, cut, finite}
 use Rattle.parity.specs.Soft.{isErased, leastSoft, turnsOdd, checkSends, joined, gathered, settled, bitSends, sound}
 use Rattle.parity.specs.declared.Channel.{Channel}
 use Rattle.parity.specs.declared.Channel.the-variants.{Sure, Soft, Erased}
@@ -18,7 +18,7 @@ use Rattle.parity.proofs.Soft.Counts.{all-sure}
 use Rattle.parity.proofs.Soft.Exact.{Either, softs, least-from}
 
 -- ---- a check
-neg-finite : (x : Float) → finite x ≡ true → finite (neg x) ≡ true
+pub neg-finite : (x : Float) → finite x ≡ true → finite (neg x) ≡ true
 unfolding neg
 neg-finite nan e = e
 neg-finite (inf s) e = e
@@ -124,7 +124,7 @@ sound-numeric (Soft x) e = ap not (finite-number x e)
 sound-numeric Erased e = refl
 
 -- a number that is cut is finite
-limit-finite : finite limit ≡ true
+pub limit-finite : finite limit ≡ true
 limit-finite = rw limit-is
 
 floor-finite : finite negativeLimit ≡ true
@@ -150,3 +150,11 @@ settled-sound Erased e = refl
 pub bit-sound : (v : Channel) (n : ℕ) (p : ℕ → Bool) (f : ℕ → Channel) → sound v ≡ true → ((i : ℕ) → i < n → p i ≡ true → sound (f i) ≡ true) → sound (bitSends v n p f) ≡ true
 unfolding bitSends
 bit-sound v n p f e S = settled-sound (gathered v n p f) (gathered-numeric v n p f (sound-numeric v e) S)
+
+-- ---- what is at most the limit in magnitude is finite
+pub small-finite : (x : Float) → le (magnitude x) limit ≡ finite x && le (magnitude x) limit
+unfolding le lt eq neg ofBits
+small-finite nan = refl
+small-finite (inf true) = refl
+small-finite (inf false) = refl
+small-finite (fin s m e) = refl

@@ -80,6 +80,9 @@ enum-told-17 c = search needs
 enum-known-why-7 : tie.Need-enum-known-why-7
 enum-known-why-7 c = search needs
 
+enum-known-why-8 : tie.Need-enum-known-why-8
+enum-known-why-8 c = search needs
+
 returns : tie.Need-returns
 returns c = sym (ap refusalOf (c .enum-told .given .1))
 
@@ -152,6 +155,9 @@ returns-23 c = sym (ap refusalOf (c .enum-told17 .given .1))
 returns-24 : tie.Need-returns-24
 returns-24 c = sym (ap refusalOf (c .before .why7 .given .1))
 
+returns-25 : tie.Need-returns-25
+returns-25 c = sym (ap refusalOf (c .before .why8 .given .1))
+
 pub refused-spec : {M : Type 1} → statement M
 refused-spec =
     tie.close
@@ -181,6 +187,7 @@ refused-spec =
     enum-told-16
     enum-told-17
     enum-known-why-7
+    enum-known-why-8
     returns
     returns-2
     returns-3
@@ -204,4 +211,5 @@ refused-spec =
     returns-21
     returns-22
     returns-23
-    returns-24)
+    returns-24
+    returns-25)

@@ -1,10 +1,10 @@
 -- `too_large` meets its contract. Assumes nothing.
-use Rattle.min_sum.proofs.Floats.{small-finite}
+use Rattle.parity.proofs.Soft.Sound.{small-finite}
 use mathlib.Core.Bool.{not}
 use mathlib.Core.Path.{ap}
 use borrow.Author.Needs.{needs}
-use Rattle.min_sum.proofs.judge.too_large.Statement.{statement}
-use Rattle.min_sum.proofs.judge.too_large.Tie as tie
+use Rattle.soft.proofs.floats.too_large.Statement.{statement}
+use Rattle.soft.proofs.floats.too_large.Tie as tie
 
 magnitude-of-requires : tie.Need-magnitude-of-requires
 magnitude-of-requires c κs = search needs

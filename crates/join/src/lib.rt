@@ -48,10 +48,10 @@ fn first_of_both(
 {
     let first = first_cause(words1, n1, m1, k1);
     let second = first_cause(words2, n2, m2, k2);
-    if second < first {
-        return second;
+    if first < second {
+        return first;
     }
-    first
+    second
 }
 
 // The refusal of one of causes 1 to 4.

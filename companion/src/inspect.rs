@@ -1,0 +1,164 @@
+//! `parity inspect`: what the library says of a matrix.
+
+use crate::args::Args;
+use crate::fault::{self, Fault};
+use crate::files;
+use crate::json;
+use crate::matrix::{Extended, Matrix};
+use crate::output;
+use parity::{Refusal, SET_SIZE_MOST};
+use std::collections::BTreeMap;
+
+/// How many stopping sets of a size are shown.
+const FIRST: usize = 5;
+
+const SET_NAMES: [&str; SET_SIZE_MOST] =
+    ["stopping sets of 1 bit", "stopping sets of 2 bits", "stopping sets of 3 bits", "stopping sets of 4 bits"];
+
+/// The stopping sets of a size: how many there are, and the first few.
+pub struct Sets {
+    pub size: usize,
+    pub count: usize,
+    pub first: Vec<Vec<u16>>,
+}
+
+/// The given matrix, without the splits that its file carries, and the matrix orthogonalised from these splits on.
+pub struct Report {
+    pub given: Matrix,
+    pub carried: usize,
+    pub rank: usize,
+    pub cycles: u64,
+    pub sets: Vec<Sets>,
+    pub extended: Extended,
+    pub cycles_left: u64,
+}
+
+pub fn run(mut args: Args) -> Result<u8, Fault> {
+    let (from, as_json) = (args.format("--from")?, args.flag("--json"));
+    let [path] = args.files(["FILE"])?;
+    let matrix = files::read(&path, from)?;
+    let report = report(&matrix).map_err(|refusal| files::refused(&path, refusal))?;
+    let name = path.display().to_string();
+    output::text(&if as_json { report.json(&name) } else { report.text(&name) })
+}
+
+pub fn report(matrix: &Matrix) -> Result<Report, Refusal> {
+    let given = matrix.given()?;
+    let extended = matrix.extended()?;
+    Ok(Report {
+        carried: matrix.k,
+        rank: parity::rank(&given.words, given.n, given.m, 0)?,
+        cycles: given.count()?,
+        sets: (1..=SET_SIZE_MOST).map(|size| sets(&given, size)).collect::<Result<_, _>>()?,
+        cycles_left: extended.matrix.count()?,
+        given,
+        extended,
+    })
+}
+
+/// The stopping sets of a size. The first call says how many places their list needs.
+fn sets(given: &Matrix, size: usize) -> Result<Sets, Refusal> {
+    let mut places = match parity::stopping_sets(&given.words, given.n, given.m, 0, size, &mut []) {
+        Err(Refusal::SetsShort { needed }) => vec![0; needed],
+        Err(refusal) => return Err(refusal),
+        Ok(_) => Vec::new(),
+    };
+    let all = parity::stopping_sets(&given.words, given.n, given.m, 0, size, &mut places)?;
+    Ok(Sets { size, count: all.len(), first: all.take(FIRST).map(<[u16]>::to_vec).collect() })
+}
+
+/// The weights of the checks and those of the bits.
+fn weights(given: &Matrix) -> (Vec<usize>, Vec<usize>) {
+    let rows = given.rows();
+    let mut bits = vec![0; given.n];
+    rows.iter().flatten().for_each(|&bit| bits[bit] += 1);
+    (rows.iter().map(Vec::len).collect(), bits)
+}
+
+/// Each weight that is met, and how often.
+fn tally(weights: &[usize]) -> String {
+    let mut met = BTreeMap::new();
+    weights.iter().for_each(|weight| *met.entry(weight).or_insert(0) += 1);
+    let met: Vec<String> = met.iter().map(|(weight, times)| format!("{times} of weight {weight}")).collect();
+    if met.is_empty() {
+        "none".to_string()
+    } else {
+        met.join(", ")
+    }
+}
+
+impl Sets {
+    fn text(&self) -> String {
+        let list = |set: &Vec<u16>| set.iter().map(u16::to_string).collect::<Vec<_>>().join(" ");
+        let first: String = self.first.iter().map(|set| format!(" {{{}}}", list(set))).collect();
+        let more = if self.count > self.first.len() { " .." } else { "" };
+        format!("{}{first}{more}", self.count)
+    }
+
+    fn json(&self) -> String {
+        let (size, count) = (self.size.to_string(), self.count.to_string());
+        json::object(&[("size", size), ("count", count), ("first", json::list(self.first.iter().map(json::list)))])
+    }
+}
+
+impl Report {
+    pub fn rate(&self) -> f64 {
+        (self.given.n - self.rank) as f64 / self.given.n as f64
+    }
+
+    pub fn text(&self, name: &str) -> String {
+        let Report { given, carried, rank, cycles, extended, cycles_left, .. } = self;
+        let (n, message, rate) = (given.n, given.n - rank, self.rate());
+        let (checks, bits) = weights(given);
+        let mut lines = vec![
+            ("file", fault::shown(name)),
+            ("sent bits n", n.to_string()),
+            ("given checks m", given.m.to_string()),
+            ("carried splits", carried.to_string()),
+            ("ones", given.ones().to_string()),
+            ("weights of checks", tally(&checks)),
+            ("weights of bits", tally(&bits)),
+            ("rank", rank.to_string()),
+            ("rate", format!("{rate:.4} ({message} of {n})")),
+            ("cycle count", cycles.to_string()),
+        ];
+        lines.extend(SET_NAMES.into_iter().zip(self.sets.iter().map(Sets::text)));
+        lines.extend([
+            ("orthogonalised:", String::new()),
+            ("splits made", extended.splits.to_string()),
+            ("sum", extended.sum.to_string()),
+            ("added bits k", extended.matrix.k.to_string()),
+            ("cycles left", cycles_left.to_string()),
+            ("ones", extended.matrix.ones().to_string()),
+        ]);
+        lines.iter().map(|(name, value)| format!("{}\n", format!("{name:25}{value}").trim_end())).collect()
+    }
+
+    pub fn json(&self, name: &str) -> String {
+        let Report { given, carried, rank, cycles, sets, extended, cycles_left } = self;
+        let (checks, bits) = weights(given);
+        let after = json::object(&[
+            ("complete", extended.complete.to_string()),
+            ("splits", extended.splits.to_string()),
+            ("sum", extended.sum.to_string()),
+            ("k", extended.matrix.k.to_string()),
+            ("cycles_left", cycles_left.to_string()),
+            ("ones", extended.matrix.ones().to_string()),
+        ]);
+        let whole = json::object(&[
+            ("file", json::string(name)),
+            ("n", given.n.to_string()),
+            ("m", given.m.to_string()),
+            ("carried_splits", carried.to_string()),
+            ("ones", given.ones().to_string()),
+            ("check_weights", json::list(checks)),
+            ("bit_weights", json::list(bits)),
+            ("rank", rank.to_string()),
+            ("rate", format!("{:.6}", self.rate())),
+            ("cycles", cycles.to_string()),
+            ("stopping_sets", json::list(sets.iter().map(Sets::json))),
+            ("orthogonalised", after),
+        ]);
+        whole + "\n"
+    }
+}

@@ -1,0 +1,27 @@
+//! Random numbers that are the same on every machine (splitmix64).
+
+pub struct Random(u64);
+
+impl Random {
+    /// A sequence of its own for each list of numbers.
+    pub fn of(numbers: &[u64]) -> Random {
+        let mut random = Random(0);
+        for number in numbers {
+            random.0 = random.next() ^ number;
+        }
+        random
+    }
+
+    pub fn next(&mut self) -> u64 {
+        self.0 = self.0.wrapping_add(0x9E37_79B9_7F4A_7C15);
+        let mut mixed = self.0;
+        mixed = (mixed ^ mixed >> 30).wrapping_mul(0xBF58_476D_1CE4_E5B9);
+        mixed = (mixed ^ mixed >> 27).wrapping_mul(0x94D0_49BB_1331_11EB);
+        mixed ^ mixed >> 31
+    }
+
+    /// True in `part` of `whole` cases, both below 2^31.
+    pub fn chance(&mut self, part: u64, whole: u64) -> bool {
+        (self.next() >> 32) * whole < part << 32
+    }
+}

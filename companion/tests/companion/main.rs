@@ -1,0 +1,26 @@
+//! The program `parity`, against the model and the elimination decoder of the tests from outside, and against files that were
+//! computed apart from it.
+
+// The model is written from the papers alone; not all of it is needed here.
+#[allow(dead_code)]
+#[path = "../../../tests/outside/src/elimination.rs"]
+mod elimination;
+#[allow(dead_code)]
+#[path = "../../../tests/outside/src/generate.rs"]
+mod generate;
+#[allow(dead_code, clippy::needless_range_loop)]
+#[path = "../../../tests/outside/src/model.rs"]
+mod model;
+#[allow(dead_code)]
+#[path = "../../../tests/outside/src/random.rs"]
+mod random;
+
+mod curves;
+mod formats;
+mod golden;
+mod mutations;
+mod refusals;
+mod streams;
+mod support;
+mod words;
+mod xml;

@@ -1,6 +1,6 @@
-//! MacKay's alist: n and m; the largest weights of a bit and of a check; the weights of the bits; those of the checks; a line
-//! for each bit with its checks; a line for each check with its bits. Both are counted from 1 there, and lines may be filled
-//! up with zeros to the largest weight.
+//! MacKay's alist: n and m; the largest weights of a bit and of a check; the weights of the bits; those of the
+//! checks; a line for each bit with its checks; a line for each check with its bits. Both are counted from 1 there,
+//! and lines may be filled up with zeros to the largest weight.
 
 use crate::fault::{quoted, LineFault};
 use crate::matrix::{Checks, Matrix, MOST};

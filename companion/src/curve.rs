@@ -1,4 +1,5 @@
-//! `parity curve`: the share of sent bits left over the erasure rate, measured on random codewords, as a picture and a table.
+//! `parity curve`: the share of sent bits left over the erasure rate, measured on random codewords, as a picture
+//! and a table.
 
 use crate::args::Args;
 use crate::fault::Fault;
@@ -35,8 +36,8 @@ pub struct Setup {
     pub rank: usize,
 }
 
-/// What was counted at an erasure rate: words, erased bits, and sent bits left by the given matrix, by the extended one and by
-/// all that the checks determine.
+/// What was counted at an erasure rate: words, erased bits, and sent bits left by the given matrix, by the extended
+/// one and by all that the checks determine.
 #[derive(Clone, Copy, Default, PartialEq, Eq, Debug)]
 pub struct Point {
     pub words: u64,
@@ -79,9 +80,9 @@ impl Draw<'_> {
     }
 
     /// Draws the next word, `sent` and `received`.
-    pub fn next(&mut self) -> Result<(), Refusal> {
+    pub fn word(&mut self) -> Result<(), Refusal> {
         let Draw { given, random, rate, message, sent, received } = self;
-        message.iter_mut().for_each(|bit| *bit = (random.next() >> 63) as u8);
+        message.iter_mut().for_each(|bit| *bit = (random.number() >> 63) as u8);
         parity::encode(&given.words, given.n, given.m, 0, message, sent)?;
         for (received, &sent) in received.iter_mut().zip(&*sent) {
             *received = if random.chance(*rate, RATES) { 2 } else { sent };
@@ -97,7 +98,7 @@ fn chunk(setup: &Setup, mut draw: Draw, words: u64) -> Result<Point, Refusal> {
     let mut word = vec![2; given.n];
     let mut longer = vec![2; given.n + extended.k];
     for _ in 0..words {
-        draw.next()?;
+        draw.word()?;
         point.erased += draw.received.iter().filter(|&&byte| byte == 2).count() as u64;
         word.copy_from_slice(&draw.received);
         let peeled = parity::peel(&given.words, given.n, given.m, 0, &mut word)?;

@@ -1,5 +1,5 @@
-//! A companion for matrices from the field: files in three formats, and the commands of the program `parity`. What it says of a
-//! matrix or a word is the answer of a call of the proved library.
+//! A companion for matrices from the field: files in three formats, and the commands of the program `parity`. What
+//! it says of a matrix or a word is the answer of a call of the proved library.
 
 pub mod alist;
 pub mod args;

@@ -20,8 +20,8 @@ pub struct Matrix {
     pub k: usize,
 }
 
-/// An orthogonalised matrix, and what that took. Where k came to 392 with a pair left it stands after the splits that were
-/// made, and is not complete.
+/// An orthogonalised matrix, and what that took. Where k came to 392 with a pair left it stands after the splits
+/// that were made, and is not complete.
 pub struct Extended {
     pub matrix: Matrix,
     pub splits: u64,

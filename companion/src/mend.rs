@@ -189,8 +189,8 @@ pub fn run(mut args: Args) -> Result<u8, Fault> {
     Ok(tally.status())
 }
 
-/// Gives every line of the input to `change`, without its line ending, and writes it as it is afterwards, with its ending. Lines
-/// are changed where they were read, and go out as soon as those at hand are done.
+/// Gives every line of the input to `change`, without its line ending, and writes it as it is afterwards, with its
+/// ending. Lines are changed where they were read, and go out as soon as those at hand are done.
 fn stream(
     input: &mut impl Read,
     out: &mut impl Write,

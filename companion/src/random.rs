@@ -7,12 +7,12 @@ impl Random {
     pub fn of(numbers: &[u64]) -> Random {
         let mut random = Random(0);
         for number in numbers {
-            random.0 = random.next() ^ number;
+            random.0 = random.number() ^ number;
         }
         random
     }
 
-    pub fn next(&mut self) -> u64 {
+    pub fn number(&mut self) -> u64 {
         self.0 = self.0.wrapping_add(0x9E37_79B9_7F4A_7C15);
         let mut mixed = self.0;
         mixed = (mixed ^ mixed >> 30).wrapping_mul(0xBF58_476D_1CE4_E5B9);
@@ -22,6 +22,6 @@ impl Random {
 
     /// True in `part` of `whole` cases, both below 2^31.
     pub fn chance(&mut self, part: u64, whole: u64) -> bool {
-        (self.next() >> 32) * whole < part << 32
+        (self.number() >> 32) * whole < part << 32
     }
 }

@@ -2,8 +2,8 @@
 
 use std::fmt::Write;
 
-/// What is drawn. A curve is a list of erasure rates and shares of bits left, by the given matrix, by the extended one and by
-/// all that the checks determine.
+/// What is drawn. A curve is a list of erasure rates and shares of bits left, by the given matrix, by the extended
+/// one and by all that the checks determine.
 pub struct Picture {
     pub title: String,
     pub subtitle: String,
@@ -39,6 +39,7 @@ const DETERMINED: Style =
 const STYLES: [&Style; 3] = [&GIVEN, &EXTENDED, &DETERMINED];
 const LIMIT: &str = "stroke='#222222' stroke-width='1.5' stroke-dasharray='2 4'";
 
+const FONTS: &str = "Helvetica, Arial, DejaVu Sans, sans-serif";
 const WIDTH: f64 = 800.0;
 const HEIGHT: f64 = 540.0;
 const LEFT: f64 = 92.0;
@@ -51,7 +52,7 @@ const DECADES_LEAST: i32 = 2;
 const DECADES_MOST: i32 = 9;
 
 /// The most characters of a title that have room.
-const TITLE_MOST: usize = 60;
+const TITLE_MOST: usize = 38;
 
 /// The picture as a file of its own.
 pub fn draw(picture: &Picture) -> String {
@@ -64,8 +65,7 @@ pub fn draw(picture: &Picture) -> String {
     for way in [2, 1, 0] {
         curve(&mut out, STYLES[way], &picture.curves[way], decades);
     }
-    let frame = (RIGHT - LEFT, BOTTOM - TOP);
-    let (width, height) = frame;
+    let (width, height) = (RIGHT - LEFT, BOTTOM - TOP);
     put(
         &mut out,
         &format!("<rect x='{LEFT}' y='{TOP}' width='{width}' height='{height}' fill='none' stroke='#444444'/>"),
@@ -153,7 +153,7 @@ fn head(out: &mut String, picture: &Picture) {
         out,
         &format!(
             "<svg xmlns='http://www.w3.org/2000/svg' width='{WIDTH}' height='{HEIGHT}' viewBox='0 0 {WIDTH} {HEIGHT}' \
-             role='img' aria-labelledby='title desc' font-family='Helvetica, Arial, DejaVu Sans, sans-serif' fill='#222222'>"
+             role='img' aria-labelledby='title desc' font-family='{FONTS}' fill='#222222'>"
         ),
     );
     put(out, &format!("<title id='title'>Share of sent bits left over the erasure rate: {title}</title>"));
@@ -210,10 +210,8 @@ fn mark(out: &mut String, style: &Style, x: f64, y: f64) {
         Mark::Circle => put(out, &format!("<circle cx='{x:.1}' cy='{y:.1}' r='2.4' fill='{colour}'/>")),
         Mark::Square => {
             let (x, y) = (x - 3.0, y - 3.0);
-            put(
-                out,
-                &format!("<rect x='{x:.1}' y='{y:.1}' width='6' height='6' fill='#ffffff' stroke='{colour}' stroke-width='1.3'/>"),
-            );
+            let line = format!("fill='#ffffff' stroke='{colour}' stroke-width='1.3'");
+            put(out, &format!("<rect x='{x:.1}' y='{y:.1}' width='6' height='6' {line}/>"));
         }
     }
 }

@@ -1,5 +1,5 @@
-//! 0/1 text: a line for each check, a digit for each bit. Blanks, tabs and commas may stand between digits; empty lines, and
-//! what follows a `#`, are passed over.
+//! 0/1 text: a line for each check, a digit for each bit. Blanks, tabs and commas may stand between digits; empty
+//! lines, and what follows a `#`, are passed over.
 
 use crate::fault::{quoted, LineFault};
 use crate::matrix::{Checks, Matrix, MOST};

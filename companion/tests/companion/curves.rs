@@ -21,7 +21,7 @@ fn setup(matrix: &Matrix) -> Setup {
 #[test]
 fn tables() {
     let out = folder("curves");
-    for (from, name, words, seed) in [(golden(), "case-c", "20", "7"), (examples(), "case-l", "30", "1")] {
+    for (from, name, words, seed) in [(golden(), "case-c", "120", "7"), (examples(), "case-l", "30", "1")] {
         let (table, drawn) = (out.join(format!("{name}.csv")), out.join(format!("{name}.svg")));
         let paths = [table.to_str().expect("a path"), drawn.to_str().expect("a path")];
         let file = format!("{name}.alist");
@@ -69,7 +69,7 @@ fn against_the_model() {
             let mut due = Point { words: 12, ..Point::default() };
             let mut draw = Draw::new(&setup, 9, rate, 0);
             for _ in 0..12 {
-                draw.next().expect("a word");
+                draw.word().expect("a word");
                 assert!(given.is_codeword(&draw.sent));
                 let agrees = |(&received, &sent): (&u8, &u8)| received == 2 || received == sent;
                 assert!(draw.received.iter().zip(&draw.sent).all(agrees));

@@ -26,6 +26,13 @@ fn matrix(r: &mut Random, number: usize) -> Matrix {
     }
 }
 
+/// An alist that is not filled up, with the members of every list in falling order.
+fn falling(alist: &str) -> String {
+    let turned = |line: &str| line.split(' ').rev().collect::<Vec<_>>().join(" ");
+    let lines = alist.lines().enumerate();
+    lines.map(|(place, line)| if place < 4 { line.to_string() } else { turned(line) } + "\n").collect()
+}
+
 /// What a sender writes of a matrix in a format, in each way that is taken, the program's own first.
 fn written(matrix: &Matrix, format: Format) -> Vec<Vec<u8>> {
     let spaced = |digits: &str| digits.replace('0', " 0 ").replace('1', "1,\t") + "\n# a remark\n\n";
@@ -33,7 +40,9 @@ fn written(matrix: &Matrix, format: Format) -> Vec<Vec<u8>> {
         Format::Alist => {
             let filled = support::alist(matrix, true);
             let returns = filled.replace('\n', " \r\n") + "\n \n";
-            [filled, support::alist(matrix, false), returns].map(String::into_bytes).to_vec()
+            let bare = support::alist(matrix, false);
+            let falling = falling(&bare);
+            [filled, bare, returns, falling].map(String::into_bytes).to_vec()
         }
         Format::Text if matrix.m == 0 => Vec::new(),
         Format::Text => {
@@ -72,7 +81,8 @@ fn round_trips() {
     assert!(trips > 20 * MATRICES, "{trips}");
 }
 
-/// A record with splits: itself as a record, refused in the other formats, and with `--given` the checks before its splits.
+/// A record with splits: itself as a record, refused in the other formats, and with `--given` the checks before its
+/// splits.
 #[test]
 fn splits() {
     let r = &mut Random::new(1281);

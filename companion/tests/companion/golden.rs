@@ -40,8 +40,8 @@ fn inspect() {
     assert_eq!(text.out, file(&golden().join("case-c-extended.inspect")), "{}", text.text());
 }
 
-/// Words of case C in each way, by hand: peeling leaves the first three, document 01's example recovers them; the last word
-/// contradicts a check.
+/// Words of case C in each way, by hand: peeling leaves the first three, document 01's example recovers them; the
+/// last word contradicts a check.
 #[test]
 fn mend() {
     let input = b"???1111\n0011111\n..?1111\r\n0.111?1\n0000001\n";

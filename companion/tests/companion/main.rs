@@ -1,5 +1,5 @@
-//! The program `parity`, against the model and the elimination decoder of the tests from outside, and against files that were
-//! computed apart from it.
+//! The program `parity`, against the model and the elimination decoder of the tests from outside, and against files
+//! that were computed apart from it.
 
 // The model is written from the papers alone; not all of it is needed here.
 #[allow(dead_code)]

@@ -38,6 +38,7 @@ fn alists() -> Vec<(String, &'static str)> {
         (case_c_with(5, "1 2 4"), ":5: check 4 of bit 1, and they go from 1 to 3"),
         (case_c_with(5, "1 0 3"), ":5: check 0 of bit 1, and they go from 1 to 3"),
         (case_c_with(5, "1 2 2"), ":5: check 2 stands twice in bit 1"),
+        (case_c_with(5, "3 1 3"), ":5: check 3 stands twice in bit 1"),
         (case_c_with(6, "1 2 3"), ":6: 3 checks of bit 2, and its weight is 2"),
         (case_c_with(8, ""), ":8: 0 checks of bit 4, and its weight is 1"),
         (case_c_with(12, "1 2 3"), ":12: 3 bits of check 1, and its weight is 4"),

@@ -102,11 +102,7 @@ fn compare(file: &str, way: &str, given: &Matrix, extended: &Matrix, lines: &[St
     let input = lines.join(endings[0]) + endings[1];
     let run = run(&folder, &["mend", file, "--by", way], input.as_bytes());
     let mut found: Vec<&str> = run.text().split(endings[0]).collect();
-    let last = found.pop().expect("a last line");
-    assert!(endings[1].is_empty() || last.is_empty(), "the output ends as the input");
-    if endings[1].is_empty() {
-        found.push(last.strip_suffix('\n').expect("a newline"));
-    }
+    assert_eq!(found.pop(), Some(""), "every line of the output ends");
     assert_eq!(found.len(), lines.len(), "{way}: as many lines");
     let mut messages = run.err.lines();
     for (number, (line, due)) in lines.iter().zip(&dues).enumerate() {

@@ -1,4 +1,5 @@
-//! Whether a text is a well-formed XML element of the kind that a picture needs: elements, attributes in single quotes and text.
+//! Whether a text is a well-formed XML element of the kind that a picture needs: elements, attributes in single
+//! quotes and text.
 
 /// What is wrong, and where.
 pub fn check(text: &str) -> Result<(), String> {

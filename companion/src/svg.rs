@@ -42,7 +42,7 @@ const LIMIT: &str = "stroke='#222222' stroke-width='1.5' stroke-dasharray='2 4'"
 const FONTS: &str = "Helvetica, Arial, DejaVu Sans, sans-serif";
 const WIDTH: f64 = 800.0;
 const HEIGHT: f64 = 540.0;
-const LEFT: f64 = 92.0;
+const LEFT: f64 = 84.0;
 const RIGHT: f64 = 776.0;
 const TOP: f64 = 108.0;
 const BOTTOM: f64 = 478.0;
@@ -216,6 +216,15 @@ fn mark(out: &mut String, style: &Style, x: f64, y: f64) {
     }
 }
 
+/// The number at a decade of the axis: written out, and from the fourth on as a power of ten.
+fn decade_name(x: f64, y: f64, decade: i32) -> String {
+    if decade < 4 {
+        return text(x, y, "end", 13, &format!("{:.*}", decade as usize, 10f64.powi(-decade)));
+    }
+    let power = format!("10<tspan dy='-5' font-size='10'>-{decade}</tspan>");
+    format!("<text x='{x:.1}' y='{y:.1}' text-anchor='end' font-size='13'>{power}</text>")
+}
+
 /// The numbers at the axes, and what the axes are.
 fn axes(out: &mut String, decades: i32) {
     for tenth in 0..=10 {
@@ -223,8 +232,8 @@ fn axes(out: &mut String, decades: i32) {
         put(out, &text(x(rate), BOTTOM + 20.0, "middle", 13, &format!("{rate:.1}")));
     }
     for decade in 0..=decades {
-        let share = format!("{:.*}", decade as usize, 10f64.powi(-decade));
-        put(out, &text(LEFT - 8.0, y(10f64.powi(-decade), decades) + 4.5, "end", 13, &share));
+        let at = y(10f64.powi(-decade), decades) + 4.5;
+        put(out, &decade_name(LEFT - 8.0, at, decade));
     }
     put(out, &text((LEFT + RIGHT) / 2.0, BOTTOM + 46.0, "middle", 14, "erasure rate"));
     let middle = (TOP + BOTTOM) / 2.0;
@@ -232,7 +241,7 @@ fn axes(out: &mut String, decades: i32) {
     put(
         out,
         &format!(
-            "<text transform='translate(18 {middle:.1}) rotate(-90)' text-anchor='middle' font-size='14'>{name}</text>"
+            "<text transform='translate(24 {middle:.1}) rotate(-90)' text-anchor='middle' font-size='14'>{name}</text>"
         ),
     );
 }

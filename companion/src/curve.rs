@@ -200,7 +200,7 @@ pub fn picture(name: &str, setup: &Setup, plan: Plan, points: &[Point]) -> svg::
     svg::Picture {
         title: name.to_string(),
         subtitle: format!(
-            "{n} bits, {m} checks, rank {rank}, rate {rate:.3}, k = {}; {} words at each erasure rate, seed {}",
+            "{n} bits, {m} checks, rank {rank}, rate {rate:.3}, k = {}; {} words at each rate, seed {}",
             extended.k, plan.words, plan.seed
         ),
         limit: 1.0 - rate,

@@ -71,7 +71,7 @@ pub fn draw(picture: &Picture) -> String {
         &format!("<rect x='{LEFT}' y='{TOP}' width='{width}' height='{height}' fill='none' stroke='#444444'/>"),
     );
     if picture.curves.iter().flatten().all(|&(_, share)| share == 0.0) {
-        let (middle, height) = ((LEFT + RIGHT) / 2.0, (TOP + BOTTOM) / 2.0);
+        let (middle, height) = ((LEFT + RIGHT) / 2.0, (TOP + BOTTOM) / 2.0 - 24.0);
         put(&mut out, &text(middle, height, "middle", 15, "no bit is left at any erasure rate"));
     }
     axes(&mut out, decades);
@@ -160,7 +160,7 @@ fn head(out: &mut String, picture: &Picture) {
     put(out, &format!("<desc id='desc'>{told}</desc>"));
     put(out, &format!("<rect width='{WIDTH}' height='{HEIGHT}' fill='#ffffff'/>"));
     put(out, &text(LEFT, 30.0, "start", 18, &short(&picture.title)));
-    put(out, &text(LEFT, 52.0, "start", 13, &picture.subtitle));
+    put(out, &text(LEFT, 52.0, "start", 12, &picture.subtitle));
 }
 
 /// Lines at the tenths of the erasure rate and at the decades, and fainter ones between decades.

@@ -8,6 +8,9 @@ mod elimination;
 #[allow(dead_code)]
 #[path = "../../../tests/outside/src/generate.rs"]
 mod generate;
+#[allow(dead_code)]
+#[path = "../../../tests/outside/src/min_sum.rs"]
+mod min_sum;
 #[allow(dead_code, clippy::needless_range_loop)]
 #[path = "../../../tests/outside/src/model.rs"]
 mod model;

@@ -5,6 +5,7 @@ use crate::compare::compare;
 use crate::elimination;
 use crate::generate;
 use crate::joining;
+use crate::min_sum;
 use crate::model::{self, Kind, Lent, Matrix, FORMS, KINDS, WORDS};
 use crate::random::Random;
 use crate::soft::{self, Mix};
@@ -618,7 +619,7 @@ pub fn apply(r: &mut Random, damage: Damage, matrix: &Matrix, lent: &mut Lent) {
             Kind::Verify | Kind::IsStopping => resized(r, &mut lent.input, matrix),
             Kind::Peel | Kind::Determine | Kind::MendBlock => resized(r, &mut lent.word, matrix),
             Kind::MinSum => {
-                let length = r.pick(&[0, 512, soft::MESSAGES - 1, soft::MESSAGES + 1]);
+                let length = r.pick(&[0, 512, min_sum::MESSAGES - 1, min_sum::MESSAGES + 1]);
                 match r.below(4) {
                     0 => resized(r, &mut lent.word, matrix),
                     1 => {

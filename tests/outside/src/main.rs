@@ -19,6 +19,7 @@ mod joining;
 mod library;
 mod losses;
 mod mend;
+mod min_sum;
 mod model;
 mod random;
 mod ranges;

@@ -1,19 +1,21 @@
 //! Times each call of the library through the C interface against plain Rust of the same call, in the same run, and
-//! prints tables in Markdown. Both sides are compared on every input before they are timed.
+//! prints tables in Markdown. Both sides are compared on every input before they are timed. Words of the command line are the
+//! starts of the rows' names that are wanted; without any, all rows are.
 
 mod plain;
 mod program;
 mod ranges;
 
 use parity::{ffi, VALUES_MOST};
+use std::env;
 use std::hint::black_box;
 use std::process::ExitCode;
 use std::time::Instant;
 
 const WORDS: usize = 4096;
 /// Each time is the best of so many runs, and a run takes about so many nanoseconds.
-const RUNS: usize = 15;
-const RUN_LENGTH: u64 = 1_500_000;
+const RUNS: usize = 45;
+const RUN_LENGTH: u64 = 500_000;
 
 #[derive(Clone, Copy, PartialEq, Debug)]
 enum Call {
@@ -200,6 +202,12 @@ fn clock() -> u64 {
     (0..1000).map(|_| Instant::now().elapsed().as_nanos() as u64).min().unwrap()
 }
 
+/// How many calls a run has, by the best of a few tries.
+fn times(mut three: impl FnMut() -> u64) -> u64 {
+    let once = (0..5).map(|_| three() / 3).min().unwrap();
+    (RUN_LENGTH / once.max(1)).clamp(1, 10_000)
+}
+
 /// The best nanoseconds of one call: the library's and plain Rust's.
 fn measure(job: &Job) -> Result<(u64, u64), String> {
     let mut expected = job.clone();
@@ -214,8 +222,7 @@ fn measure(job: &Job) -> Result<(u64, u64), String> {
     }
     let clock = clock();
     let mut scratch = job.clone();
-    let once = timed(in_plain, job, &mut scratch, 3, clock) / 3;
-    let times = (RUN_LENGTH / once.max(1)).clamp(3, 10_000);
+    let times = times(|| timed(in_plain, job, &mut scratch, 3, clock));
     let (mut best_library, mut best_plain) = (u64::MAX, u64::MAX);
     for _ in 0..RUNS {
         best_plain = best_plain.min(timed(in_plain, job, &mut scratch, times, clock));
@@ -254,8 +261,7 @@ fn mends(one: &'static [u8], other: &'static [u8]) -> Result<(u64, u64), String>
 fn in_turn(one: &Job, other: &Job) -> (u64, u64) {
     let clock = clock();
     let (mut scratch_one, mut scratch_other) = (one.clone(), other.clone());
-    let once = timed_on_copies(in_library, other, &mut scratch_other, 3, clock) / 3;
-    let times = (RUN_LENGTH / once.max(1)).clamp(3, 10_000);
+    let times = times(|| timed_on_copies(in_library, other, &mut scratch_other, 3, clock));
     let (mut best_one, mut best_other) = (u64::MAX, u64::MAX);
     for _ in 0..RUNS {
         best_one = best_one.min(timed_on_copies(in_library, one, &mut scratch_one, times, clock));
@@ -275,8 +281,7 @@ fn mend_and_peel(mending: &Job) -> (u64, u64) {
     let mut peeling = mending.clone();
     peeling.call = Call::Peel;
     let (mut scratch_mending, mut scratch_peeling) = (mending.clone(), peeling.clone());
-    let once = timed(in_library, &peeling, &mut scratch_peeling, 3, 0) / 3;
-    let times = (RUN_LENGTH / once.max(1)).clamp(3, 10_000);
+    let times = times(|| timed(in_library, &peeling, &mut scratch_peeling, 3, 0));
     let (mut best_mending, mut best_peeling) = (u64::MAX, u64::MAX);
     for _ in 0..RUNS {
         best_mending = best_mending.min(timed(in_library, mending, &mut scratch_mending, times, 0));
@@ -550,12 +555,17 @@ fn cell(one: u64, other: u64, digits: usize) -> String {
     format!(" {} / {} = {:.digits$} |", thousands(one), thousands(other), one as f64 / other.max(1) as f64)
 }
 
+/// Whether the row with this name is wanted.
+fn wanted(name: &str) -> bool {
+    env::args().len() == 1 || env::args().skip(1).any(|start| name.starts_with(&start))
+}
+
 fn table(r: &mut Random, given: &[Case], cases: &[Case]) -> Result<(), String> {
     let heads: Vec<String> = cases.iter().map(|case| format!("{}, k={}", case.name, case.k)).collect();
     println!("| call | {} |", heads.join(" | "));
     println!("|---|{}", "--:|".repeat(cases.len()));
     let columns: Vec<Vec<(String, Job)>> = given.iter().zip(cases).map(|(given, case)| jobs(r, given, case)).collect();
-    for row in 0..columns[0].len() {
+    for row in (0..columns[0].len()).filter(|&row| wanted(&columns[0][row].0)) {
         let mut line = format!("| {} |", columns[0][row].0);
         for column in &columns {
             let (library, plain) = measure(&column[row].1)?;
@@ -566,7 +576,7 @@ fn table(r: &mut Random, given: &[Case], cases: &[Case]) -> Result<(), String> {
         }
         println!("{line}");
     }
-    let row = |name: &str| columns[0].iter().position(|row| row.0 == name);
+    let row = |name: &str| columns[0].iter().position(|row| row.0 == name).filter(|_| wanted("take_back / accept"));
     if let (Some(back), Some(accept)) = (row("take_back"), row("accept")) {
         let mut line = "| take_back / accept, both of the library, in turn, on copied words |".to_string();
         for column in &columns {
@@ -575,7 +585,8 @@ fn table(r: &mut Random, given: &[Case], cases: &[Case]) -> Result<(), String> {
         }
         println!("{line}");
     }
-    for row in (0..columns[0].len()).filter(|&row| columns[0][row].1.call == Call::MendBlock) {
+    let mending = |row: &usize| columns[0][*row].1.call == Call::MendBlock && wanted(&columns[0][*row].0);
+    for row in (0..columns[0].len()).filter(mending) {
         let mut line = format!("| {} / peel where stage 1 suffices, both of the library, in turn |", columns[0][row].0);
         for column in &columns {
             if stage(&column[row].1) == Some(1) {
@@ -587,7 +598,7 @@ fn table(r: &mut Random, given: &[Case], cases: &[Case]) -> Result<(), String> {
         }
         println!("{line}");
     }
-    if cases.iter().all(|case| case.k > 0) {
+    if cases.iter().all(|case| case.k > 0) && wanted("mend: third form") {
         let mut line = "| mend: third form / first form, the program, in turn |".to_string();
         for (given, case) in given.iter().zip(cases) {
             let mut first = given.record();
@@ -637,14 +648,14 @@ fn main() -> ExitCode {
         println!("Orthogonalised:\n");
         result = table(r, &given, &extended);
     }
-    if result.is_ok() {
+    if result.is_ok() && wanted("stopping_sets") {
         result = small_sets(&given, &extended);
     }
-    if result.is_ok() {
+    if result.is_ok() && wanted("join") {
         println!("Joined:\n");
         result = joined(r, &given[1]);
     }
-    if result.is_ok() {
+    if result.is_ok() && wanted("min_sum_range") {
         println!("Ranges:\n");
         result = ranges::run(r);
     }

@@ -168,6 +168,24 @@ fn in_library(job: &mut Job) -> u32 {
     }
 }
 
+#[repr(C)]
+struct Timespec {
+    seconds: i64,
+    nanoseconds: i64,
+}
+
+extern "C" {
+    fn clock_gettime(clock: i32, time: *mut Timespec) -> i32;
+}
+
+/// The processor time of this thread, in nanoseconds: what other programs do on the same cores meanwhile is not in it.
+fn processor() -> u64 {
+    let mut time = Timespec { seconds: 0, nanoseconds: 0 };
+    // SAFETY: the time is a live one, of the form that Linux fills. Clock 3 is that of the thread.
+    unsafe { clock_gettime(3, &mut time) };
+    time.seconds as u64 * 1_000_000_000 + time.nanoseconds as u64
+}
+
 /// The nanoseconds of `times` calls, each on words that were just copied, outside the time.
 fn timed_on_copies(run: fn(&mut Job) -> u32, job: &Job, scratch: &mut Job, times: u64, clock: u64) -> u64 {
     let mut sum = 0;
@@ -186,7 +204,7 @@ fn timed(run: fn(&mut Job) -> u32, job: &Job, scratch: &mut Job, times: u64, clo
     if matches!(job.call, Call::Split | Call::TakeBack | Call::Orthogonalise) {
         return timed_on_copies(run, job, scratch, times, clock);
     }
-    let start = Instant::now();
+    let start = processor();
     for _ in 0..times {
         if matches!(job.call, Call::Peel | Call::Determine | Call::MendBlock | Call::MinSum) {
             scratch.word.copy_from_slice(&job.word);
@@ -194,7 +212,7 @@ fn timed(run: fn(&mut Job) -> u32, job: &Job, scratch: &mut Job, times: u64, clo
         }
         black_box(run(black_box(scratch)));
     }
-    start.elapsed().as_nanos() as u64
+    processor() - start
 }
 
 /// What reading the clock twice takes.

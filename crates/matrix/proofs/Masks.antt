@@ -3,13 +3,13 @@ use mathlib.Core.Path.{_≡_, refl, sym, ap, _∙_}
 use mathlib.Core.Logic.{_↔_}
 use mathlib.Core.List.{List}
 use Prim.Native.Nat.{ℕ, _+_, _*_, _-_, _/_, _%_, _^_, _≤_, _<_, min}
-use native.Mathlib.Nat.{zero-add, zero-mul, div-add-mod', div-eq-of-lt, div-lt-iff-lt-mul, mod-lt, one-mul, le-mul-of-pos-right}
+use native.Mathlib.Nat.{zero-add, zero-mul, div-add-mod', div-eq-of-lt, div-lt-iff-lt-mul, mod-lt, one-mul, zero-div, div-one, le-mul-of-pos-right}
 use native.Mathlib.Omega.{arith}
 use native.Mathlib.Decide.{ℕ-discrete, decLt}
 use lib.Arith.{digits-div, digits-mod}
-use lib.Bits.{bitAnd, bitOr, and-high}
+use lib.Bits.{bitAnd, bitOr, and-high, and-self, or-shr, or-lt}
 use lib.Dec.{eqb, lit<}
-use lib.ListN.{getD, length, set}
+use lib.ListN.{getD, length, set, replicate, length-set, getD-replicate}
 use lib.Seq.{getD-set-same, getD-set-other}
 use lib.Pow.{pow-pos, shl-exact, shr-mod}
 use borrow.Author.Tests.{eq-eqb, eqb-true}
@@ -17,8 +17,8 @@ use Rattle.parity.specs.Matrix.{room, clean}
 use Rattle.parity.proofs.Finite.Bools.{same-test}
 use Rattle.parity.proofs.Matrix.Clean.{room-in, room-out, word-fits, fits-clean}
 use Rattle.rows.specs.Zeros.{Zeros, both}
-use Rattle.rows.proofs.Zeros.{or-zero}
-use Rattle.matrix.specs.Masks.{Masks, Under, word}
+use Rattle.rows.proofs.Zeros.{or-zero, zeros-none, zeros-more}
+use Rattle.matrix.specs.Masks.{Masks, RowIn, Ored}
 
 -- the bits from r on, by a mask
 over-mask : (w r : ℕ) → r ≤ 64 → w < 2 ^ 64 → bitAnd w (2 ^ 64 - 2 ^ r) ≡ w / 2 ^ r * 2 ^ r
@@ -52,55 +52,79 @@ masks-more N n ms x l K e = record {
   ];
 }
 
--- the rows, one after the other
-pub under-none : (W : ℕ) (ws ms : List ℕ) → Under W 0 ws ms 0
-under-none W ws ms = record { none = λ e c p l k. absurd (omega arith); back = λ g. refl }
+-- a row, word after word
+pub row-none : (W : ℕ) (ws : List ℕ) (c : ℕ) (all : List ℕ) → RowIn W 0 ws c all all
+row-none W ws c all = record { size = refl; each = λ p k. absurd (omega arith); rest = λ p k. refl }
 
-pub under-more : (W M : ℕ) (ws ms : List ℕ) (x y : ℕ) → Under W M ws ms x → Zeros 0 W (both W ws M ms 0) y → Under W (M + 1) ws ms (bitOr x y)
-under-more W M ws ms x y X Y = record {
-  none = λ e c p l k.
-      let (s, t) = or-zero x y .0 e in
-      elim (ℕ-discrete c M) [ yes q ↦ rw q (Y .none t p (omega arith) k) | no d ↦ X .none s c p (omega arith) k ];
-  back = λ g. or-zero x y .1 (X .back (λ c p l k. g c p (omega arith) k), Y .back (λ p a k. g M p (omega arith) k));
+pub row-more : (W n : ℕ) (ws : List ℕ) (c : ℕ) (before after : List ℕ) → n < length after → RowIn W n ws c before after
+    → RowIn W (n + 1) ws c before (set after n (bitOr (getD after n 0) (getD ws (c * W + n) 0)))
+row-more W n ws c before after l R = record {
+  size = length-set after n _ ∙ R .size;
+  each = λ p k. elim (ℕ-discrete p n) [
+    | yes q ↦ rw (q, getD-set-same after n (bitOr (getD after n 0) (getD ws (c * W + n) 0)) 0 l) (ap (λ t. bitOr t (getD ws (c * W + n) 0)) (R .rest n (omega arith)))
+    | no d ↦ getD-set-other after n p _ 0 d ∙ R .each p (omega arith)
+  ];
+  rest = λ p k. getD-set-other after n p _ 0 (λ e. omega arith) ∙ R .rest p (omega arith);
+}
+
+-- rows, one after the other
+pub ored-none : (W a : ℕ) (ws : List ℕ) (n : ℕ) → W ≤ n → Ored W a a ws (replicate n 0)
+ored-none W a ws n l = record {
+  fits = λ p k. rw (getD-replicate {A = ℕ} n p 0 0 (omega arith)) (lit< tt);
+  each = λ r p k. rw (getD-replicate {A = ℕ} n p 0 0 (omega arith), zero-div (2 ^ r)) (zeros-none a _);
+}
+
+pub ored-more : (W a b : ℕ) (ws before after : List ℕ) → a ≤ b → ((i : ℕ) → getD ws i 0 < 2 ^ 64) → Ored W a b ws before → RowIn W W ws b before after → Ored W a (b + 1) ws after
+ored-more W a b ws before after l machine K R = record {
+  fits = λ p k. rw (R .each p k) (or-lt 64 _ _ (K .fits p k) (machine (b * W + p)));
+  each = λ r p k.
+      let e : getD after p 0 / 2 ^ r ≡ bitOr (getD before p 0 / 2 ^ r) (getD ws (b * W + p) 0 / 2 ^ r) = ap (_/ 2 ^ r) (R .each p k) ∙ or-shr _ _ r in
+      rw e (zeros-more a b _ _ _ l (K .each r p k) refl);
 }
 
 less-zero : (w r : ℕ) → (w < 2 ^ r) ↔ (w / 2 ^ r ≡ 0)
 less-zero w r = (λ l. div-eq-of-lt l, λ e. omega (arith, div-lt-iff-lt-mul {x = w} {y = 1} (pow-pos r) .0 (omega arith)))
 
--- cause 3: the words of the checks below M, of W words, have nothing under the masks of the bits at N and above, and the other words are zero
-module _ (W N M : ℕ) (ws ms : List ℕ) (some : 0 < W) (K : Masks N W ms) (machine : (i : ℕ) → getD ws i 0 < 2 ^ 64) where
-  fits-under : (c p : ℕ) → c < M → p < W → (getD ws (c * W + p) 0 < 2 ^ room W N M (c * W + p)) ↔ (both W ws c ms 0 p ≡ 0)
-  unfolding both
-  fits-under c p l k =
+-- cause 3: the words of the checks below M, of W words, have no one at bit N or above, and the words of the others, up to E, are zero
+module _ (W N M E : ℕ) (ws ms inner rest : List ℕ) (some : 0 < W) (whole : length ws ≡ E * W) (K : Masks N W ms) (I : Ored W 0 M ws inner) (R : Ored W M E ws rest) where
+  fits-in : (c p : ℕ) → c < M → p < W → (getD ws (c * W + p) 0 < 2 ^ room W N M (c * W + p)) ↔ (getD ws (c * W + p) 0 / 2 ^ min 64 (N - p * 64) ≡ 0)
+  fits-in c p l k =
       let q : (c * W + p) / W < M = rw (digits-div c k) l in
+      rw (room-in W N M (c * W + p) q, digits-mod c k) (less-zero (getD ws (c * W + p) 0) (min 64 (N - p * 64)))
+
+  fits-out : (c p : ℕ) → M ≤ c → p < W → (getD ws (c * W + p) 0 < 2 ^ room W N M (c * W + p)) ↔ (getD ws (c * W + p) 0 / 2 ^ 0 ≡ 0)
+  fits-out c p l k =
+      let q : M ≤ (c * W + p) / W = rw (digits-div c k) l in
+      rw (room-out W N M (c * W + p) q) (less-zero (getD ws (c * W + p) 0) 0)
+
+  under : (p : ℕ) → p < W → (both W inner 0 ms 0 p ≡ 0) ↔ (getD inner p 0 / 2 ^ min 64 (N - p * 64) ≡ 0)
+  unfolding both
+  under p k =
       let z : 0 * W + p ≡ p = rw (zero-mul W, zero-add p) in
-      let (f, g) = less-zero (getD ws (c * W + p) 0) (min 64 (N - p * 64)) in
-      let (s, t) = mask-zero (getD ws (c * W + p) 0) (min 64 (N - p * 64)) (omega arith) (machine (c * W + p)) in
-      rw (room-in W N M (c * W + p) q, digits-mod c k, z, K .mask p k) (λ a. t (f a), λ a. g (s a))
+      rw (z, K .mask p k) (mask-zero (getD inner p 0) (min 64 (N - p * 64)) (omega arith) (I .fits p k))
 
-  behind : (i : ℕ) → M * W ≤ i → M ≤ i / W
-  behind i k =
-      elim (decLt (i / W) M) [
-        | yes l ↦ absurd (omega (arith, div-lt-iff-lt-mul {k = W} {x = i} {y = M} some .0 l))
-        | no l ↦ omega arith
-      ]
+  itself : (p : ℕ) → both W rest 0 rest 0 p ≡ getD rest p 0 / 2 ^ 0
+  unfolding both
+  itself p =
+      let z : 0 * W + p ≡ p = rw (zero-mul W, zero-add p) in
+      rw z (and-self (getD rest p 0) ∙ sym (div-one (getD rest p 0)))
 
-  fits-word : (i : ℕ) → M * W ≤ i → (getD ws i 0 < 2 ^ room W N M i) ↔ (word ws i ≡ 0)
-  unfolding word
-  fits-word i k = rw (room-out W N M i (behind i k)) (λ l. omega arith, λ z. omega arith)
-
-  pub decides : (x y : ℕ) → Under W M ws ms x → Zeros (M * W) (length ws) (word ws) y → eqb (bitOr x y) 0 ≡ clean W N M 0 ws
+  pub decides : (x y : ℕ) → Zeros 0 W (both W inner 0 ms 0) x → Zeros 0 W (both W rest 0 rest 0) y → eqb (bitOr x y) 0 ≡ clean W N M 0 ws
   decides x y X Y =
       same-test (eqb (bitOr x y) 0) (clean W N M 0 ws)
       (λ e.
-      let (p, q) = or-zero x y .0 (eqb-true (bitOr x y) 0 e) in
-      fits-clean W N M ws (λ i l. elim (decLt i (M * W)) [
-        | yes k ↦
-            let d : i / W * W + i % W ≡ i = div-add-mod' i W in
-            rw d at (fits-under (i / W) (i % W) (div-lt-iff-lt-mul some .1 k) (mod-lt i some) .1 (X .none p (i / W) (i % W) (div-lt-iff-lt-mul some .1 k) (mod-lt i some)))
-        | no k ↦ fits-word i (omega arith) .1 (Y .none q i (omega arith) l)
-      ]))
+      let (s, t) = or-zero x y .0 (eqb-true (bitOr x y) 0 e) in
+      fits-clean W N M ws (λ i l.
+      let c = i / W in
+      let p = i % W in
+      let k : p < W = mod-lt i some in
+      let d : c * W + p ≡ i = div-add-mod' i W in
+      let fits : getD ws (c * W + p) 0 < 2 ^ room W N M (c * W + p) = elim (decLt c M) [
+        | yes m ↦ fits-in c p m k .1 (I .each (min 64 (N - p * 64)) p k .none (under p k .0 (X .none s p (omega arith) k)) c (omega arith) m)
+        | no m ↦ fits-out c p (omega arith) k .1 (R .each 0 p k .none (sym (itself p) ∙ Y .none t p (omega arith) k) c (omega arith) (div-lt-iff-lt-mul some .1 (omega arith)))
+      ] in
+      rw d at fits))
       (λ t. eq-eqb (bitOr x y) 0 (or-zero x y .1 (
-        X .back (λ c p l k. fits-under c p l k .0 (word-fits W N M ws t (c * W + p))),
-        Y .back (λ i k l. fits-word i k .0 (word-fits W N M ws t i)),
+        X .back (λ p a k. under p k .1 (I .each (min 64 (N - p * 64)) p k .back (λ c b l. fits-in c p l k .0 (word-fits W N M ws t (c * W + p))))),
+        Y .back (λ p a k. itself p ∙ R .each 0 p k .back (λ c b l. fits-out c p b k .0 (word-fits W N M ws t (c * W + p)))),
       )))

@@ -1,23 +1,10 @@
 // Cause 3: a one at a bit or at a check that the code does not have.
 use rows::meet;
 ghost use mathlib.Core.Path.{_≡_};
-ghost use Prim.Native.Nat.{_-_, _*_, _^_, _≤_, min};
+ghost use Prim.Native.Nat.{_+_, _-_, _*_, _^_, _≤_, min};
 ghost use lib.ListN.{length};
 ghost use Rattle.parity.specs.Matrix.{clean};
-ghost use Rattle.rows.specs.Zeros.{Zeros};
-ghost use Rattle.matrix.specs.Masks.{Masks, Under, word};
-
-// The or of the words from place `from` on.
-fn rest(words: &[u64], from: usize) -> u64
-    requires { ⌜ from ≤ length (now words) ⌝ }
-    ensures { λ r. ⌜ Zeros from (length (now (words .entry))) (word (now (words .entry))) r ⌝ }
-{
-    let mut acc: u64 = 0;
-    for i in from..words.len() {
-        acc = acc | words[i];
-    }
-    acc
-}
+ghost use Rattle.matrix.specs.Masks.{Masks, RowIn, Ored};
 
 // Ones at the bits of a row's word `p` that are at `bits` or above.
 fn mask(bits: usize, p: usize) -> u64
@@ -42,16 +29,24 @@ fn masks(bits: usize, all: &mut [u64])
     }
 }
 
-// The or of what the first `checks` checks, rows of `width` words, have under the masks.
-fn beyond(rows: &[u64], width: usize, all: &[u64], checks: usize) -> u64
-    requires { ⌜ (checks * width ≤ length (now rows)) × (width ≤ length (now all)) ⌝ }
-    ensures { λ r. ⌜ Under width checks (now (rows .entry)) (now (all .entry)) r ⌝ }
+// The first `width` words of row `c` are put into the same words of `all`, by an or.
+fn or_row(all: &mut [u64], rows: &[u64], width: usize, c: usize)
+    requires { ⌜ (c * width + width ≤ length (now rows)) × (width ≤ length (now all)) ⌝ }
+    ensures { λ r. ⌜ RowIn width width (now (rows .entry)) c (now (all .entry)) (now (all .exit)) ⌝ }
 {
-    let mut acc: u64 = 0;
-    for c in 0..checks {
-        acc = acc | meet(rows, c, all, 0, width);
+    for p in 0..width {
+        all[p] = all[p] | rows[c * width + p];
     }
-    acc
+}
+
+// The rows from `first` up to `end` are put into `all`, word by word, by an or.
+fn or_rows(all: &mut [u64], rows: &[u64], width: usize, first: usize, end: usize)
+    requires { ⌜ (first ≤ end) × (end * width ≤ length (now rows)) × (width ≤ length (now all)) × Ored width first first (now rows) (now all) ⌝ }
+    ensures { λ r. ⌜ Ored width first end (now (rows .entry)) (now (all .exit)) ⌝ }
+{
+    for c in first..end {
+        or_row(all, rows, width, c);
+    }
 }
 
 // Whether no word has a one at bit `bits` or above, or at check `checks` or above.
@@ -59,7 +54,11 @@ pub fn is_clean(words: &[u64], bits: usize, checks: usize) -> bool
     requires { ⌜ (length (now words) ≡ 4096) × (bits ≤ 512) × (checks ≤ 512) ⌝ }
     ensures { λ r. ⌜ r ≡ clean 8 bits checks 0 (now (words .entry)) ⌝ }
 {
-    let mut all = [0u64; 8];
-    masks(bits, &mut all);
-    (beyond(words, 8, &all, checks) | rest(words, checks * 8)) == 0
+    let mut outside = [0u64; 8];
+    masks(bits, &mut outside);
+    let mut inner = [0u64; 8];
+    or_rows(&mut inner, words, 8, 0, checks);
+    let mut rest = [0u64; 8];
+    or_rows(&mut rest, words, 8, checks, 512);
+    (meet(&inner, 0, &outside, 0, 8) | meet(&rest, 0, &rest, 0, 8)) == 0
 }

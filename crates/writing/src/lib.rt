@@ -48,7 +48,7 @@ fn write_checks(
     Writing::Written { used }
 }
 
-// Writes an accepted matrix: all splits are taken back in a working copy.
+// Writes an accepted matrix: all splits are taken back in a working copy, and without any the words have the checks themselves.
 pub fn write_accepted(
     words: &[u64],
     form: Form,
@@ -61,6 +61,9 @@ pub fn write_accepted(
     ensures { λ r. ⌜ writingReply r ≡ writeOutcome (now (words .entry)) n m k (now («record» .entry)) .reply ⌝ }
     ensures { λ r. ⌜ now («record» .exit) ≡ writeOutcome (now (words .entry)) n m k (now («record» .entry)) .after ⌝ }
 {
+    if k == 0 {
+        return write_checks(words, words, form, n, m, k, record);
+    }
     let mut checks = copied(words);
     if !all_back(&mut checks, n, m, k) {
         return Writing::Refused(Refusal::CannotTakeBack);

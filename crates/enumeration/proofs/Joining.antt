@@ -1,7 +1,7 @@
 -- Lists of stopping sets, one after the other. Assumes nothing.
-use mathlib.Core.Path.{_≡_, refl, ap, _∙_}
+use mathlib.Core.Path.{_≡_, refl, sym, ap, _∙_}
 use mathlib.Core.Bool.{Bool, true, false}
-use mathlib.Core.List.{List, [], _∷_, _++_}
+use mathlib.Core.List.{List, [], _∷_, _++_, append-nil}
 use Prim.Native.Nat.{ℕ, zero, suc, _+_, _-_, _≤_, _<_, max}
 use native.Mathlib.Numerals.{add-one}
 use native.Mathlib.Omega.{arith}
@@ -10,14 +10,15 @@ use lib.ListN.{length, length-append}
 use Rattle.parity.specs.Matrix.{Matrix}
 use Rattle.parity.specs.Words.{stopping}
 use Rattle.parity.specs.StoppingSets.{isIn}
-use Rattle.enumeration.specs.Search.{joined, ifStopping, listed, Put, roomFor}
+use Rattle.enumeration.specs.Search.{across, completing, Seen, Under, NextLast, joined, ifStopping, listed, Put, roomFor}
+use Rattle.enumeration.proofs.Members.{under-later, completes-law}
 use Rattle.enumeration.proofs.Storing.{put-none, put-more, put-length}
 
-pub stopping-no : (h : Matrix) (M : ℕ) (p : List ℕ) → stopping h 128 M (isIn p) ≡ false → ifStopping h M p ≡ []
+stopping-no : (h : Matrix) (M : ℕ) (p : List ℕ) → stopping h 128 M (isIn p) ≡ false → ifStopping h M p ≡ []
 unfolding ifStopping
 stopping-no h M p e = rw e
 
-pub stopping-yes : (h : Matrix) (M : ℕ) (p : List ℕ) → stopping h 128 M (isIn p) ≡ true → ifStopping h M p ≡ p
+stopping-yes : (h : Matrix) (M : ℕ) (p : List ℕ) → stopping h 128 M (isIn p) ≡ true → ifStopping h M p ≡ p
 unfolding ifStopping
 stopping-yes h M p e = rw e
 
@@ -48,6 +49,17 @@ module _ (a d : ℕ) (f : ℕ → List ℕ) (k : a ≤ d) where
   pub joined-room : (n : ℕ) → d < n → length (joined (d - a) a f) + length (f d) ≤ length (joined (n - a) a f)
   joined-room n l = omega (arith, ap length joined-next ∙ length-append (joined (d - a) a f) (f d), joined-mono (d + 1 - a) (n - a) a f (omega arith))
 
+  pub joined-skip : (e : ℕ) → d ≤ e → ((b : ℕ) → d ≤ b → b < e → f b ≡ []) → joined (e - a) a f ≡ joined (d - a) a f
+  joined-skip zero l g = let z : d ≡ 0 = omega arith in rw z
+  joined-skip (suc e) l g =
+      elim (ℕ-discrete d (suc e)) [
+        | yes q ↦ rw q
+        | no q ↦
+            let s : suc e - a ≡ suc (e - a) = omega arith in
+            let t : a + (e - a) ≡ e = omega arith in
+            rw s (joined-more (e - a) a f ∙ rw (t, g e (omega arith) (omega arith)) (append-nil (joined (e - a) a f) ∙ joined-skip e (omega arith) (λ b i j. g b i (omega arith))))
+      ]
+
 pub joined-none : (a : ℕ) (f : ℕ → List ℕ) → joined (a - a) a f ≡ []
 unfolding joined
 joined-none a f = let e : a - a ≡ 0 = omega arith in rw e
@@ -68,6 +80,10 @@ module _ (w : Bool) (old new : List ℕ) (at a d n : ℕ) (f : ℕ → List ℕ)
     top = omega arith;
     put = rw (joined-next a d f (L .from)) (put-more w old new newer at r s (joined (d - a) a f) (f d) (L .put) P);
   }
+
+  -- members with which nothing is listed may be passed over
+  pub searched-skip : (e : ℕ) → d ≤ e → e ≤ max a n → ((b : ℕ) → d ≤ b → b < e → f b ≡ []) → Searched w old new at a e n f r
+  searched-skip e k l g = record { from = omega (arith, L .from); top = l; put = rw (joined-skip a d f (L .from) e k g) (L .put) }
 
   pub searched-fits : (top : ℕ) → d < n → at + length (joined (n - a) a f) < top → r + length (f d) < top
   searched-fits top k l = omega (arith, L .put .place, joined-room a d f (L .from) n k)
@@ -98,3 +114,12 @@ listed-more h M n t p a = refl
 -- what a call for one member fewer lists
 pub next-same : (h : Matrix) (M n left : ℕ) (p q : List ℕ) (d : ℕ) → 1 ≤ left → q ≡ p ++ (d ∷ []) → listed h M n (left - 1 + 1) q (d + 1) ≡ nextOf h M n left p d
 next-same h M n left p q d k e = let f : left - 1 + 1 ≡ left = omega arith in rw (f, add-one d, e)
+
+-- What is listed with the last member: the set where it completes the members, and nothing with those that are passed over.
+module _ (cols p x u : List ℕ) (S : Seen (across cols) p x u) (M : ℕ) (l : M ≤ 512) where
+  pub last-found : (d : ℕ) → d < 128 → Under p d → completing cols x u M d ≡ true → lastOf (across cols) M p d ≡ p ++ (d ∷ [])
+  last-found d k U e = stopping-yes (across cols) M (p ++ (d ∷ [])) (sym (completes-law cols p x u S d k U M l) ∙ e)
+
+  pub last-passed : (a n r : ℕ) → n ≤ 128 → Under p a → NextLast cols x u M a n r → (d : ℕ) → a ≤ d → d < r → lastOf (across cols) M p d ≡ []
+  last-passed a n r k U N d i j =
+      stopping-no (across cols) M (p ++ (d ∷ [])) (sym (completes-law cols p x u S d (omega (arith, N .top)) (under-later p a d U i) M l) ∙ N .none d i j)

@@ -1,5 +1,5 @@
 -- The words of checks that contain exactly one, or some, of a few members. Assumes nothing.
-use mathlib.Core.Path.{_≡_, sym, ap, _∙_}
+use mathlib.Core.Path.{_≡_, refl, sym, ap, _∙_}
 use mathlib.Core.Bool.{Bool, true, false, not, _||_}
 use mathlib.Core.List.{List}
 use Prim.Native.Nat.{ℕ, _+_, _*_, _-_, _/_, _%_, _^_, _≤_, _<_}
@@ -16,7 +16,7 @@ use Rattle.parity.specs.Matrix.{bitOf, lent}
 use Rattle.parity.proofs.Finite.Sums.{is-true, is-false, is, all-at, all-of}
 use Rattle.parity.proofs.Matrix.Digits.{bit-and, bit-or, bit-not, bit-zero, same-bits}
 use Rattle.parity.proofs.Matrix.Lent.{lent-word}
-use Rattle.enumeration.specs.Search.{lone, loneWord, OnceWith, SomeWith}
+use Rattle.enumeration.specs.Search.{lone, loneWord, completing, OnceWith, SomeWith}
 use Rattle.enumeration.proofs.Storing.{Filled}
 
 bit-lone : (x u d j : ℕ) → u < 2 ^ 64 → d < 2 ^ 64 → j < 64 → bitOf (loneWord x u d) j ≡ lone (bitOf x j) (bitOf u j) (bitOf d j)
@@ -91,3 +91,7 @@ module _ (cols u : List ℕ) (d : ℕ) (r : List ℕ) (F : Filled 8 (someAt cols
         let s : c / 64 * 64 + c % 64 ≡ c = omega arith in
         rw s at (some-bit (c / 64) (c % 64) (omega arith) (omega arith));
   }
+
+pub completing-is : (cols x u : List ℕ) (M d : ℕ) → completing cols x u M d ≡ all M (λ c. not (isLone cols x u d c))
+unfolding completing
+completing-is cols x u M d = refl

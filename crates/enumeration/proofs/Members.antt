@@ -14,7 +14,7 @@ use Rattle.parity.specs.Words.{inside, stopping}
 use Rattle.parity.specs.StoppingSets.{isIn}
 use Rattle.parity.proofs.Finite.Sums.{sum-point, sum-zero}
 use Rattle.parity.proofs.Finite.Firsts.{all-cong}
-use Rattle.enumeration.specs.Search.{across, lone, Seen, OnceWith, SomeWith, Under}
+use Rattle.enumeration.specs.Search.{across, lone, completing, Seen, OnceWith, SomeWith, Under}
 use Rattle.enumeration.proofs.Lone.{isLone}
 
 pub in-more : (p : List ℕ) (d b : ℕ) → isIn (p ++ (d ∷ [])) b ≡ (isIn p b || eqb b d)
@@ -89,13 +89,9 @@ module _ (cols p x u : List ℕ) (S : Seen (across cols) p x u) (d : ℕ) (k : d
   }
 
   -- The members and d are a stopping set exactly if no check contains exactly one of them.
-  pub completes-law : (M : ℕ) → M ≤ 512 → all M (λ c. not (isLone cols x u d c)) ≡ stopping (across cols) 128 M (isIn (p ++ (d ∷ [])))
-  unfolding stopping
+  pub completes-law : (M : ℕ) → M ≤ 512 → completing cols x u M d ≡ stopping (across cols) 128 M (isIn (p ++ (d ∷ [])))
+  unfolding stopping completing
   completes-law M l = all-cong M (λ c m. ap not (lone-is c (omega arith)))
-
-  pub completes-says : (M : ℕ) → M ≤ 512 → (r b : Bool) → r ≡ all M (λ c. not (isLone cols x u d c)) → r ≡ b
-      → stopping (across cols) 128 M (isIn (p ++ (d ∷ []))) ≡ b
-  completes-says M l r b e f = sym (completes-law M l) ∙ sym e ∙ f
 
 -- no members
 pub seen-none : (h : Matrix) (x u : List ℕ) → ((c : ℕ) → lent 8 x 0 c ≡ false) → ((c : ℕ) → lent 8 u 0 c ≡ false) → Seen h [] x u

@@ -1,12 +1,13 @@
 -- What the search for stopping sets holds on the way: the checks that some members leave, and what is listed after them. Assumes nothing.
 use mathlib.Core.Path.{_≡_}
-use mathlib.Core.Bool.{Bool, not, cond, _&&_, _||_}
+use mathlib.Core.Bool.{Bool, true, false, not, cond, _&&_, _||_}
 use mathlib.Core.List.{List, [], _∷_, _++_}
-use Prim.Native.Nat.{ℕ, zero, suc, _+_, _-_, _^_, _<_}
+use Prim.Native.Nat.{ℕ, zero, suc, _+_, _-_, _^_, _≤_, _<_, max}
 use lib.Bits.{bitAnd, bitOr}
 use lib.Dec.{eqb, ltb}
 use lib.ListN.{length, getD, take}
 use lib.Seq.{sets}
+use Rattle.parity.specs.Finite.{all}
 use Rattle.parity.specs.Matrix.{Matrix, lent}
 use Rattle.parity.specs.Words.{inside, stopping}
 use Rattle.parity.specs.StoppingSets.{isIn}
@@ -28,6 +29,17 @@ loneWord x u d = bitOr (bitAnd x (2 ^ 64 - 1 - d)) (bitAnd d (2 ^ 64 - 1 - u))
 pub record Seen (h : Matrix) (p x u : List ℕ) : Type 0 where
   pub once : (c : ℕ) → c < 512 → lent 8 x 0 c ≡ eqb (inside h 128 c (isIn p)) 1
   pub some : (c : ℕ) → c < 512 → lent 8 u 0 c ≡ ltb 0 (inside h 128 c (isIn p))
+
+-- whether no check below M contains exactly one of the members and bit d
+unfoldable pub completing : List ℕ → List ℕ → List ℕ → ℕ → ℕ → Bool
+completing cols x u M d = all M (λ c. not (lone (lent 8 x 0 c) (lent 8 u 0 c) (lent 8 cols d c)))
+
+-- r is the first of a to n - 1 that completes the members, and else behind them
+pub record NextLast (cols x u : List ℕ) (M a n r : ℕ) : Type 0 where
+  pub from : a ≤ r
+  pub top : r ≤ max a n
+  pub none : (d : ℕ) → a ≤ d → d < r → completing cols x u M d ≡ false
+  pub found : r < n → completing cols x u M r ≡ true
 
 -- r is x, with bit d among the members besides
 pub record OnceWith (cols x u : List ℕ) (d : ℕ) (r : List ℕ) : Type 0 where

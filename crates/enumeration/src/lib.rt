@@ -1,14 +1,13 @@
 // The search for stopping sets, over the columns of the matrix: eight words for each bit, whose bit `c` says whether check `c` contains it.
 // Of the members chosen so far, `once` has the checks that contain exactly one of them, and `some` those that contain one or more.
 ghost use mathlib.Core.Path.{_≡_};
-ghost use mathlib.Core.Bool.{true, not};
+ghost use mathlib.Core.Bool.{true};
 ghost use mathlib.Core.List.{[], _∷_, _++_};
 ghost use Prim.Native.Nat.{_+_, _*_, _^_, _≤_, _<_};
 ghost use lib.ListN.{length, getD};
-ghost use Rattle.parity.specs.Finite.{all};
 ghost use Rattle.parity.specs.Matrix.{lent};
 ghost use Rattle.parity.specs.StoppingSets.{stoppingSets, flat};
-ghost use Rattle.enumeration.specs.Search.{across, lone, loneWord, Seen, OnceWith, SomeWith, Longer, Under, ifStopping, listed, Put, roomFor};
+ghost use Rattle.enumeration.specs.Search.{across, loneWord, completing, Seen, OnceWith, SomeWith, Longer, Under, NextLast, listed, Put, roomFor};
 
 // The checks of a word that contain exactly one of the members and one more bit, whose checks are `d`.
 fn lone_word(once: u64, some: u64, d: u64) -> u64
@@ -20,7 +19,7 @@ fn lone_word(once: u64, some: u64, d: u64) -> u64
 // Whether no check of the first `used` words contains exactly one of the members and bit `d`.
 fn completes(cols: &[u64], once: &[u64], some: &[u64], used: usize, d: usize) -> bool
     requires { ⌜ (length (now cols) ≡ 1024) × (length (now once) ≡ 8) × (length (now some) ≡ 8) × (used ≤ 8) × (d < 128) ⌝ }
-    ensures { λ r. ⌜ r ≡ all (used * 64) (λ c. not (lone (lent 8 (now (once .entry)) 0 c) (lent 8 (now (some .entry)) 0 c) (lent 8 (now (cols .entry)) d c))) ⌝ }
+    ensures { λ r. ⌜ r ≡ completing (now (cols .entry)) (now (once .entry)) (now (some .entry)) (used * 64) d ⌝ }
 {
     for i in 0..used {
         if lone_word(once[i], some[i], cols[d * 8 + i]) != 0 {
@@ -112,31 +111,23 @@ fn take_in(first: &[u16], d: usize, sets: &mut [u16], at: usize, write: bool) ->
     at + first.len() + 1
 }
 
-// Lists the set of the members and `d`, if it is a stopping set, and answers the place behind it.
-fn list_one(
-    cols: &[u64],
-    used: usize,
-    once: &[u64],
-    some: &[u64],
-    first: &[u16],
-    d: usize,
-    sets: &mut [u16],
-    at: usize,
-    write: bool,
-) -> usize
-    requires { ⌜ (length (now cols) ≡ 1024) × (length (now once) ≡ 8) × (length (now some) ≡ 8) × (used ≤ 8) × (d < 128) ⌝ }
-    requires { ⌜ Seen (across (now cols)) (now first) (now once) (now some) × Under (now first) d ⌝ }
-    requires { ⌜ at + length (ifStopping (across (now cols)) (used * 64) (now first ++ (d ∷ []))) < 2 ^ 40 ⌝ }
-    requires { ⌜ roomFor write (at + length (ifStopping (across (now cols)) (used * 64) (now first ++ (d ∷ [])))) ≤ length (now sets) ⌝ }
-    ensures { λ r. ⌜ Put write (now (sets .entry)) (now (sets .exit)) at (ifStopping (across (now (cols .entry))) (used * 64) (now (first .entry) ++ (d ∷ []))) r ⌝ }
+// The first bit from `from` on that makes a stopping set of the members, or where the search ends.
+fn next_last(cols: &[u64], once: &[u64], some: &[u64], used: usize, from: usize, n: usize) -> usize
+    requires { ⌜ (length (now cols) ≡ 1024) × (length (now once) ≡ 8) × (length (now some) ≡ 8) × (used ≤ 8) × (n ≤ 128) ⌝ }
+    ensures { λ r. ⌜ NextLast (now (cols .entry)) (now (once .entry)) (now (some .entry)) (used * 64) from n r ⌝ }
 {
-    if !completes(cols, once, some, used, d) {
-        return at;
+    let mut d = from;
+    while d < n {
+        if completes(cols, once, some, used, d) {
+            return d;
+        }
+        d += 1;
     }
-    take_in(first, d, sets, at, write)
+    d
 }
 
-// Lists the stopping sets of the members and one more bit, from `from` on, and answers the place behind them.
+// Lists the stopping sets of the members and one more bit, from `from` on, and answers the place behind them. Nothing is written while the next is
+// looked for, so that what is known of the members stays in registers.
 fn list_each(
     cols: &[u64],
     n: usize,
@@ -156,8 +147,10 @@ fn list_each(
     ensures { λ r. ⌜ Put write (now (sets .entry)) (now (sets .exit)) at (listed (across (now (cols .entry))) (used * 64) n 1 (now (first .entry)) from) r ⌝ }
 {
     let mut place = at;
-    for d in from..n {
-        place = list_one(cols, used, once, some, first, d, sets, place, write);
+    let mut d = next_last(cols, once, some, used, from, n);
+    while d < n {
+        place = take_in(first, d, sets, place, write);
+        d = next_last(cols, once, some, used, d + 1, n);
     }
     place
 }

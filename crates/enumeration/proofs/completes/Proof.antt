@@ -5,7 +5,7 @@ use Prim.Native.Nat.{_*_, _-_, _≤_}
 use native.Mathlib.Omega.{arith}
 use borrow.Author.Needs.{needs}
 use Rattle.parity.specs.Finite.{all}
-use Rattle.enumeration.proofs.Lone.{isLone, none-more, none-not}
+use Rattle.enumeration.proofs.Lone.{isLone, none-more, none-not, completing-is}
 use Rattle.enumeration.proofs.completes.Statement.{statement}
 use Rattle.enumeration.proofs.completes.Tie as tie
 
@@ -49,7 +49,7 @@ returns : tie.Need-returns Inv-loop μ-loop
 returns c =
     let s = c .before .before .before .before .before .before .before .before .before .before in
     let l = c .before .before .before .before .before .before .loop in
-    sym (none-not (s .args .cols .now) (s .args .once .now) (s .args .some .now) (s .args .d) (λ i. omega (arith, c .before .before .before .before .before .before .before .shared-slice-known3 .given i)) (λ i. omega (arith, c .before .before .before .before .before .before .before .before .before .shared-slice-known .given i)) (λ i. omega (arith, c .before .before .before .before .before .before .before .before .shared-slice-known2 .given i)) (l .i) (s .args .used) (omega arith) (omega arith) (λ e. c .if1 .taken (c .before .lone-word .ensures ∙ e)))
+    sym (completing-is (s .args .cols .now) (s .args .once .now) (s .args .some .now) (s .args .used * 64) (s .args .d) ∙ none-not (s .args .cols .now) (s .args .once .now) (s .args .some .now) (s .args .d) (λ i. omega (arith, c .before .before .before .before .before .before .before .shared-slice-known3 .given i)) (λ i. omega (arith, c .before .before .before .before .before .before .before .before .before .shared-slice-known .given i)) (λ i. omega (arith, c .before .before .before .before .before .before .before .before .shared-slice-known2 .given i)) (l .i) (s .args .used) (omega arith) (omega arith) (λ e. c .if1 .taken (c .before .lone-word .ensures ∙ e)))
 
 add-i : tie.Need-add-i Inv-loop μ-loop
 add-i c = omega arith
@@ -67,7 +67,8 @@ returns-2 : tie.Need-returns-2 Inv-loop μ-loop
 returns-2 c =
     let l = c .before .loop in
     let e : l .i ≡ c .before .before .before .before .before .args .used = omega arith in
-    sym (rw e at (l .inv .1))
+    let s = c .before .before .before .before .before in
+    sym (completing-is (s .args .cols .now) (s .args .once .now) (s .args .some .now) (s .args .used * 64) (s .args .d) ∙ rw e at (l .inv .1))
 
 pub completes-spec : {M : Type 1} → statement M
 completes-spec =

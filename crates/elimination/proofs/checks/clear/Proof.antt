@@ -13,13 +13,31 @@ returns : tie.Need-returns
 returns c = rw (c .before .before .before .before .if1 .taken) (c .before .before .clear-rows .ensures)
 
 clear-rows-requires-2 : tie.Need-clear-rows-requires-2
-clear-rows-requires-2 c κs = search needs
+clear-rows-requires-2 c κs = rw (c .before .if2 .taken) at (c .before .before .before .before .before .pre)
 
 same-length-2 : tie.Need-same-length-2
 same-length-2 c = search needs
 
 returns-2 : tie.Need-returns-2
-returns-2 c = search needs
+returns-2 c = rw (c .before .before .before .before .if2 .taken) (c .before .before .clear-rows2 .ensures)
+
+clear-rows-requires-3 : tie.Need-clear-rows-requires-3
+clear-rows-requires-3 c κs = rw (c .before .if3 .taken) at (c .before .before .before .before .before .before .pre)
+
+same-length-3 : tie.Need-same-length-3
+same-length-3 c = search needs
+
+returns-3 : tie.Need-returns-3
+returns-3 c = rw (c .before .before .before .before .if3 .taken) (c .before .before .clear-rows3 .ensures)
+
+clear-rows-requires-4 : tie.Need-clear-rows-requires-4
+clear-rows-requires-4 c κs = search needs
+
+same-length-4 : tie.Need-same-length-4
+same-length-4 c = search needs
+
+returns-4 : tie.Need-returns-4
+returns-4 c = search needs
 
 pub clear-spec : {M : Type 1} → statement M
 clear-spec =
@@ -30,4 +48,10 @@ clear-spec =
     returns
     clear-rows-requires-2
     same-length-2
-    returns-2)
+    returns-2
+    clear-rows-requires-3
+    same-length-3
+    returns-3
+    clear-rows-requires-4
+    same-length-4
+    returns-4)

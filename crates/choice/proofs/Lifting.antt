@@ -1,18 +1,19 @@
 -- Bounds that take in the numbers of planes. Assumes nothing.
-use mathlib.Core.Path.{_≡_, sym, _∙_}
-use mathlib.Core.Bool.{true, false, and-true}
+use mathlib.Core.Path.{_≡_, sym, ap, _∙_}
+use mathlib.Core.Bool.{true, false, not, and-true}
 use mathlib.Core.List.{List}
-use Prim.Native.Nat.{ℕ, _+_, _*_, _-_, _/_, _%_, _≤_, _<_, max}
+use Prim.Native.Nat.{ℕ, _+_, _*_, _-_, _/_, _%_, _^_, _≤_, _<_, max}
 use native.Mathlib.Omega.{arith}
 use native.Mathlib.Decide.{ℕ-discrete}
 use lib.Bits.{bitAnd, bitOr}
 use lib.ListN.{getD, length, set}
 use lib.Seq.{getD-set-same, getD-set-other}
-use borrow.Author.Tests.{ne-eqb}
+use borrow.Author.Tests.{eq-eqb, ne-eqb}
+use Rattle.parity.specs.Finite.{one}
 use Rattle.parity.specs.Matrix.{bitOf}
 use Rattle.parity.proofs.Finite.Sums.{one≤1}
 use Rattle.parity.proofs.Finite.Bools.{or-false-both}
-use Rattle.parity.proofs.Matrix.Digits.{bit-zero, bit-or}
+use Rattle.parity.proofs.Matrix.Digits.{one-shl, bit-zero, bit-or, bit-test}
 use Rattle.parity.proofs.Matrix.Ones.{Lowest}
 use Rattle.parity.proofs.Matrix.Rest.{rest-bit}
 use Rattle.choice.specs.Planes.{number, high, Several, Lifted}
@@ -70,3 +71,10 @@ high-zero p t e =
     let (d, d6) = or-false-both (bitOf (bitOr (p .p4) (p .p5)) t) (bitOf (p .p6) t) (sym (bit-or (bitOr (p .p4) (p .p5)) (p .p6) t) ∙ rw e (bit-zero t)) in
     let (d4, d5) = or-false-both (bitOf (p .p4) t) (bitOf (p .p5) t) (sym (bit-or (p .p4) (p .p5) t) ∙ d) in
     rw (d4, d5, d6)
+
+-- a digit, by the word that has a one at its place alone
+pub digit-none : (x t : ℕ) → t < 64 → bitAnd x (1 * 2 ^ t % 2 ^ 64) ≡ 0 → 0 ≡ one (bitOf x t)
+digit-none x t k e = sym (ap one (sym (bit-test x t) ∙ ap not (eq-eqb (bitAnd x (2 ^ t)) 0 (rw (one-shl t k) at e))))
+
+pub digit-some : (x t : ℕ) → t < 64 → (bitAnd x (1 * 2 ^ t % 2 ^ 64) ≡ 0 → ⊥) → 1 ≡ one (bitOf x t)
+digit-some x t k d = sym (ap one (sym (bit-test x t) ∙ ap not (ne-eqb (bitAnd x (2 ^ t)) 0 (rw (one-shl t k) at d))))

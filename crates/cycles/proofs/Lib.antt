@@ -1,2 +1,4 @@
 pub mod Columns
 pub mod Given
+pub mod Meeting
+pub mod Weighing

@@ -1,25 +1,18 @@
 -- `digit` meets its contract. Assumes nothing.
-use mathlib.Core.Path.{_≡_, refl, sym}
-use Prim.Native.Nat.{ℕ, zero, suc, _/_, _%_, _^_, _<_}
 use native.Mathlib.Omega.{arith}
-use lib.Dec.{eqb}
-use Rattle.parity.specs.Finite.{one}
-use Rattle.parity.specs.Matrix.{bitOf}
+use Rattle.choice.proofs.Lifting.{digit-none, digit-some}
 use borrow.Author.Needs.{needs}
 use Rattle.choice.proofs.planes.digit.Statement.{statement}
 use Rattle.choice.proofs.planes.digit.Tie as tie
 
-shr-result : tie.Need-shr-result
-shr-result c = search needs
+shl-bit : tie.Need-shl-bit
+shl-bit c = search needs
 
 returns : tie.Need-returns
-unfolding bitOf
-returns c = (sym (low (c .args .x / 2 ^ c .args .t % 2) (omega arith)), omega arith)
-  where
-    low : (r : ℕ) → r < 2 → one (eqb r 1) ≡ r
-    low zero k = refl
-    low (suc zero) k = refl
-    low (suc (suc r)) k = absurd (omega arith)
+returns c = (digit-none _ _ (c .before .pre) (c .if1 .taken), omega arith)
+
+returns-2 : tie.Need-returns-2
+returns-2 c = (digit-some _ _ (c .before .pre) (c .if1 .left), omega arith)
 
 pub digit-spec : {M : Type 1} → statement M
-digit-spec = tie.close (tie.spec shr-result returns)
+digit-spec = tie.close (tie.spec shl-bit returns returns-2)

@@ -164,14 +164,14 @@ module _ (g : Matrix) (m r b : ℕ) (rm : r < m) (own : g r b ≡ true) where
   around-own : (j : ℕ) → around r j ≡ g r j
   around-own j = cleared-out (g r) b (cleared (g r) b 0 r g) (r + 1) m r j (λ k l. omega arith) ∙ cleared-out (g r) b g 0 r r j (λ k l. omega arith)
 
-  around-else : (c j : ℕ) → c < m → (c ≡ r → ⊥) → around c j ≡ xor (g c j) (when (g c b) (g r) j)
+  pub around-else : (c j : ℕ) → c < m → (c ≡ r → ⊥) → around c j ≡ xor (g c j) (when (g c b) (g r) j)
   around-else c j l d = elim (decLt c r) [
     | yes k ↦ cleared-out (g r) b (cleared (g r) b 0 r g) (r + 1) m c j (λ x y. omega arith) ∙ cleared-in (g r) b g 0 r c j (omega arith) k
     | no k ↦ cleared-in (g r) b (cleared (g r) b 0 r g) (r + 1) m c j (omega arith) l
         ∙ rw (cleared-out (g r) b g 0 r c j (λ x y. omega arith), cleared-out (g r) b g 0 r c b (λ x y. omega arith))
   ]
 
-  around-behind : (c j : ℕ) → m ≤ c → around c j ≡ g c j
+  pub around-behind : (c j : ℕ) → m ≤ c → around c j ≡ g c j
   around-behind c j l = cleared-out (g r) b (cleared (g r) b 0 r g) (r + 1) m c j (λ x y. omega arith) ∙ cleared-out (g r) b g 0 r c j (λ x y. omega arith)
 
   pub around-pivoted : Pivoted g around m r r b

@@ -3,3 +3,4 @@ pub mod Copying
 pub mod Clearing
 pub mod Turns
 pub mod Reduced
+pub mod Echelons

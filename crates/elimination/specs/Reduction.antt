@@ -63,3 +63,29 @@ pub record Reduction (h g : Matrix) (n m : ℕ) (e : ℕ → Bool) (b r : ℕ) (
 -- The turn of bit b, one of those to reduce in: what was reduced in the bits below b is afterwards reduced in b too.
 pub record Turned (g k : Matrix) (m b r : ℕ) (at : List ℕ) (s : ℕ) (to : List ℕ) : Type 0 where
   pub turned : (h : Matrix) (n : ℕ) (e : ℕ → Bool) → e b ≡ true → Reduction h g n m e b r at → Reduction h k n m e (b + 1) s to
+
+-- k is g after bit b was made the pivot of check r and cleared from the checks behind it; check p was added to check r if it is another one.
+-- If the checks of f from r on are those of g, then making it the pivot in f, for all checks, has the checks of k behind r.
+pub record Lower (g k : Matrix) (m p r b : ℕ) : Type 0 where
+  pub same : (n : ℕ) → Same g k n m
+  pub above : (c j : ℕ) → c < r → k c j ≡ g c j
+  pub own : k r b ≡ true
+  pub keep : (j : ℕ) → g p j ≡ false → g r j ≡ false → k r j ≡ false
+  pub follows : (f : Matrix) → ((c j : ℕ) → r ≤ c → g c j ≡ f c j) → (l : Matrix) × Pivoted f l m p r b × ((c j : ℕ) → r < c → k c j ≡ l c j)
+
+abbrev pub everyBit : ℕ → Bool
+everyBit b = true
+
+-- The echelon form: g has the codewords of h, in n bits and m checks. Each check c below r has a pivot, in the list, and no lower bit.
+-- The checks from r on are those of a matrix, `whole`, that h can be reduced to in all bits below b, with the same pivots.
+pub record Echelon (h g : Matrix) (n m b r : ℕ) (at : List ℕ) : Type 0 where
+  pub same : Same h g n m
+  pub own : (c : ℕ) → c < r → g c (getD at c 0) ≡ true
+  pub first : (c j : ℕ) → c < r → j < getD at c 0 → g c j ≡ false
+  pub whole : Matrix
+  pub reduction : Reduction h whole n m everyBit b r at
+  pub rest : (c j : ℕ) → r ≤ c → g c j ≡ whole c j
+
+-- The step of bit b: what was in echelon form in the bits below b is afterwards so in b too.
+pub record Stepped (g k : Matrix) (m b r : ℕ) (at : List ℕ) (s : ℕ) (to : List ℕ) : Type 0 where
+  pub stepped : (h : Matrix) (n : ℕ) → Echelon h g n m b r at → Echelon h k n m (b + 1) s to

@@ -1,5 +1,6 @@
 // Elimination modulo 2: a copy of the checks, in rows of `width` words, is reduced in the bits that a word leaves unknown.
 pub mod checks;
+pub mod echelon;
 
 use crate::checks::add_check;
 use crate::checks::clear;

@@ -15,10 +15,9 @@ use Rattle.parity.proofs.Splits.Split.{Even}
 use Rattle.parity.proofs.Words.Extend.{inside-cong}
 use Rattle.parity.proofs.Encoding.Encode.{encodes}
 use Rattle.parity.proofs.Encoding.Dependent.{inside-suc, inside-end, inside-zero, depends-at, depends-of}
-use Rattle.elimination.specs.Reduction.{Same, Reduced, pivot}
+use Rattle.elimination.specs.Reduction.{Same, Reduced, pivot, everyBit}
 use Rattle.elimination.proofs.Clearing.{same-at}
 use Rattle.elimination.proofs.Reduced.{pivot-at, pivot-of, pivot-count, solved, solved-at, solved-else, solved-even}
-use Rattle.encode.specs.Filling.{everyBit}
 
 module _ (h g : Matrix) (n m r : ℕ) (at : ℕ → ℕ) (R : Reduced g m everyBit n r at) (S : Same h g n m) where
   shared : (x : ℕ → Bool) → Even h n m x ↔ Even g n m x
@@ -86,21 +85,15 @@ module _ (h g : Matrix) (n m r : ℕ) (at : ℕ → ℕ) (R : Reduced g m everyB
       twice false = refl
 
   -- the bits of a codeword that are no pivots hold the message: it is the one
-  pub reads : (message y : ℕ → Bool) → ((c : ℕ) → c < r → y (at c) ≡ false)
-      → ((b : ℕ) → b < n → pivot r at b ≡ false → y b ≡ message (count b (λ i. not (pivot r at i))))
-      → (b : ℕ) → b < n → encoded h n m message b ≡ solved g n m everyBit r at R y b
-  reads message y f u b k =
-      let z = solved g n m everyBit r at R y in
-      let none : (c : ℕ) → r ≤ c → c < m → inside g n c y % 2 ≡ 0 =
-      λ c k l. rw (inside-zero g n c y (λ b bl p. absurd (false≢true (sym (R .rest c b k l bl refl) ∙ p)))) in
-      let even : Even h n m z = shared z .1 (solved-even g n m everyBit r at R y f none) in
-      sym (encodes h n m message .2 z even held b k)
+  pub reads : (message z : ℕ → Bool) → Even h n m z
+      → ((b : ℕ) → b < n → pivot r at b ≡ false → z b ≡ message (count b (λ i. not (pivot r at i))))
+      → (b : ℕ) → b < n → encoded h n m message b ≡ z b
+  reads message z even u b k = sym (encodes h n m message .2 z even held b k)
     where
-      held : (b : ℕ) → b < n → dependent h m b ≡ true → solved g n m everyBit r at R y b ≡ message (count b (dependent h m))
+      held : (b : ℕ) → b < n → dependent h m b ≡ true → z b ≡ message (count b (dependent h m))
       held b k t =
           let q : pivot r at b ≡ false = flip (pivot r at b) (sym (dependents b k) ∙ t) in
-          solved-else g n m everyBit r at R y b q ∙ u b k q
-          ∙ ap message (count-cong b {p = λ i. not (pivot r at i)} {q = dependent h m} (λ i l. sym (dependents i (omega arith))))
+          u b k q ∙ ap message (count-cong b {p = λ i. not (pivot r at i)} {q = dependent h m} (λ i l. sym (dependents i (omega arith))))
         where
           flip : (a : Bool) → not a ≡ true → a ≡ false
           flip true p = absurd (false≢true p)

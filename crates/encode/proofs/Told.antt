@@ -1,17 +1,16 @@
 -- What is read off the reduced rows, and what rank and encoding answer. Assumes nothing.
 use mathlib.Core.Path.{_≡_, refl, sym, ap, _∙_}
-use mathlib.Core.Bool.{true, false, not}
+use mathlib.Core.Bool.{Bool, true, false, not, false≢true}
 use mathlib.Core.List.{List, [], _∷_}
 use Prim.Native.Nat.{ℕ, zero, suc, _+_, _-_, _%_, _≤_, _<_}
 use native.Mathlib.Omega.{arith}
 use native.Mathlib.Decide.{decLt}
 use lib.Dec.{eqb}
-use lib.ListN.{getD, length, take, replicate, getD-replicate, length-replicate, List·getD-eq-default}
-use lib.Seq.{getD-take, length-take-le}
+use lib.ListN.{getD, length, List·getD-eq-default}
 use borrow.Author.Tests.{eq-eqb, ne-eqb, lt-ltb}
 use Rattle.parity.specs.Finite.{one, count, listFrom}
 use Rattle.parity.specs.Matrix.{Matrix, lent}
-use Rattle.parity.specs.Words.{erased, isOne, inside, evenChecks}
+use Rattle.parity.specs.Words.{isOne, inside, evenChecks}
 use Rattle.parity.specs.Encoding.{rankOf, encoded}
 use Rattle.parity.specs.Causes.{Reply, answer, refusalOf, accepting}
 use Rattle.parity.specs.Calls.{byteOf, wrongByte, wrongPlace, acceptReply, rankReply, encodeReply, encodeOutcome}
@@ -19,29 +18,23 @@ use Rattle.parity.specs.declared.Refusal.{Refusal}
 use Rattle.parity.specs.declared.Refusal.the-variants.{WrongLength, WrongByte, AddedBits}
 use Rattle.parity.proofs.Finite.Sums.{is-true, is-false, is, count-cong, byte-one}
 use Rattle.parity.proofs.Finite.Firsts.{all-cong}
+use Rattle.parity.proofs.Splits.Split.{Even}
 use Rattle.parity.proofs.Encoding.Encode.{lengths}
+use Rattle.parity.proofs.Encoding.Dependent.{inside-zero}
 use Rattle.parity.proofs.Matrix.Accept.{Accepted, accepts, passes}
 use Rattle.parity.proofs.Causes.Refused.{refused-number, refused-same}
 use Rattle.parity.proofs.Words.Bytes.{right-bytes}
 use Rattle.parity.proofs.Encoding.Messages.{ranks}
 use Rattle.parity.proofs.Matrix.Packing.{at-listFrom}
-use Rattle.elimination.specs.Reduction.{Same, Reduction, pivot}
+use Rattle.elimination.specs.Reduction.{Same, Reduced, pivot, everyBit, Echelon}
 use Rattle.elimination.specs.Rows.{SameRows}
-use Rattle.elimination.proofs.Clearing.{same-trans}
+use Rattle.elimination.proofs.Clearing.{same-at, same-trans}
 use Rattle.elimination.proofs.Copying.{rows-lent}
-use Rattle.elimination.proofs.Turns.{reduced-in}
-use Rattle.elimination.proofs.Reduced.{pivot-at, pivot-of, solved-at, solved-else}
+use Rattle.elimination.proofs.Reduced.{pivot-at, pivot-of}
 use Rattle.encode.specs.Answers.{givenOutcome}
-use Rattle.encode.specs.Filling.{everyBit, pivotAt, Rising, placed, Filled}
+use Rattle.encode.specs.Filling.{pivotAt, Rising, placed, Open, Filled}
 use Rattle.encode.proofs.Pivots as pivots
 use Rattle.encode.proofs.Filling.{is-listFrom}
-
--- the first n bytes of a word of which every bit is unknown
-pub unknown-length : (l : List ℕ) (n : ℕ) → l ≡ replicate 120 2 → n ≤ 120 → length (take n l) ≡ n
-unknown-length l n e k = length-take-le n l (rw (e, length-replicate {A = ℕ} 120 2) k)
-
-unknown-at : (l : List ℕ) (n : ℕ) → l ≡ replicate 120 2 → n ≤ 120 → (b : ℕ) → b < n → erased (byteOf (take n l)) b ≡ true
-unknown-at l n e k b i = rw (getD-take {A = ℕ} n l b 0 i, e, getD-replicate {A = ℕ} 120 b 2 0 (omega arith))
 
 -- a copy has the codewords of the lent matrix
 copy-same : (ws w u : List ℕ) (n m : ℕ) → n ≤ 120 → SameRows 8 2 ws w u 0 m → Same (lent 8 ws) (lent 2 u) n m
@@ -49,52 +42,70 @@ unfolding evenChecks inside
 copy-same ws w u n m k C x = all-cong m (λ c l. ap (λ a. eqb (a % 2) 0)
     (count-cong n (λ b i. rw (rows-lent 8 2 (omega arith) ws w u m C c b l (omega arith)))))
 
-pub eliminated : (ws w u : List ℕ) (g : Matrix) (l : List ℕ) (n m r : ℕ) (at : List ℕ) → n ≤ 120 → l ≡ replicate 120 2 → SameRows 8 2 ws w u 0 m
-    → Reduction (lent 2 u) g (length (take n l)) m (erased (byteOf (take n l))) (length (take n l)) r at → Reduction (lent 8 ws) g n m everyBit n r at
-eliminated ws w u g l n m r at k e C R =
-    let S : Reduction (lent 2 u) g n m (erased (byteOf (take n l))) n r at = rw (unknown-length l n e k) at R in
+pub eliminated : (ws w u : List ℕ) (g : Matrix) (n m r : ℕ) (at : List ℕ) → n ≤ 120 → SameRows 8 2 ws w u 0 m → Echelon (lent 2 u) g n m n r at → Echelon (lent 8 ws) g n m n r at
+eliminated ws w u g n m r at k C E =
+    let S = copy-same ws w u n m k C in
     record {
-      same = same-trans (lent 8 ws) (lent 2 u) g n m (copy-same ws w u n m k C) (S .same);
-      form = reduced-in g m (erased (byteOf (take n l))) everyBit n r (pivotAt at) (unknown-at l n e k) (S .form);
+      same = same-trans (lent 8 ws) (lent 2 u) g n m S (E .same);
+      own = E .own;
+      first = E .first;
+      whole = E .whole;
+      reduction = record { same = same-trans (lent 8 ws) (lent 2 u) (E .whole) n m S (E .reduction .same); form = E .reduction .form };
+      rest = E .rest;
     }
 
-module _ (h g : Matrix) (n m r : ℕ) (at : List ℕ) (R : Reduction h g n m everyBit n r at) where
+module _ (h g : Matrix) (n m r : ℕ) (at : List ℕ) (E : Echelon h g n m n r at) where
+  abbrev R : Reduced (E .whole) m everyBit n r (pivotAt at)
+  R = E .reduction .form
+
   pub is-rank : r ≡ rankOf h n m
-  is-rank = sym (pivots.ranks h g n m r (pivotAt at) (R .form) (R .same))
+  is-rank = sym (pivots.ranks h (E .whole) n m r (pivotAt at) R (E .reduction .same))
 
   pub rising : Rising n r at
-  rising = record { low = R .form .low; rise = R .form .rise }
+  rising = record { low = R .low; rise = R .rise }
 
-  module _ (message : List ℕ) (small : wrongByte 1 message ≡ false) (w : List ℕ) (W : w ≡ listFrom 0 n (placed r at (byteOf message))) where
+  -- the checks without a pivot are empty, so that a word is a codeword if the others are even
+  even-word : (z : ℕ → Bool) → ((c : ℕ) → c < r → inside g n c z % 2 ≡ 0) → Even h n m z
+  even-word z f = same-at h g n m (E .same) z .1 (λ c k. elim (decLt c r) [
+    | yes l ↦ f c l
+    | no l ↦ let o : r ≤ c = omega arith in
+        rw (inside-zero g n c z (λ b i p. absurd (false≢true (sym (E .rest c b o ∙ R .rest c b o k i refl) ∙ p))))
+  ])
+
+  module _ (message w : List ℕ) (W : w ≡ listFrom 0 n (placed r at (byteOf message))) where
     word-at : (b : ℕ) → b < n → byteOf w b ≡ placed r at (byteOf message) b
     word-at b k = ap (λ l. getD l b 0) W ∙ at-listFrom 0 n (placed r at (byteOf message)) b k ∙ ap (placed r at (byteOf message)) (omega arith)
 
     at-pivot : (c : ℕ) → c < r → byteOf w (pivotAt at c) ≡ 0
     unfolding placed
-    at-pivot c k = word-at (pivotAt at c) (R .form .low c k) ∙ rw (pivot-at r (pivotAt at) c k)
+    at-pivot c k = word-at (pivotAt at c) (R .low c k) ∙ rw (pivot-at r (pivotAt at) c k)
 
     at-else : (b : ℕ) → b < n → pivot r (pivotAt at) b ≡ false → byteOf w b ≡ byteOf message (count b (λ i. not (pivot r (pivotAt at) i)))
     unfolding placed
     at-else b k q = word-at b k ∙ rw q
 
-    message-small : (i : ℕ) → byteOf message i ≤ 1
-    message-small i = elim (decLt i (length message)) [
-      | yes k ↦ right-bytes 1 message .0 small i k
-      | no k ↦ let l : length message ≤ i = omega arith in rw (List·getD-eq-default message 0 l) (omega arith)
-    ]
+    pub opened : Open g n r at (byteOf w)
+    opened = record { rising = rising; own = E .own; first = E .first; none = at-pivot }
 
-    -- what stands after the pivots are filled in is the message's codeword
-    pub codeword-read : (u : List ℕ) → length u ≡ n → Filled g n r at r (byteOf w) (byteOf u) → u ≡ listFrom 0 n (λ b. one (encoded h n m (isOne (byteOf message)) b))
-    codeword-read u l F = is-listFrom n (λ b. one (encoded h n m (isOne (byteOf message)) b)) u l (λ b k.
-        let x = pivots.reads h g n m r (pivotAt at) (R .form) (R .same) (isOne (byteOf message)) (isOne (byteOf w)) (λ c i. rw (at-pivot c i)) (λ b i q. rw (at-else b i q)) b k in
-        elim (is (pivot r (pivotAt at) b)) [
-          | is-true q ↦
-              let (c, i, e) = pivot-of r (pivotAt at) b q in
-              rw (x, ← e) (F .done c i ∙ ap one (sym (solved-at g n m everyBit r (pivotAt at) (R .form) (isOne (byteOf w)) c i)))
-          | is-false q ↦
-              rw x (F .else b q ∙ sym (byte-one (byteOf w b) (rw (at-else b k q) (message-small _)))
-              ∙ ap one (sym (solved-else g n m everyBit r (pivotAt at) (R .form) (isOne (byteOf w)) b q)))
-        ])
+    module _ (small : wrongByte 1 message ≡ false) where
+      message-small : (i : ℕ) → byteOf message i ≤ 1
+      message-small i = elim (decLt i (length message)) [
+        | yes k ↦ right-bytes 1 message .0 small i k
+        | no k ↦ let l : length message ≤ i = omega arith in rw (List·getD-eq-default message 0 l) (omega arith)
+      ]
+
+      -- what stands after the pivots are filled in is the message's codeword
+      pub codeword-read : (u : List ℕ) → length u ≡ n → Filled g n r at 0 (byteOf w) (byteOf u) → u ≡ listFrom 0 n (λ b. one (encoded h n m (isOne (byteOf message)) b))
+      codeword-read u l F = is-listFrom n (λ b. one (encoded h n m (isOne (byteOf message)) b)) u l (λ b k.
+          rw (pivots.reads h (E .whole) n m r (pivotAt at) R (E .reduction .same) (isOne (byteOf message)) (isOne (byteOf u))
+          (even-word (isOne (byteOf u)) (λ c i. F .even c (omega arith) i)) (λ b i q. rw (F .else b q, at-else b i q)) b k)
+          (sym (byte-one (byteOf u b) (bit b k))))
+        where
+          bit : (b : ℕ) → b < n → byteOf u b ≤ 1
+          bit b k = elim (is (pivot r (pivotAt at) b)) [
+            | is-true q ↦ let (c, i, e) = pivot-of r (pivotAt at) b q in rw (← e) (F .bit c (omega arith) i)
+            | is-false q ↦ rw (F .else b q, at-else b k q) (message-small _)
+          ]
 
 -- encoding with an accepted matrix that has k = 0
 module _ (ws : List ℕ) (m : ℕ) (message w : List ℕ) (r : ℕ) (e : r ≡ rankOf (lent 8 ws) (length w) m) where

@@ -1,16 +1,13 @@
 -- A message placed at the bits that are no pivots, and pivots filled in. Assumes nothing.
-use Prim.Native.Nat.{ℕ, _≤_, _<_}
+use Prim.Native.Nat.{ℕ, _%_, _≤_, _<_}
 use mathlib.Core.Path.{_≡_}
 use mathlib.Core.Bool.{Bool, true, false, not, cond}
 use mathlib.Core.List.{List}
 use lib.ListN.{getD, length}
-use Rattle.parity.specs.Finite.{one, count}
+use Rattle.parity.specs.Finite.{count}
 use Rattle.parity.specs.Matrix.{Matrix}
-use Rattle.parity.specs.Words.{isOne, inside, odd}
+use Rattle.parity.specs.Words.{isOne, inside}
 use Rattle.elimination.specs.Reduction.{pivot}
-
-abbrev pub everyBit : ℕ → Bool
-everyBit b = true
 
 -- the pivot of check c
 abbrev pub pivotAt : List ℕ → ℕ → ℕ
@@ -34,7 +31,16 @@ pub record Placing (n r : ℕ) (pivots : List ℕ) (message : ℕ → ℕ) (u : 
   pub others : q ≡ count b (λ i. not (pivot r (pivotAt pivots) i))
   pub done : (j : ℕ) → j < b → getD u j 0 ≡ placed r pivots message j
 
--- u is the word w in which the pivots of the checks below i are the sums modulo 2 of the checks' ones.
+-- r checks, each with a pivot, in rising order, that is its lowest bit, and 0 in the word w
+pub record Open (g : Matrix) (n r : ℕ) (pivots : List ℕ) (w : ℕ → ℕ) : Type 0 where
+  pub rising : Rising n r pivots
+  pub own : (c : ℕ) → c < r → g c (pivotAt pivots c) ≡ true
+  pub first : (c j : ℕ) → c < r → j < pivotAt pivots c → g c j ≡ false
+  pub none : (c : ℕ) → c < r → w (pivotAt pivots c) ≡ 0
+
+-- u is the word w in which the pivots of the checks from i on make these even.
 pub record Filled (g : Matrix) (n r : ℕ) (pivots : List ℕ) (i : ℕ) (w u : ℕ → ℕ) : Type 0 where
-  pub done : (c : ℕ) → c < i → u (pivotAt pivots c) ≡ one (odd (inside g n c (isOne w)))
+  pub even : (c : ℕ) → i ≤ c → c < r → inside g n c (isOne u) % 2 ≡ 0
+  pub bit : (c : ℕ) → i ≤ c → c < r → u (pivotAt pivots c) ≤ 1
+  pub none : (c : ℕ) → c < i → u (pivotAt pivots c) ≡ 0
   pub else : (b : ℕ) → pivot r (pivotAt pivots) b ≡ false → u b ≡ w b

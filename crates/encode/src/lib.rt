@@ -4,19 +4,18 @@ mod message;
 use crate::message::fill;
 use crate::message::place;
 use elimination::checks::copy;
-use elimination::reduce;
+use elimination::echelon::to_echelon;
 use matrix::Accepting;
 use parity::Refusal;
 use word::bytes::first_above;
 ghost use mathlib.Core.Path.{_≡_};
 ghost use Prim.Native.Nat.{_≤_};
-ghost use lib.ListN.{length, replicate};
+ghost use lib.ListN.{length};
 ghost use Rattle.parity.specs.Matrix.{lent};
 ghost use Rattle.parity.specs.Encoding.{rankOf};
 ghost use Rattle.parity.specs.Calls.{rankReply, encodeOutcome};
-ghost use Rattle.elimination.specs.Reduction.{Reduction};
+ghost use Rattle.elimination.specs.Reduction.{Echelon};
 ghost use Rattle.encode.specs.Answers.{rankingReply, encodingReply, givenOutcome};
-ghost use Rattle.encode.specs.Filling.{everyBit};
 
 // What the rank call answers.
 pub enum Ranking {
@@ -30,21 +29,13 @@ pub enum Encoding {
     Refused(Refusal),
 }
 
-// A word of which every bit is unknown.
-fn unknown() -> [u8; 120]
-    ensures { λ r. ⌜ r ≡ replicate 120 2 ⌝ }
-{
-    [2u8; 120]
-}
-
-// The given checks become rows of two words, reduced in all bits. The answer is the number of pivots, which stand in `pivots`.
+// The given checks become rows of two words, in echelon form. The answer is the number of pivots, which stand in `pivots`.
 fn eliminate(words: &[u64], n: usize, m: usize, rows: &mut [u64], pivots: &mut [usize]) -> usize
     requires { ⌜ (length (now words) ≡ 4096) × (n ≤ 120) × (m ≤ 120) × (length (now rows) ≡ 240) × (length (now pivots) ≡ 120) ⌝ }
-    ensures { λ r. ⌜ Reduction (lent 8 (now (words .entry))) (lent 2 (now (rows .exit))) n m everyBit n r (now (pivots .exit)) ⌝ }
+    ensures { λ r. ⌜ Echelon (lent 8 (now (words .entry))) (lent 2 (now (rows .exit))) n m n r (now (pivots .exit)) ⌝ }
 {
-    let all = unknown();
     copy(words, 8, 2, m, rows);
-    reduce(rows, 2, m, &all[..n], pivots)
+    to_echelon(rows, m, n, pivots)
 }
 
 // The rank of the given checks.

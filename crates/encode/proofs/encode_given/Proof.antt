@@ -1,5 +1,5 @@
 -- `encode_given` meets its contract. Assumes nothing.
-use Rattle.encode.proofs.Told.{is-rank, rising, codeword-read, given-length, given-byte, given-written}
+use Rattle.encode.proofs.Told.{is-rank, rising, opened, codeword-read, given-length, given-byte, given-written}
 use Rattle.word.proofs.Above.{byte-wrong, byte-right}
 use native.Mathlib.Omega.{arith}
 use mathlib.Core.Path.{_∙_}
@@ -48,12 +48,12 @@ slice-aggregate-fill-2 c = search needs
 fill-requires : tie.Need-fill-requires
 fill-requires c κs =
     let e = c .before .before .before .before .before .before .before .before .before .before .before .before .before .eliminate in
-    let k = c .before .before .before .before .before .place .kept .1 .1 .1 .0 in (
-      e .kept .1 .1 .1 .0,
-      omega (arith, e .ensures .form .few),
-      omega (arith, e .ensures .form .few, e .kept .1 .1 .1 .1 .0),
-      omega (arith, k),
-      rw k (rising _ _ _ _ _ _ (e .ensures)),
+    let p = c .before .before .before .before .before .place in
+    let k = p .kept .1 .1 .1 .0 in
+    let s = c .before .before .before .before .before .before .before .before .before .before .before .before .before .before .before .before .before .before .before in
+    let few = e .ensures .reduction .form .few in (
+      (e .kept .1 .1 .1 .0, omega (arith, few), omega (arith, few, e .kept .1 .1 .1 .1 .0), omega (arith, k)),
+      rw k (opened _ _ _ _ _ _ (e .ensures) (s .args .message .now) _ (p .ensures)),
     )
 
 same-length : tie.Need-same-length
@@ -68,7 +68,7 @@ returns-3 c =
     let p = c .before .before .before .before .before .before .before .before .place in
     let f = c .before .before .fill in
     given-written (s .args .words .now) (s .args .m) (s .args .message .now) (s .args .word .now) _ (is-rank _ _ _ _ _ _ R) (c .before .before .before .before .before .before .before .before .before .before .before .before .before .if1 .left) right _
-    (codeword-read _ _ _ _ _ _ R (s .args .message .now) right _ (p .ensures) _ (f .kept .1 .1 .1 .0 ∙ p .kept .1 .1 .1 .0) (rw (p .kept .1 .1 .1 .0) at (f .ensures)))
+    (codeword-read _ _ _ _ _ _ R (s .args .message .now) _ (p .ensures) right _ (f .kept .1 .1 .1 .0 ∙ p .kept .1 .1 .1 .0) (rw (p .kept .1 .1 .1 .0) at (f .ensures)))
 
 pub encode-given-spec : {M : Type 1} → statement M
 encode-given-spec =

@@ -1,3 +1,4 @@
 pub mod Other
 pub mod Read
 pub mod Judging
+pub mod AllBits

@@ -1,6 +1,6 @@
 -- What the reader of records answers: the kind of a word, and the ones of a check. Assumes nothing.
 use mathlib.Core.Path.{_≡_}
-use mathlib.Core.Bool.{true, false}
+use mathlib.Core.Bool.{Bool, true, false}
 use mathlib.Core.List.{List}
 use Prim.Native.Nat.{ℕ, zero, suc, _+_, _-_, _≤_, _<_}
 use lib.ListN.{getD, drop}
@@ -48,3 +48,11 @@ pub record BitsRead (n : ℕ) (source : List ℕ) (from count j : ℕ) : Type 0 
   pub low : ℕ
   pub rising : Rising n source from j low
   pub next : j < count → bitWord n low (getD source (from + j) 0) ≡ false
+
+-- If r is 0, each of `count` words from place `from` on is above the one before.
+pub record Rises (source : List ℕ) (from count r : ℕ) : Type 0 where
+  pub rises : r ≡ 0 → (i : ℕ) → i + 1 < count → getD source (from + i) 0 < getD source (from + (i + 1)) 0
+
+-- If r is true, they all are rising bits below n.
+pub record AllBits (n : ℕ) (source : List ℕ) (from count : ℕ) (r : Bool) : Type 0 where
+  pub all : r ≡ true → BitsRead n source from count count

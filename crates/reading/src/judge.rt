@@ -1,12 +1,13 @@
 // Judging a record: its form, n, m and the place behind its checks, or the place of a faulty word; and its end.
 use crate::words::Word;
 use crate::words::number_in;
+use crate::words::payload;
 use crate::words::read;
 use parity::Check;
 use parity::Form;
-ghost use Prim.Native.Nat.{_+_, _≤_};
+ghost use Prim.Native.Nat.{_+_, _≤_, _<_};
 ghost use lib.ListN.{length};
-ghost use Rattle.reading.specs.Read.{BitsRead};
+ghost use Rattle.reading.specs.Read.{BitsRead, Rises, AllBits};
 ghost use Rattle.reading.specs.Judge.{HeadRead, CheckRead, Reached, Judges, EndRead};
 
 // What comes of judging the first word and the checks of a record: `place` is the one behind them, or that of a faulty word.
@@ -40,8 +41,43 @@ pub enum Step {
     Stop(usize),
 }
 
-// How many of `count` words from place `from` on are bits below `n`, each above the one before.
-fn bits(source: &[u32], n: usize, from: usize, count: usize) -> usize
+// How many of `count` words from place `from` on are not above the word before. It has no branch, so that several are compared at once.
+fn falls(source: &[u32], from: usize, count: usize) -> u32
+    requires { ⌜ (from + count ≤ length (now source)) × (count < 256) ⌝ }
+    ensures { λ r. ⌜ Rises (now (source .entry)) from count r ⌝ }
+{
+    let mut wrong: u32 = 0;
+    for i in 1..count {
+        if source[from + i] <= source[from + i - 1] {
+            wrong += 1;
+        }
+    }
+    wrong
+}
+
+// Whether `count` words from place `from` on, one at least, are bits below `n`, each above the one before.
+fn all_bits(source: &[u32], n: usize, from: usize, count: usize) -> bool
+    requires { ⌜ (from + count ≤ length (now source)) × (count < 256) ⌝ }
+    ensures { λ r. ⌜ AllBits n (now (source .entry)) from count r ⌝ }
+{
+    if count == 0 {
+        return false;
+    }
+    if source[from] < 0x3000_0000 {
+        return false;
+    }
+    let last = source[from + count - 1];
+    if 0x3fff_ffff < last {
+        return false;
+    }
+    if n <= payload(last) {
+        return false;
+    }
+    falls(source, from, count) == 0
+}
+
+// How many of `count` words from place `from` on are bits below `n`, each above the one before: word by word.
+fn bits_singly(source: &[u32], n: usize, from: usize, count: usize) -> usize
     requires { ⌜ from + count ≤ length (now source) ⌝ }
     ensures { λ r. ⌜ BitsRead n (now (source .entry)) from count r ⌝ }
 {
@@ -59,6 +95,17 @@ fn bits(source: &[u32], n: usize, from: usize, count: usize) -> usize
         low = b + 1;
     }
     count
+}
+
+// The same. Where they all are, it is found without looking for the first that is not.
+fn bits(source: &[u32], n: usize, from: usize, count: usize) -> usize
+    requires { ⌜ (from + count ≤ length (now source)) × (count < 256) ⌝ }
+    ensures { λ r. ⌜ BitsRead n (now (source .entry)) from count r ⌝ }
+{
+    if all_bits(source, n, from, count) {
+        return count;
+    }
+    bits_singly(source, n, from, count)
 }
 
 // Judges check `c`, whose kind 2 word is at place `p`.

@@ -13,12 +13,12 @@ use lib.Seq.{getD-set-same, set-getD, set-set}
 use Rattle.parity.specs.Matrix.{Matrix, lent}
 use Rattle.parity.specs.Record.{payload, formOf, openWord, checked}
 use Rattle.parity.specs.declared.Form.{Form}
-use Rattle.parity.proofs.Matrix.Digits.{bit-zero}
+use Rattle.parity.proofs.Matrix.Digits.{bit-zero, one-shl}
 use Rattle.parity.proofs.Matrix.Lent.{lent-in, lent-out, raised-put}
 use Rattle.parity.proofs.Record.Reading.{readingAt, bits, opens, read-open, read-bit, right-more, right-open, right-more-bit, right-bit, right-done}
 use Rattle.reading.specs.Read.{puts}
 use Rattle.rows.specs.Zeros.{Zeroed}
-use Rattle.record.specs.Fill.{Payloads, Checks, Filled}
+use Rattle.record.specs.Fill.{Payloads, InWord, Parted, gathered, Checks, Filled}
 
 abbrev none : Matrix
 none c b = false
@@ -37,66 +37,62 @@ zeroed-none W ws Z = fun-ext (λ c. fun-ext (λ b. at c b))
           | no k ↦ lent-out W ws c b (omega arith)
         ]
 
--- j of the bits are put into row c of `old`; x, the row's word `hand`, is yet to be stored in `new`, and no later bit is below it
-pub record Held (W : ℕ) (source : List ℕ) (from count j c : ℕ) (old new : List ℕ) (at top x : ℕ) : Type 0 where
-  pub hand : ℕ
-  pub same : length new ≡ length old
-  pub inside : hand < W
-  pub place : at ≡ c * W + hand
-  pub end : top ≡ (hand + 1) * 64
-  pub later : (t : ℕ) → j ≤ t → t < count → hand * 64 ≤ payload (getD source (from + t) 0)
-  pub holds : lent W (set new at x) ≡ puts source c from j (lent W old)
+pub gathered-next : (source : List ℕ) (from i x y b : ℕ) → y ≡ gathered source from i x → b ≡ payload (getD source (from + i) 0)
+    → bitOr y (1 * 2 ^ (b % 64) % 2 ^ 64) ≡ gathered source from (i + 1) x
+unfolding gathered
+gathered-next source from i x y b e q = rw (add-one i, q, e, one-shl (payload (getD source (from + i) 0) % 64) (omega arith))
 
-pub held-none : (W : ℕ) (source : List ℕ) (from count c : ℕ) (ws : List ℕ) → 0 < W → Held W source from count 0 c ws ws (c * W) 64 (getD ws (c * W) 0)
+-- the bits of words that all are in one word of a row
+pub word-puts : (W : ℕ) (source : List ℕ) (from count i j c : ℕ) (ws : List ℕ) → InWord source from count i → j ≤ count → i < W → c * W + W ≤ length ws
+    → lent W (set ws (c * W + i) (gathered source from j (getD ws (c * W + i) 0))) ≡ puts source c from j (lent W ws)
+unfolding puts gathered
+word-puts W source from count i zero c ws B l k room = rw (set-getD ws (c * W + i) 0)
+word-puts W source from count i (suc j) c ws B l k room =
+    let at : ℕ = c * W + i in
+    let y : ℕ = gathered source from j (getD ws at 0) in
+    let b : ℕ = payload (getD source (from + j) 0) in
+    let q : b / 64 ≡ i = B .word j (omega arith) in
+    let e : c * W + b / 64 ≡ at = rw q in
+    let s = length-set ws at y in
+    let few : b < W * 64 = omega arith in
+    rw (← word-puts W source from count i j c ws B (omega arith) k room)
+    (rw (e, getD-set-same ws at y 0 (omega arith), set-set ws at y (bitOr y (2 ^ (b % 64)))) at (raised-put W (set ws at y) c b (rw e (omega arith)) few))
+
+-- the bits of i words, and then those of j more
+pub puts-more : (source : List ℕ) (c from i j : ℕ) (h : Matrix) → puts source c (from + i) j (puts source c from i h) ≡ puts source c from (i + j) h
 unfolding puts
-held-none W source from count c ws k = record {
-  hand = 0;
-  same = refl;
-  inside = k;
-  place = sym (add-zero (c * W));
-  end = refl;
-  later = λ t l m. omega arith;
-  holds = rw (set-getD ws (c * W) 0);
-}
+puts-more source c from i zero h = rw (add-zero i)
+puts-more source c from i (suc j) h = let e : from + i + j ≡ from + (i + j) = omega arith in rw (add-suc i j, e, puts-more source c from i j h)
 
-module _ (W : ℕ) (source : List ℕ) (from count j c : ℕ) (old new : List ℕ) (at top x : ℕ) (H : Held W source from count j c old new at top x)
-    (room : c * W + W ≤ length old) (P : Payloads source from count (W * 64)) (l : j < count) where
-  abbrev b : ℕ
-  b = payload (getD source (from + j) 0)
+-- counting the words whose bits are below 64, of those of which the bits rise
+pub part-none : (source : List ℕ) (from : ℕ) → Parted source from 0 0
+part-none source from = record { top = omega arith; low = λ j k. absurd (omega arith); high = λ j k l. absurd (omega arith) }
 
-  held-inside : at < length old
-  held-inside = omega (arith, H .place, H .inside)
+module _ (source : List ℕ) (from count N i r : ℕ) (P : Payloads source from count N) (k : i < count) (C : Parted source from i r) where
+  pub part-low : payload (getD source (from + i) 0) < 64 → Parted source from (i + 1) (r + 1)
+  part-low b = record {
+    top = omega (arith, C .top);
+    low = λ j l. elim (ℕ-discrete j i) [ yes q ↦ rw q b | no d ↦ omega (arith, P .rising j i (omega (arith, C .top)) k) ];
+    high = λ j l m. elim (decLt r i) [ yes q ↦ absurd (omega (arith, C .high r (omega arith) q, P .rising r i q k)) | no q ↦ absurd (omega arith) ];
+  }
 
-  put-place : c * W + b / 64 < length (set new at x)
-  put-place = let k = length-set new at x in omega (arith, H .same, P .below j l)
+  pub part-high : 64 ≤ payload (getD source (from + i) 0) → Parted source from (i + 1) r
+  part-high b = record {
+    top = omega (arith, C .top);
+    low = C .low;
+    high = λ j l m. elim (ℕ-discrete j i) [ yes q ↦ rw q b | no d ↦ C .high j l (omega arith) ];
+  }
 
-  -- a bit of the word in hand
-  pub held-same : b < top → Held W source from count (j + 1) c old new at top (bitOr x (2 ^ (b % 64)))
-  unfolding puts
-  held-same k =
-      let q : b / 64 ≡ H .hand = omega (arith, H .end, H .later j (omega arith) l) in
-      let e : c * W + b / 64 ≡ at = rw q (sym (H .place)) in
-      record {
-        hand = H .hand;
-        same = H .same;
-        inside = H .inside;
-        place = H .place;
-        end = H .end;
-        later = λ t i m. H .later t (omega arith) m;
-        holds = rw (add-one j, ← H .holds) (rw (e, getD-set-same new at x 0 (omega (arith, H .same, held-inside)), set-set new at x (bitOr x (2 ^ (b % 64)))) at (raised-put W (set new at x) c b put-place (P .below j l)));
-      }
+module _ (source : List ℕ) (from count r : ℕ) (P : Payloads source from count 128) (C : Parted source from count r) where
+  pub low-word : InWord source from r 0
+  low-word = record { inside = omega (arith, P .inside, C .top); word = λ j k. omega (arith, C .low j k) }
 
-  -- a bit of a later word
-  pub held-other : Held W source from count (j + 1) c old (set new at x) (c * W + b / 64) ((b / 64 + 1) * 64) (bitOr (getD (set new at x) (c * W + b / 64) 0) (2 ^ (b % 64)))
-  unfolding puts
-  held-other = record {
-    hand = b / 64;
-    same = length-set new at x ∙ H .same;
-    inside = omega (arith, P .below j l);
-    place = refl;
-    end = refl;
-    later = λ t i m. omega (arith, P .rising j t (omega arith) m);
-    holds = rw (add-one j, ← H .holds) (raised-put W (set new at x) c b put-place (P .below j l));
+  pub high-word : InWord source (from + r) (count - r) 1
+  high-word = record {
+    inside = omega (arith, P .inside, C .top);
+    word = λ j k.
+        let e : from + r + j ≡ from + (r + j) = omega arith in
+        rw e (omega (arith, C .high (r + j) (omega arith) (omega arith), P .below (r + j) (omega arith)));
   }
 
 -- the ones of a check of a record whose checks are right, j of them read
@@ -184,7 +180,7 @@ module _ (m : ℕ) (source : List ℕ) (p c : ℕ) (ws : List ℕ) (F : Filling 
       bits-in f n m source (p + 1) (suc c) (payload (getD source p 0) % 256) 0 0 (lent 8 ws) (F .behind) (F .place) (F .matrix) (omega (arith, filling-more))
       (rw (add-zero (payload (getD source p 0) % 256), add-one p) (sym (read-open f n m source p c (F .low) (lent 8 ws) filling-more l opened) ∙ F .rest))
 
-  pub filling-payloads : Payloads source (p + 1) (payload (getD source p 0) % 256) (8 * 64)
+  pub filling-payloads : Payloads source (p + 1) (payload (getD source p 0) % 256) 128
   filling-payloads = record { inside = omega (arith, all-in .inside); below = λ j k. omega (arith, all-in .below j k, F .few); rising = all-in .rising }
 
   pub filling-next : (new : List ℕ) → lent 8 new ≡ puts source c (p + 1) (payload (getD source p 0) % 256) (lent 8 ws)

@@ -2,7 +2,8 @@
 use mathlib.Core.Path.{_≡_}
 use mathlib.Core.Bool.{false}
 use mathlib.Core.List.{List}
-use Prim.Native.Nat.{ℕ, _+_, _%_, _≤_, _<_}
+use Prim.Native.Nat.{ℕ, zero, suc, _+_, _/_, _%_, _^_, _≤_, _<_}
+use lib.Bits.{bitOr}
 use lib.ListN.{getD, length, drop}
 use Rattle.parity.specs.Matrix.{Matrix, lent}
 use Rattle.parity.specs.Record.{payload, formOf, checked, reading}
@@ -14,6 +15,22 @@ pub record Payloads (source : List ℕ) (from count N : ℕ) : Type 0 where
   pub inside : from + count ≤ length source
   pub below : (j : ℕ) → j < count → payload (getD source (from + j) 0) < N
   pub rising : (i j : ℕ) → i < j → j < count → payload (getD source (from + i) 0) < payload (getD source (from + j) 0)
+
+-- they all are in word i of a row
+pub record InWord (source : List ℕ) (from count i : ℕ) : Type 0 where
+  pub inside : from + count ≤ length source
+  pub word : (j : ℕ) → j < count → payload (getD source (from + j) 0) / 64 ≡ i
+
+-- the first r of them are below 64, and the others are not
+pub record Parted (source : List ℕ) (from count r : ℕ) : Type 0 where
+  pub top : r ≤ count
+  pub low : (j : ℕ) → j < r → payload (getD source (from + j) 0) < 64
+  pub high : (j : ℕ) → r ≤ j → j < count → 64 ≤ payload (getD source (from + j) 0)
+
+-- the word x with the bits, modulo 64, of j words from place `from` on
+unfoldable pub gathered : List ℕ → ℕ → ℕ → ℕ → ℕ
+gathered source from zero x = x
+gathered source from (suc j) x = bitOr (gathered source from j x) (2 ^ (payload (getD source (from + j) 0) % 64))
 
 -- a record of m checks that are right
 pub record Checks (m : ℕ) (source : List ℕ) : Type 0 where

@@ -32,14 +32,15 @@ shared-slice-read-payload c = filling-more _ _ _ _ _ (c .before .before .loop .i
 payload-requires : tie.Need-payload-requires Inv-loop μ-loop
 payload-requires c κs = search needs
 
-add-fill-row : tie.Need-add-fill-row Inv-loop μ-loop
-add-fill-row c = let k = filling-more _ _ _ _ _ (c .before .before .before .loop .inv .2) (omega arith) in omega arith
+add-fill-check : tie.Need-add-fill-check Inv-loop μ-loop
+add-fill-check c = let k = filling-more _ _ _ _ _ (c .before .before .before .loop .inv .2) (omega arith) in omega arith
 
-fill-row-requires : tie.Need-fill-row-requires Inv-loop μ-loop
-fill-row-requires c κs =
+fill-check-requires : tie.Need-fill-check-requires Inv-loop μ-loop
+fill-check-requires c κs =
     let l = c .before .before .before .before .loop in (
       rw (c .before .payload .ensures) (filling-payloads _ _ _ _ _ (l .inv .2) (omega arith)),
-      (omega (arith, l .inv .2 .checks), omega arith),
+      omega arith,
+      omega (arith, l .inv .2 .checks),
     )
 
 add-p : tie.Need-add-p Inv-loop μ-loop
@@ -63,7 +64,7 @@ loop-less c = omega arith
 loop-again : tie.Need-loop-again Inv-loop μ-loop
 loop-again c =
     let l = c .before .before .before .before .before .before .before .loop in
-    let r = c .before .before .fill-row in
+    let r = c .before .before .fill-check in
     let e = c .before .before .before .before .payload .ensures in
     (omega arith, r .kept .1 .1 .1 .0 ∙ l .inv .1, rw e (filling-next _ _ _ _ _ (l .inv .2) (omega arith) _ (rw e at (r .ensures))))
 
@@ -87,8 +88,8 @@ fill-spec =
     mul-payload
     shared-slice-read-payload
     payload-requires
-    add-fill-row
-    fill-row-requires
+    add-fill-check
+    fill-check-requires
     add-p
     add-p-2
     add-c

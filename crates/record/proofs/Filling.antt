@@ -10,7 +10,7 @@ use native.Mathlib.Omega.{arith}
 use lib.Bits.{bitOr}
 use lib.ListN.{getD, length, set, length-set, drop, List·getD-eq-default}
 use lib.Seq.{getD-set-same, set-getD, set-set}
-use Rattle.parity.specs.Matrix.{Matrix, lent}
+use Rattle.parity.specs.Matrix.{Matrix, lent, put}
 use Rattle.parity.specs.Record.{payload, formOf, openWord, checked}
 use Rattle.parity.specs.declared.Form.{Form}
 use Rattle.parity.proofs.Matrix.Digits.{bit-zero, one-shl}
@@ -57,6 +57,12 @@ word-puts W source from count i (suc j) c ws B l k room =
     let few : b < W * 64 = omega arith in
     rw (← word-puts W source from count i j c ws B (omega arith) k room)
     (rw (e, getD-set-same ws at y 0 (omega arith), set-set ws at y (bitOr y (2 ^ (b % 64)))) at (raised-put W (set ws at y) c b (rw e (omega arith)) few))
+
+-- the bit of one word more
+pub puts-next : (source : List ℕ) (c from i : ℕ) (h g k : Matrix) (b : ℕ) → g ≡ puts source c from i h → b ≡ payload (getD source (from + i) 0) → k ≡ put c b true g
+    → k ≡ puts source c from (i + 1) h
+unfolding puts
+puts-next source c from i h g k b e q t = rw (add-one i, t, q, e)
 
 -- the bits of i words, and then those of j more
 pub puts-more : (source : List ℕ) (c from i j : ℕ) (h : Matrix) → puts source c (from + i) j (puts source c from i h) ≡ puts source c from (i + j) h

@@ -1,6 +1,7 @@
 // Filling the matrix's words from the checks of a record that were judged right.
 use reading::words::payload;
 use rows::clear;
+use rows::raise;
 use rows::wide;
 ghost use mathlib.Core.Path.{_≡_};
 ghost use Prim.Native.Nat.{_+_, _*_, _≤_, _<_};
@@ -43,14 +44,36 @@ fn fill_word(source: &[u32], from: usize, count: usize, words: &mut [u64], c: us
     words[c * 8 + i] = gather(source, from, count, words[c * 8 + i]);
 }
 
-// Puts the rising bits of `count` words from place `from` on into check `c`.
-fn fill_check(source: &[u32], from: usize, count: usize, words: &mut [u64], c: usize)
+// Puts the rising bits of `count` words from place `from` on into check `c`, word by word of the check.
+fn fill_many(source: &[u32], from: usize, count: usize, words: &mut [u64], c: usize)
     requires { ⌜ Payloads (now source) from count 128 × (count < 256) × (c * 8 + 8 ≤ length (now words)) ⌝ }
     ensures { λ r. ⌜ lent 8 (now (words .exit)) ≡ puts (now (source .entry)) c from count (lent 8 (now (words .entry))) ⌝ }
 {
     let low = wide(below(source, from, count));
     fill_word(source, from, low, words, c, 0);
     fill_word(source, from + low, count - low, words, c, 1);
+}
+
+// The same, bit by bit.
+fn fill_few(source: &[u32], from: usize, count: usize, words: &mut [u64], c: usize)
+    requires { ⌜ Payloads (now source) from count 128 × (c * 8 + 8 ≤ length (now words)) ⌝ }
+    ensures { λ r. ⌜ lent 8 (now (words .exit)) ≡ puts (now (source .entry)) c from count (lent 8 (now (words .entry))) ⌝ }
+{
+    for i in 0..count {
+        raise(words, 8, c, payload(source[from + i]));
+    }
+}
+
+// The same. Bit by bit is quicker where they are few.
+fn fill_check(source: &[u32], from: usize, count: usize, words: &mut [u64], c: usize)
+    requires { ⌜ Payloads (now source) from count 128 × (count < 256) × (c * 8 + 8 ≤ length (now words)) ⌝ }
+    ensures { λ r. ⌜ lent 8 (now (words .exit)) ≡ puts (now (source .entry)) c from count (lent 8 (now (words .entry))) ⌝ }
+{
+    if count < 16 {
+        fill_few(source, from, count, words, c);
+        return;
+    }
+    fill_many(source, from, count, words, c);
 }
 
 // The words of the matrix that the `m` checks of a record are.

@@ -1,4 +1,4 @@
--- `fill::fill_check` meets its contract. Assumes nothing.
+-- `fill::fill_many` meets its contract. Assumes nothing.
 use mathlib.Core.Path.{_≡_, ap, _∙_}
 use Prim.Native.Nat.{ℕ, _+_, _-_}
 use native.Mathlib.Omega.{arith}
@@ -6,8 +6,8 @@ use borrow.Author.Needs.{needs}
 use Rattle.parity.specs.Matrix.{lent}
 use Rattle.reading.specs.Read.{puts}
 use Rattle.record.proofs.Filling.{low-word, high-word, puts-more}
-use Rattle.record.proofs.fill.fill_check.Statement.{statement}
-use Rattle.record.proofs.fill.fill_check.Tie as tie
+use Rattle.record.proofs.fill.fill_many.Statement.{statement}
+use Rattle.record.proofs.fill.fill_many.Tie as tie
 
 below-requires : tie.Need-below-requires
 below-requires c κs = search needs
@@ -54,8 +54,8 @@ returns c =
     ∙ puts-more (s .args .source .now) (s .args .c) (s .args .from) low (s .args .count - low) h
     ∙ ap (λ (j : ℕ). puts (s .args .source .now) (s .args .c) (s .args .from) j h) e
 
-pub fill-check-spec : {M : Type 1} → statement M
-fill-check-spec =
+pub fill-many-spec : {M : Type 1} → statement M
+fill-many-spec =
     tie.close
     (tie.spec
     below-requires

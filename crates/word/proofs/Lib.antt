@@ -3,3 +3,4 @@ pub mod Making
 pub mod Told
 pub mod Lower
 pub mod Outcome
+pub mod Single

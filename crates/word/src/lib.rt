@@ -5,8 +5,8 @@ pub mod sets;
 
 use crate::added::write_word;
 use crate::bytes::first_above;
-use crate::sets::common;
 use crate::sets::is_odd;
+use crate::sets::is_single;
 use crate::sets::set_of;
 use matrix::Accepting;
 use parity::Check;
@@ -145,7 +145,7 @@ fn none_single(words: &[u64], checks: usize, set: &[u64]) -> bool
     ensures { λ r. ⌜ r ≡ stopping (lent 8 (now (words .entry))) 512 checks (lent 8 (now (set .entry)) 0) ⌝ }
 {
     for d in 0..checks {
-        if common(words, Check(d), set) == 1 {
+        if is_single(words, Check(d), set) {
             return false;
         }
     }

@@ -65,14 +65,6 @@ pub fn is_in(set: &[u64], b: Bit) -> bool
     rows::contains(set, 8, 0, b.0)
 }
 
-// How many bits of the set check `c` contains.
-pub fn common(words: &[u64], c: Check, set: &[u64]) -> usize
-    requires { ⌜ (length (now words) ≡ 4096) × (c .0 < 512) × (length (now set) ≡ 8) ⌝ }
-    ensures { λ r. ⌜ r ≡ inside (lent 8 (now (words .entry))) 512 (c .0) (lent 8 (now (set .entry)) 0) ⌝ }
-{
-    rows::common(words, c.0, set, 0, 8, 8)
-}
-
 // Whether check `c` contains an odd number of the set's bits.
 pub fn is_odd(words: &[u64], c: Check, set: &[u64]) -> bool
     requires { ⌜ (length (now words) ≡ 4096) × (c .0 < 512) × (length (now set) ≡ 8) ⌝ }
@@ -87,6 +79,28 @@ pub fn touches(words: &[u64], c: Check, set: &[u64]) -> bool
     ensures { λ r. ⌜ r ≡ not (eqb (inside (lent 8 (now (words .entry))) 512 (c .0) (lent 8 (now (set .entry)) 0)) 0) ⌝ }
 {
     rows::touches(words, c.0, set, 0, 8)
+}
+
+// Whether check `c` contains exactly one of the set's bits: which places of a word these bits take, over all words, and which of them twice.
+pub fn is_single(words: &[u64], c: Check, set: &[u64]) -> bool
+    requires { ⌜ (length (now words) ≡ 4096) × (c .0 < 512) × (length (now set) ≡ 8) ⌝ }
+    ensures { λ r. ⌜ r ≡ eqb (inside (lent 8 (now (words .entry))) 512 (c .0) (lent 8 (now (set .entry)) 0)) 1 ⌝ }
+{
+    let d = c.0;
+    let mut taken: u64 = 0;
+    let mut twice: u64 = 0;
+    for i in 0..8 {
+        let x = words[d * 8 + i] & set[i];
+        twice = twice | (taken & x);
+        taken = taken | x;
+    }
+    if twice != 0 {
+        return false;
+    }
+    if taken == 0 {
+        return false;
+    }
+    taken & (taken - 1) == 0
 }
 
 // How many of the bits below `bits` the set has.

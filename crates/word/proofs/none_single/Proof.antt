@@ -4,7 +4,6 @@ use mathlib.Core.Bool.{true}
 use Prim.Native.Nat.{_-_, _≤_}
 use native.Mathlib.Omega.{arith}
 use borrow.Author.Needs.{needs}
-use borrow.Author.Tests.{ne-eqb}
 use Rattle.parity.specs.Finite.{all}
 use Rattle.parity.specs.Matrix.{lent}
 use Rattle.parity.specs.Words.{stopping}
@@ -22,14 +21,14 @@ loop-holds : tie.Need-loop-holds Inv-loop μ-loop
 unfolding stopping all
 loop-holds c = (omega arith, refl)
 
-common-requires : tie.Need-common-requires Inv-loop μ-loop
-common-requires c κs = search needs
+is-single-requires : tie.Need-is-single-requires Inv-loop μ-loop
+is-single-requires c κs = search needs
 
 returns : tie.Need-returns Inv-loop μ-loop
 unfolding stopping
 returns c = let s = c .before .before .before .before .before .before in
     let l = c .before .before .before .loop in
-    sym (all-false (s .args .checks) _ (l .d) (omega arith) (rw (← c .before .common .ensures, c .if1 .taken)))
+    sym (all-false (s .args .checks) _ (l .d) (omega arith) (rw (← c .before .is-single .ensures, c .if1 .taken)))
 
 add-d : tie.Need-add-d Inv-loop μ-loop
 add-d c = omega arith
@@ -40,7 +39,7 @@ loop-less c = omega arith
 loop-again : tie.Need-loop-again Inv-loop μ-loop
 unfolding stopping
 loop-again c = let l = c .before .before .before .loop in
-    (omega arith, all-more (l .d) _ (l .inv .1) (rw (← c .before .common .ensures, ne-eqb _ _ (c .if1 .left))))
+    (omega arith, all-more (l .d) _ (l .inv .1) (rw (← c .before .is-single .ensures, c .if1 .left)))
 
 returns-2 : tie.Need-returns-2 Inv-loop μ-loop
 returns-2 c = let e : c .before .loop .d ≡ c .before .before .before .before .args .checks = omega arith in sym (rw e at (c .before .loop .inv .1))
@@ -52,7 +51,7 @@ none-single-spec =
     Inv-loop
     μ-loop
     loop-holds
-    common-requires
+    is-single-requires
     returns
     add-d
     loop-less

@@ -41,9 +41,10 @@ module _ (h : Matrix) (M : ℕ) (w : List ℕ) where
         rw (all-of (length w) (λ b. leb (byteOf w b) 1) (λ b k. le-leb (byteOf w b) 1 (right-bytes 1 w .0 e b k)))
         (all-cong M (λ c k. ap (λ a. eqb (a % 2) 0) (set-inside W h c w 1 r S l)))
 
-    pub stopping-is : stopping h (W * 64) M (lent W r 0) ≡ stopping h (length w) M (isOne (byteOf w))
-    unfolding stopping
-    stopping-is = all-cong M (λ c k. ap (λ a. not (eqb a 1)) (set-inside W h c w 1 r S l))
+  -- among so many bits that all bytes are
+  pub stopping-is : (W : ℕ) (r : List ℕ) → SetOf W w 1 r → (N : ℕ) → length w ≤ N → stopping h N M (lent W r 0) ≡ stopping h (length w) M (isOne (byteOf w))
+  unfolding stopping
+  stopping-is W r S N l = all-cong M (λ c k. ap (λ a. not (eqb a 1)) (inside-below h N (length w) c (lent W r 0) (λ b. eqb (byteOf w b) 1) l (S .at)))
 
 module _ (ws : List ℕ) (n m k : ℕ) (w : List ℕ) (top : ℕ) where
   -- what causes 1 to 4, 10 and 11 leave

@@ -11,8 +11,9 @@ use crate::sets::set_of;
 use matrix::Accepting;
 use parity::Check;
 use parity::Refusal;
+use rows::words_of;
 ghost use mathlib.Core.Path.{_≡_};
-ghost use Prim.Native.Nat.{_<_, _≤_};
+ghost use Prim.Native.Nat.{_*_, _<_, _≤_};
 ghost use lib.ListN.{length};
 ghost use Rattle.parity.specs.Matrix.{lent};
 ghost use Rattle.parity.specs.Words.{isOne, evenChecks, codeword, stopping};
@@ -139,26 +140,30 @@ pub fn extend(
     }
 }
 
-// Whether none of the first `checks` checks contains exactly one of the set's bits.
-fn none_single(words: &[u64], checks: usize, set: &[u64]) -> bool
-    requires { ⌜ (length (now words) ≡ 4096) × (checks ≤ 512) × (length (now set) ≡ 8) ⌝ }
-    ensures { λ r. ⌜ r ≡ stopping (lent 8 (now (words .entry))) 512 checks (lent 8 (now (set .entry)) 0) ⌝ }
+// Whether none of the first `checks` checks contains exactly one of the set's bits in its first `used` words.
+fn none_single(words: &[u64], used: usize, checks: usize, set: &[u64]) -> bool
+    requires { ⌜ (length (now words) ≡ 4096) × (checks ≤ 512) × (length (now set) ≡ 8) × (used ≤ 8) ⌝ }
+    ensures { λ r. ⌜ r ≡ stopping (lent 8 (now (words .entry))) (used * 64) checks (lent 8 (now (set .entry)) 0) ⌝ }
 {
     for d in 0..checks {
-        if is_single(words, Check(d), set) {
+        if is_single(words, used, Check(d), set) {
             return false;
         }
     }
     true
 }
 
-// Whether the ones of the bytes are a stopping set of the first `checks` checks.
+// Whether the ones of the bytes are a stopping set of the first `checks` checks. Where all words are in use, their number is known beforehand.
 fn stops(words: &[u64], checks: usize, bytes: &[u8]) -> bool
     requires { ⌜ (length (now words) ≡ 4096) × (checks ≤ 512) × (length (now bytes) ≤ 512) ⌝ }
     ensures { λ r. ⌜ r ≡ stopping (lent 8 (now (words .entry))) (length (now (bytes .entry))) checks (isOne (byteOf (now (bytes .entry)))) ⌝ }
 {
     let set = set_of(bytes, 1);
-    none_single(words, checks, &set)
+    let used = words_of(bytes.len());
+    if used == 8 {
+        return none_single(words, 8, checks, &set);
+    }
+    none_single(words, used, checks, &set)
 }
 
 // Tests a set of bits, given as bytes of 0 or 1: yes exactly for stopping sets.

@@ -81,15 +81,16 @@ pub fn touches(words: &[u64], c: Check, set: &[u64]) -> bool
     rows::touches(words, c.0, set, 0, 8)
 }
 
-// Whether check `c` contains exactly one of the set's bits: which places of a word these bits take, over all words, and which of them twice.
-pub fn is_single(words: &[u64], c: Check, set: &[u64]) -> bool
-    requires { ⌜ (length (now words) ≡ 4096) × (c .0 < 512) × (length (now set) ≡ 8) ⌝ }
-    ensures { λ r. ⌜ r ≡ eqb (inside (lent 8 (now (words .entry))) 512 (c .0) (lent 8 (now (set .entry)) 0)) 1 ⌝ }
+// Whether check `c` contains exactly one of the set's bits in its first `used` words: which places of a word these bits take, and which of
+// them twice.
+pub fn is_single(words: &[u64], used: usize, c: Check, set: &[u64]) -> bool
+    requires { ⌜ (length (now words) ≡ 4096) × (c .0 < 512) × (length (now set) ≡ 8) × (used ≤ 8) ⌝ }
+    ensures { λ r. ⌜ r ≡ eqb (inside (lent 8 (now (words .entry))) (used * 64) (c .0) (lent 8 (now (set .entry)) 0)) 1 ⌝ }
 {
     let d = c.0;
     let mut taken: u64 = 0;
     let mut twice: u64 = 0;
-    for i in 0..8 {
+    for i in 0..used {
         let x = words[d * 8 + i] & set[i];
         twice = twice | (taken & x);
         taken = taken | x;

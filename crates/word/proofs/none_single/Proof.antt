@@ -1,7 +1,7 @@
 -- `none_single` meets its contract. Assumes nothing.
 use mathlib.Core.Path.{_≡_, refl, sym}
 use mathlib.Core.Bool.{true}
-use Prim.Native.Nat.{_-_, _≤_}
+use Prim.Native.Nat.{_*_, _-_, _≤_}
 use native.Mathlib.Omega.{arith}
 use borrow.Author.Needs.{needs}
 use Rattle.parity.specs.Finite.{all}
@@ -12,10 +12,10 @@ use Rattle.word.proofs.none_single.Statement.{statement}
 use Rattle.word.proofs.none_single.Tie as tie
 
 abbrev Inv-loop : tie.InvT-loop
-Inv-loop words checks set d₀ d = (d ≤ checks) × (stopping (lent 8 words) 512 d (lent 8 set 0) ≡ true)
+Inv-loop words used checks set d₀ d = (d ≤ checks) × (stopping (lent 8 words) (used * 64) d (lent 8 set 0) ≡ true)
 
 abbrev μ-loop : tie.MeasureT-loop
-μ-loop words checks set d₀ d = checks - d
+μ-loop words used checks set d₀ d = checks - d
 
 loop-holds : tie.Need-loop-holds Inv-loop μ-loop
 unfolding stopping all

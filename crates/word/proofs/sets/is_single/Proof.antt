@@ -14,10 +14,10 @@ use Rattle.word.proofs.sets.is_single.Statement.{statement}
 use Rattle.word.proofs.sets.is_single.Tie as tie
 
 abbrev Inv-loop : tie.InvT-loop
-Inv-loop words set d taken₀ twice₀ i₀ taken twice i = (i ≤ 8) × Seen (inside (lent 8 words) (i * 64) d (lent 8 set 0)) taken twice
+Inv-loop words used set d taken₀ twice₀ i₀ taken twice i = (i ≤ used) × Seen (inside (lent 8 words) (i * 64) d (lent 8 set 0)) taken twice
 
 abbrev μ-loop : tie.MeasureT-loop
-μ-loop words set d taken₀ twice₀ i₀ taken twice i = 8 - i
+μ-loop words used set d taken₀ twice₀ i₀ taken twice i = used - i
 
 loop-holds : tie.Need-loop-holds Inv-loop μ-loop
 unfolding inside count sum
@@ -56,12 +56,12 @@ loop-again c = let l = c .before .before .before .loop in
 
 returns : tie.Need-returns Inv-loop μ-loop
 returns c = let l = c .before .before .loop in
-    let e : l .i ≡ 8 = omega arith in
+    let e : l .i ≡ c .before .before .before .args .used = omega arith in
     seen-twice _ _ _ (rw e at (l .inv .1)) (c .if1 .taken)
 
 returns-2 : tie.Need-returns-2 Inv-loop μ-loop
 returns-2 c = let l = c .before .before .before .loop in
-    let e : l .i ≡ 8 = omega arith in
+    let e : l .i ≡ c .before .before .before .before .args .used = omega arith in
     seen-nothing _ _ _ (rw e at (l .inv .1)) (c .before .if1 .left) (c .if2 .taken)
 
 sub-result : tie.Need-sub-result Inv-loop μ-loop
@@ -69,7 +69,7 @@ sub-result c = omega (arith, c .if2 .left)
 
 returns-3 : tie.Need-returns-3 Inv-loop μ-loop
 returns-3 c = let l = c .before .before .before .loop in
-    let e : l .i ≡ 8 = omega arith in
+    let e : l .i ≡ c .before .before .before .before .args .used = omega arith in
     seen-rest _ _ _ (rw e at (l .inv .1)) (c .before .if1 .left) (c .if2 .left)
 
 pub is-single-spec : {M : Type 1} → statement M

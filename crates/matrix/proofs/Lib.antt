@@ -1,3 +1,5 @@
 pub mod Masks
 pub mod Three
-pub mod Alone
+pub mod Apart
+pub mod Pairs
+pub mod Passing

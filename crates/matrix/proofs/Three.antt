@@ -1,4 +1,4 @@
--- Rule A for one added check of T bits, from its weight, its two lowest bits and its column words. Assumes nothing.
+-- Rule A for one added check, from its bits one after the other. Assumes nothing.
 use mathlib.Core.Path.{_≡_, refl, sym, ap, _∙_}
 use mathlib.Core.Bool.{Bool, true, false, not, _&&_, _||_, true≢false, false≢true}
 use Prim.Native.Nat.{ℕ, suc, _+_, _≤_, _<_}
@@ -9,11 +9,11 @@ use borrow.Author.Tests.{eq-eqb, ne-eqb, not-true}
 use Rattle.parity.specs.Finite.{sum, count}
 use Rattle.parity.specs.Matrix.{Matrix, noOther, ruleAt}
 use Rattle.parity.proofs.Finite.Sums.{is-true, is-false, is, all-at, all-of, count-suc, count-mono, count-end}
-use Rattle.parity.proofs.Matrix.Rule.{rule, alone-share, share-alone, Place, first, second, new}
+use Rattle.parity.proofs.Matrix.Rule.{Rule, rule, alone-share, share-alone, Place, first, second, new}
 use Rattle.rows.specs.Rows.{NextOne}
-use Rattle.matrix.specs.Three.{two, OnlyIn}
+use Rattle.matrix.specs.Three.{two, OnlyIn, LastOne, Three}
 
-two-false : (x y w : Bool) → (x && y) || ((x || y) && w) ≡ false → (x && y ≡ false) × (x && w ≡ false) × (y && w ≡ false)
+pub two-false : (x y w : Bool) → (x && y) || ((x || y) && w) ≡ false → (x && y ≡ false) × (x && w ≡ false) × (y && w ≡ false)
 two-false true true w e = absurd (true≢false e)
 two-false true false true e = absurd (true≢false e)
 two-false true false false e = (refl, refl, refl)
@@ -21,7 +21,7 @@ two-false false true true e = absurd (true≢false e)
 two-false false true false e = (refl, refl, refl)
 two-false false false w e = (refl, refl, refl)
 
-two-none : (x y w : Bool) → x && y ≡ false → x && w ≡ false → y && w ≡ false → (x && y) || ((x || y) && w) ≡ false
+pub two-none : (x y w : Bool) → x && y ≡ false → x && w ≡ false → y && w ≡ false → (x && y) || ((x || y) && w) ≡ false
 two-none true true w e f g = absurd (true≢false e)
 two-none true false true e f g = absurd (true≢false f)
 two-none true false false e f g = refl
@@ -29,165 +29,191 @@ two-none false true true e f g = absurd (true≢false g)
 two-none false true false e f g = refl
 two-none false false w e f g = refl
 
-module _ (T : ℕ) (h : Matrix) (n m k j : ℕ) (jk : j < k) (end : (b : ℕ) → n + k ≤ b → h (m + j) b ≡ false) (few : n + k ≤ T) where
-  total : count T (h (m + j)) ≡ count (n + k) (h (m + j))
-  total = count-end (n + k) T (h (m + j)) few (λ b l k. end b l)
+-- a bit of the check is one of the three
+pub place-of : (h : Matrix) (c x y z : ℕ) → Three h c x y z → (b : ℕ) → h c b ≡ true → Place x y z b
+place-of h c x y z T b e =
+    elim (ℕ-discrete b x) [
+      | yes q ↦ first q
+      | no dx ↦ elim (ℕ-discrete b y) [
+        | yes q ↦ second q
+        | no dy ↦ elim (ℕ-discrete b z) [ yes q ↦ new q | no dz ↦ absurd (false≢true (sym (T .others b dx dy dz) ∙ e)) ]
+      ]
+    ]
 
-  -- another weight than three
-  pub not-three : (count T (h (m + j)) ≡ 3 → ⊥) → ruleAt h n m k j ≡ false
-  not-three d = elim (is (ruleAt h n m k j)) [ is-false q ↦ q | is-true q ↦ absurd (d (total ∙ rule h n m k j jk .0 q .all3)) ]
+-- the lowest bits, by the search for the next one
+module _ (T : ℕ) (h : Matrix) (n m k j : ℕ) (jk : j < k) (few : n + k ≤ T) (x : ℕ) (A : NextOne T (h (m + j)) 0 x) where
+  none-below : count x (h (m + j)) ≡ 0
+  none-below = count-end 0 x (h (m + j)) (omega arith) (λ c l k. A .none c l k) ∙ unfold count sum in refl
 
-  -- its own bit is missing
-  pub not-own : h (m + j) (n + j) ≡ false → ruleAt h n m k j ≡ false
-  not-own d = elim (is (ruleAt h n m k j)) [ is-false q ↦ q | is-true q ↦ absurd (true≢false (sym (rule h n m k j jk .0 q .own) ∙ d)) ]
+  -- no bit is below its own
+  pub no-lower : n + j ≤ x → ruleAt h n m k j ≡ false
+  no-lower l =
+      elim (is (ruleAt h n m k j)) [
+        | is-false q ↦ q
+        | is-true q ↦ absurd (omega (arith, rule h n m k j jk .0 q .two, count-mono (n + j) x (h (m + j)) l, none-below))
+      ]
 
-  module _ (a b : ℕ) (A : NextOne T (h (m + j)) 0 a) (three : count T (h (m + j)) ≡ 3) where
-    -- the lowest bit
-    first-count : count a (h (m + j)) ≡ 0
-    first-count = count-end 0 a (h (m + j)) (omega arith) (λ c l k. A .none c l k) ∙ unfold count sum in refl
+  module _ (xz : x < n + j) (y : ℕ) (B : NextOne T (h (m + j)) (x + 1) y) where
+    one-below : count y (h (m + j)) ≡ 1
+    one-below =
+        count-end (x + 1) y (h (m + j)) (B .least) (λ c l k. B .none c l k)
+        ∙ rw (add-one x, count-suc x (h (m + j)), A .found (omega arith)) (omega (arith, none-below))
 
-    pub first-below : a < T
-    first-below =
-        elim (decLt a T) [
-          | yes l ↦ l
-          | no l ↦ let e : a ≡ T = omega (arith, A .top) in absurd (omega (arith, rw e at first-count, three))
+    -- only one is
+    pub one-lower : n + j ≤ y → ruleAt h n m k j ≡ false
+    one-lower l =
+        elim (is (ruleAt h n m k j)) [
+          | is-false q ↦ q
+          | is-true q ↦ absurd (omega (arith, rule h n m k j jk .0 q .two, count-mono (n + j) y (h (m + j)) l, one-below))
         ]
 
-    module _ (B : NextOne T (h (m + j)) (a + 1) b) where
-      -- and the one after it
-      first-one : count (a + 1) (h (m + j)) ≡ 1
-      first-one = rw (add-one a, count-suc a (h (m + j)), A .found first-below) (omega (arith, first-count))
+    module _ (yz : y < n + j) where
+      two-below : count (suc y) (h (m + j)) ≡ 2
+      two-below = rw (count-suc y (h (m + j)), B .found (omega arith)) (omega (arith, one-below))
 
-      second-count : count b (h (m + j)) ≡ 1
-      second-count = count-end (a + 1) b (h (m + j)) (B .least) (λ c l k. B .none c l k) ∙ first-one
+      -- and a third one
+      third : (b : ℕ) → suc y ≤ b → (N : ℕ) → b < N → h (m + j) b ≡ true → 3 ≤ count N (h (m + j))
+      third b l N bN e = omega (arith, count-mono (suc y) b (h (m + j)) l, two-below, rw e at (count-suc b (h (m + j))), count-mono (suc b) N (h (m + j)) bN)
 
-      second-below : b < T
-      second-below =
-          elim (decLt b T) [
-            | yes l ↦ l
-            | no l ↦ let e : b ≡ T = omega (arith, B .top) in absurd (omega (arith, rw e at second-count, three))
-          ]
-
-      second-one : count (suc b) (h (m + j)) ≡ 2
-      second-one = rw (count-suc b (h (m + j)), B .found second-below) (omega (arith, second-count))
-
-      -- fewer than two bits are below its own
-      pub not-lower : n + j ≤ b → ruleAt h n m k j ≡ false
-      not-lower l =
-          elim (is (ruleAt h n m k j)) [
-            | is-false q ↦ q
-            | is-true q ↦ absurd (omega (arith, rule h n m k j jk .0 q .two, count-mono (n + j) b (h (m + j)) l, second-count))
-          ]
-
-      module _ (l : b < n + j) (own : h (m + j) (n + j) ≡ true) where
-        lower-two : count (n + j) (h (m + j)) ≡ 2
-        lower-two =
-            omega (
-              arith,
-              count-mono (suc b) (n + j) (h (m + j)) l,
-              second-one,
-              rw own at (count-suc (n + j) (h (m + j))),
-              count-mono (suc (n + j)) T (h (m + j)) (omega arith),
-              three,
-            )
-
-        -- the three are all
-        these : (x : ℕ) → x < T → h (m + j) x ≡ true → Place a b (n + j) x
-        these x xl e =
-            elim (ℕ-discrete x a) [
-              | yes q ↦ first q
-              | no xa ↦ elim (ℕ-discrete x b) [
-                | yes q ↦ second q
-                | no xb ↦ elim (ℕ-discrete x (n + j)) [
-                  | yes q ↦ new q
-                  | no xz ↦ absurd (elsewhere xa xb xz)
+      -- by the rule its own bit is the last
+      pub rule-last : ((b : ℕ) → n + k ≤ b → h (m + j) b ≡ false) → ruleAt h n m k j ≡ true → LastOne (h (m + j)) (y + 1) (n + j)
+      rule-last end q =
+          let R = rule h n m k j jk .0 q in
+          record {
+            here = R .own;
+            none = λ b l d. elim (is (h (m + j) b)) [
+              | is-false e ↦ e
+              | is-true e ↦ elim (decLt b (n + j)) [
+                | yes v ↦ absurd (omega (arith, third b (omega arith) (n + j) v e, R .two))
+                | no v ↦ elim (decLt b (n + k)) [
+                  | yes w ↦ absurd (omega (
+                    arith,
+                    R .two,
+                    R .all3,
+                    rw (R .own) at (count-suc (n + j) (h (m + j))),
+                    count-mono (suc (n + j)) b (h (m + j)) (omega arith),
+                    rw e at (count-suc b (h (m + j))),
+                    count-mono (suc b) (n + k) (h (m + j)) w,
+                  ))
+                  | no w ↦ end b (omega arith)
                 ]
               ]
+            ];
+          }
+
+      pub last-three : LastOne (h (m + j)) (y + 1) (n + j) → Three h (m + j) x y (n + j)
+      last-three L = record {
+        xy = omega (arith, B .least);
+        yz = yz;
+        in-x = A .found (omega arith);
+        in-y = B .found (omega arith);
+        in-z = L .here;
+        others = λ b dx dy dz. elim (decLt b x) [
+          | yes l ↦ A .none b (omega arith) l
+          | no l ↦ elim (decLt b y) [
+            | yes u ↦ B .none b (omega arith) u
+            | no u ↦ L .none b (omega arith) dz
+          ]
+        ];
+      }
+
+-- an added check of three bits
+module _ (h : Matrix) (n m k j : ℕ) (jk : j < k) (x y : ℕ) (T : Three h (m + j) x y (n + j)) where
+  up-to-x : count x (h (m + j)) ≡ 0
+  up-to-x = count-end 0 x (h (m + j)) (omega arith) (λ b l u. T .others b (λ q. omega arith) (λ q. omega (arith, T .xy)) (λ q. omega (arith, T .xy, T .yz))) ∙ unfold count sum in refl
+
+  up-to-y : count y (h (m + j)) ≡ 1
+  up-to-y =
+      count-end (suc x) y (h (m + j)) (T .xy) (λ b l u. T .others b (λ q. omega arith) (λ q. omega arith) (λ q. omega (arith, T .yz)))
+      ∙ rw (count-suc x (h (m + j)), T .in-x) (omega (arith, up-to-x))
+
+  lower-two : count (n + j) (h (m + j)) ≡ 2
+  lower-two =
+      count-end (suc y) (n + j) (h (m + j)) (T .yz) (λ b l u. T .others b (λ q. omega (arith, T .xy)) (λ q. omega arith) (λ q. omega arith))
+      ∙ rw (count-suc y (h (m + j)), T .in-y) (omega (arith, up-to-y))
+
+  all-three : count (n + k) (h (m + j)) ≡ 3
+  all-three =
+      count-end (suc (n + j)) (n + k) (h (m + j)) (omega arith) (λ b l u. T .others b (λ q. omega (arith, T .xy, T .yz)) (λ q. omega (arith, T .yz)) (λ q. omega arith))
+      ∙ rw (count-suc (n + j) (h (m + j)), T .in-z) (omega (arith, lower-two))
+
+  -- two bits of which no other check has both
+  pair-alone : OnlyIn h (m + k) (m + j) x y (n + j) → (p q : ℕ) → p < q → h (m + j) p ≡ true → h (m + j) q ≡ true → noOther h (m + k) (m + j) p q ≡ true
+  unfolding noOther
+  pair-alone O p q pq hp hq = all-of (m + k) _ (λ d dl. elim (ℕ-discrete d (m + j)) [
+    | yes r ↦ rw (eq-eqb d (m + j) r)
+    | no r ↦ rw (ne-eqb d (m + j) r) (ap not (apart d (O .only d dl r)))
+  ])
+    where
+      apart : (d : ℕ) → two h x y (n + j) d ≡ false → (h d p && h d q) ≡ false
+      apart d e =
+          let (ab, az, bz) = two-false (h d x) (h d y) (h d (n + j)) e in
+          elim (place-of h (m + j) x y (n + j) T p hp) [
+            | first s ↦ elim (place-of h (m + j) x y (n + j) T q hq) [
+              | first t ↦ absurd (omega arith)
+              | second t ↦ rw (s, t) ab
+              | new t ↦ rw (s, t) az
             ]
-          where
-            elsewhere : (x ≡ a → ⊥) → (x ≡ b → ⊥) → (x ≡ n + j → ⊥) → ⊥
-            elsewhere xa xb xz =
-                elim (decLt x a) [
-                  | yes t ↦ false≢true (sym (A .none x (omega arith) t) ∙ e)
-                  | no t ↦ elim (decLt x b) [
-                    | yes u ↦ false≢true (sym (B .none x (omega arith) u) ∙ e)
-                    | no u ↦ elim (decLt x (n + j)) [
-                      | yes v ↦ omega (
-                        arith,
-                        count-mono (suc b) x (h (m + j)) (omega arith),
-                        rw e at (count-suc x (h (m + j))),
-                        count-mono (suc x) (n + j) (h (m + j)) v,
-                        second-one,
-                        lower-two,
-                      )
-                      | no v ↦ omega (
-                        arith,
-                        count-mono (suc (n + j)) x (h (m + j)) (omega arith),
-                        rw own at (count-suc (n + j) (h (m + j))),
-                        rw e at (count-suc x (h (m + j))),
-                        count-mono (suc x) T (h (m + j)) xl,
-                        lower-two,
-                        three,
-                      )
-                    ]
-                  ]
-                ]
+            | second s ↦ elim (place-of h (m + j) x y (n + j) T q hq) [
+              | first t ↦ absurd (omega (arith, T .xy))
+              | second t ↦ absurd (omega arith)
+              | new t ↦ rw (s, t) bz
+            ]
+            | new s ↦ elim (place-of h (m + j) x y (n + j) T q hq) [
+              | first t ↦ absurd (omega (arith, T .xy, T .yz))
+              | second t ↦ absurd (omega (arith, T .yz))
+              | new t ↦ absurd (omega arith)
+            ]
+          ]
 
-        in-a : h (m + j) a ≡ true
-        in-a = A .found first-below
+  -- The rule holds exactly if no other check contains two of the three.
+  pub three-rule : OnlyIn h (m + k) (m + j) x y (n + j) → ruleAt h n m k j ≡ true
+  three-rule O = rule h n m k j jk .1 record {
+    own = T .in-z;
+    two = lower-two;
+    all3 = all-three;
+    alone = λ p q pq ql hp hq. alone-share h (m + k) (m + j) p q (omega arith) hp hq (pair-alone O p q pq hp hq);
+  }
 
-        in-b : h (m + j) b ≡ true
-        in-b = B .found second-below
+  pub rule-three : ruleAt h n m k j ≡ true → OnlyIn h (m + k) (m + j) x y (n + j)
+  unfolding noOther
+  rule-three e =
+      let R = rule h n m k j jk .0 e in
+      let ab = share-alone h (m + k) (m + j) x y (omega arith) (T .in-x) (T .in-y) (R .alone x y (T .xy) (omega (arith, T .yz)) (T .in-x) (T .in-y)) in
+      let az = share-alone h (m + k) (m + j) x (n + j) (omega arith) (T .in-x) (T .in-z) (R .alone x (n + j) (omega (arith, T .xy, T .yz)) (omega arith) (T .in-x) (T .in-z)) in
+      let bz = share-alone h (m + k) (m + j) y (n + j) (omega arith) (T .in-y) (T .in-z) (R .alone y (n + j) (T .yz) (omega arith) (T .in-y) (T .in-z)) in
+      record {
+        only = λ d dl r. two-none (h d x) (h d y) (h d (n + j)) (other d dl r x y ab) (other d dl r x (n + j) az) (other d dl r y (n + j) bz);
+      }
+    where
+      other : (d : ℕ) → d < m + k → (d ≡ m + j → ⊥) → (p q : ℕ) → noOther h (m + k) (m + j) p q ≡ true → (h d p && h d q) ≡ false
+      other d dl r p q t = not-true (h d p && h d q) (rw (ne-eqb d (m + j) r) at (all-at (m + k) _ (unfold noOther in t) d dl))
 
-        -- two bits of which no other check has both
-        pub pair-alone : OnlyIn h (m + k) (m + j) a b (n + j) → (p q : ℕ) → p < q → h (m + j) p ≡ true → h (m + j) q ≡ true → p < T → q < T
-            → noOther h (m + k) (m + j) p q ≡ true
-        unfolding noOther
-        pair-alone O p q pq hp hq pl ql = all-of (m + k) _ (λ d dl. elim (ℕ-discrete d (m + j)) [
-          | yes r ↦ rw (eq-eqb d (m + j) r)
-          | no r ↦ rw (ne-eqb d (m + j) r) (ap not (apart d (O .only d dl r)))
-        ])
-          where
-            apart : (d : ℕ) → two h a b (n + j) d ≡ false → (h d p && h d q) ≡ false
-            apart d e =
-                let (ab, az, bz) = two-false (h d a) (h d b) (h d (n + j)) e in
-                elim (these p pl hp) [
-                  | first x ↦ elim (these q ql hq) [
-                    | first y ↦ absurd (omega arith)
-                    | second y ↦ rw (x, y) ab
-                    | new y ↦ rw (x, y) az
-                  ]
-                  | second x ↦ elim (these q ql hq) [
-                    | first y ↦ absurd (omega (arith, B .least))
-                    | second y ↦ absurd (omega arith)
-                    | new y ↦ rw (x, y) bz
-                  ]
-                  | new x ↦ elim (these q ql hq) [
-                    | first y ↦ absurd (omega (arith, B .least))
-                    | second y ↦ absurd (omega arith)
-                    | new y ↦ absurd (omega arith)
-                  ]
-                ]
+-- The last one of a row of T bits, by two searches.
+module _ (T : ℕ) (row : ℕ → Bool) (from z : ℕ) (fz : from ≤ z) (zT : z < T) where
+  pub next-last : ((b : ℕ) → T ≤ b → row b ≡ false) → NextOne T row from z → NextOne T row (z + 1) T → LastOne row from z
+  next-last end A B = record {
+    here = A .found zT;
+    none = λ b l d. elim (decLt b z) [
+      | yes u ↦ A .none b l u
+      | no u ↦ elim (decLt b T) [ yes v ↦ B .none b (omega arith) v | no v ↦ end b (omega arith) ]
+    ];
+  }
 
-        -- The rule holds exactly if no other check contains two of the three.
-        pub three-rule : OnlyIn h (m + k) (m + j) a b (n + j) → ruleAt h n m k j ≡ true
-        three-rule O = rule h n m k j jk .1 record {
-          own = own;
-          two = lower-two;
-          all3 = sym total ∙ three;
-          alone = λ p q pq ql hp hq. alone-share h (m + k) (m + j) p q (omega arith) hp hq (pair-alone O p q pq hp hq (omega arith) (omega arith));
-        }
+  module _ (L : LastOne row from z) where
+    pub last-next : (r : ℕ) → NextOne T row from r → r ≡ z
+    last-next r A =
+        elim (ℕ-discrete r z) [
+          | yes q ↦ q
+          | no d ↦ elim (decLt r z) [
+            | yes u ↦ absurd (false≢true (sym (L .none r (A .least) d) ∙ A .found (omega arith)))
+            | no u ↦ absurd (false≢true (sym (A .none z fz (omega arith)) ∙ L .here))
+          ]
+        ]
 
-        pub rule-three : ruleAt h n m k j ≡ true → OnlyIn h (m + k) (m + j) a b (n + j)
-        unfolding noOther
-        rule-three e =
-            let R = rule h n m k j jk .0 e in
-            let ab = share-alone h (m + k) (m + j) a b (omega arith) in-a in-b (R .alone a b (omega (arith, B .least)) (omega arith) in-a in-b) in
-            let az = share-alone h (m + k) (m + j) a (n + j) (omega arith) in-a own (R .alone a (n + j) (omega (arith, B .least)) (omega arith) in-a own) in
-            let bz = share-alone h (m + k) (m + j) b (n + j) (omega arith) in-b own (R .alone b (n + j) l (omega arith) in-b own) in
-            record {
-              only = λ d dl r. two-none (h d a) (h d b) (h d (n + j)) (other d dl r a b ab) (other d dl r a (n + j) az) (other d dl r b (n + j) bz);
-            }
-          where
-            other : (d : ℕ) → d < m + k → (d ≡ m + j → ⊥) → (p q : ℕ) → noOther h (m + k) (m + j) p q ≡ true → (h d p && h d q) ≡ false
-            other d dl r p q t = not-true (h d p && h d q) (rw (ne-eqb d (m + j) r) at (all-at (m + k) _ (unfold noOther in t) d dl))
+    pub last-top : (r : ℕ) → NextOne T row (z + 1) r → r ≡ T
+    last-top r B =
+        elim (decLt r T) [
+          | yes u ↦ absurd (false≢true (sym (L .none r (omega (arith, B .least)) (λ q. omega (arith, B .least))) ∙ B .found u))
+          | no u ↦ omega (arith, B .top)
+        ]

@@ -1,32 +1,103 @@
--- What rule A asks of column words: the checks that contain two of three bits. Assumes nothing.
+-- What rule A asks of an added check: its three bits, the checks that contain two of them, and the pairs of lower bits. Assumes nothing.
 use mathlib.Core.Path.{_≡_}
 use mathlib.Core.Bool.{Bool, true, false, cond, _&&_, _||_}
 use mathlib.Core.List.{List}
-use Prim.Native.Nat.{ℕ, _+_, _*_, _-_, _/_, _%_, _^_, _<_}
+use Prim.Native.Nat.{ℕ, _+_, _*_, _-_, _≤_, _<_}
 use lib.Bits.{bitAnd, bitOr}
-use lib.Dec.{eqb}
+use lib.Dec.{ltb}
 use lib.ListN.{getD}
-use Rattle.parity.specs.Matrix.{Matrix, lent}
+use Rattle.parity.specs.Matrix.{Matrix, lent, ruleAt}
 
 -- the bits that are ones of at least two of three words
 unfoldable pub inTwo : ℕ → ℕ → ℕ → ℕ
 inTwo x y z = bitOr (bitAnd x y) (bitAnd (bitOr x y) z)
 
--- the checks of column word i, of W, other than c, that contain two of the bits x, y and z
-unfoldable pub othersIn : ℕ → List ℕ → ℕ → ℕ → ℕ → ℕ → ℕ → ℕ
-othersIn W cols x y z c i =
-    cond (eqb i (c / 64)) (bitAnd (inTwo (getD cols (x * W + i) 0) (getD cols (y * W + i) 0) (getD cols (z * W + i) 0)) (2 ^ 64 - 1 - 2 ^ (c % 64)))
-    (inTwo (getD cols (x * W + i) 0) (getD cols (y * W + i) 0) (getD cols (z * W + i) 0))
+-- the checks of column word i, of W, that contain two of the bits x, y and z
+unfoldable pub twoIn : ℕ → List ℕ → ℕ → ℕ → ℕ → ℕ → ℕ
+twoIn W cols x y z i = inTwo (getD cols (x * W + i) 0) (getD cols (y * W + i) 0) (getD cols (z * W + i) 0)
 
 -- Check d contains two of the bits x, y and z.
 abbrev pub two : Matrix → ℕ → ℕ → ℕ → ℕ → Bool
 two h x y z d = (h d x && h d y) || ((h d x || h d y) && h d z)
 
+-- No check, of M, contains two of them.
+pub record NoneIn (h : Matrix) (M x y z : ℕ) : Type 0 where
+  pub none : (d : ℕ) → d < M → two h x y z d ≡ false
+
+-- r says so, of the checks of columns of W words
+pub record Apart (W : ℕ) (cols : List ℕ) (x y z : ℕ) (r : Bool) : Type 0 where
+  pub yes-none : r ≡ true → NoneIn (λ d b. lent W cols b d) (W * 64) x y z
+  pub none-yes : NoneIn (λ d b. lent W cols b d) (W * 64) x y z → r ≡ true
+
 -- No check, of M, other than c contains two of them.
 pub record OnlyIn (h : Matrix) (M c x y z : ℕ) : Type 0 where
   pub only : (d : ℕ) → d < M → (d ≡ c → ⊥) → two h x y z d ≡ false
 
--- r says so, of the checks of columns of W words
-pub record Alone (W : ℕ) (cols : List ℕ) (x y z c : ℕ) (r : Bool) : Type 0 where
-  pub yes-only : r ≡ true → OnlyIn (λ d b. lent W cols b d) (W * 64) c x y z
-  pub only-yes : OnlyIn (λ d b. lent W cols b d) (W * 64) c x y z → r ≡ true
+-- Of the bits at `from` or above, the row contains z alone.
+pub record LastOne (row : ℕ → Bool) (from z : ℕ) : Type 0 where
+  pub here : row z ≡ true
+  pub none : (b : ℕ) → from ≤ b → (b ≡ z → ⊥) → row b ≡ false
+
+-- r says so
+pub record Ends (row : ℕ → Bool) (from z : ℕ) (r : Bool) : Type 0 where
+  pub yes-last : r ≡ true → LastOne row from z
+  pub last-yes : LastOne row from z → r ≡ true
+
+-- Check c contains the bits x < y < z, and no other.
+pub record Three (h : Matrix) (c x y z : ℕ) : Type 0 where
+  pub xy : x < y
+  pub yz : y < z
+  pub in-x : h c x ≡ true
+  pub in-y : h c y ≡ true
+  pub in-z : h c z ≡ true
+  pub others : (b : ℕ) → (b ≡ x → ⊥) → (b ≡ y → ⊥) → (b ≡ z → ⊥) → h c b ≡ false
+
+-- None of the first j added checks contains both bits.
+pub record NoneOf (h : Matrix) (m j x y : ℕ) : Type 0 where
+  pub none : (i : ℕ) → i < j → (h (m + i) x && h (m + i) y) ≡ false
+
+-- Added check j has three bits, its own the highest, no given check contains two of them, and no added check before it its two lower ones.
+pub record Passed (h : Matrix) (n m j : ℕ) : Type 0 where
+  pub x : ℕ
+  pub y : ℕ
+  pub three : Three h (m + j) x y (n + j)
+  pub given : NoneIn h m x y (n + j)
+  pub before : NoneOf h m j x y
+
+-- A table of pairs of bits below 64 W, 32 W + 1 rows of W words: those of a bit in the upper half, with lower bits, have a row, and those of a bit in the
+-- lower half the rest of another's.
+unfoldable pub rowOf : ℕ → ℕ → ℕ
+rowOf W b = cond (ltb b (32 * W)) (32 * W - b) (b - 32 * W)
+
+unfoldable pub placeOf : ℕ → ℕ → ℕ → ℕ
+placeOf W a b = cond (ltb b (32 * W)) (64 * W - 1 - a) a
+
+-- whether the table has the pair of a and b, a being the lower one
+unfoldable pub paired : ℕ → List ℕ → ℕ → ℕ → Bool
+paired W ps a b = lent W ps (rowOf W b) (placeOf W a b)
+
+-- The pair of a and b is put into a table.
+pub record PairIn (W : ℕ) (ps₀ ps₁ : List ℕ) (a b : ℕ) : Type 0 where
+  pub here : paired W ps₁ a b ≡ true
+  pub other : (c d : ℕ) → c < d → d < 64 * W → ((c ≡ a) × (d ≡ b) → ⊥) → paired W ps₁ c d ≡ paired W ps₀ c d
+
+-- The table has the lower bits of the first j added checks, and no pair that none of these checks contains.
+pub record Seen (W : ℕ) (h : Matrix) (n m j : ℕ) (ps : List ℕ) : Type 0 where
+  pub there : (i x y : ℕ) → i < j → Three h (m + i) x y (n + i) → paired W ps x y ≡ true
+  pub found : (a b : ℕ) → a < b → b < 64 * W → NoneOf h m j a b → paired W ps a b ≡ false
+
+-- The first j added checks pass, and the table has their lower bits.
+pub record Passing (W : ℕ) (h : Matrix) (n m j : ℕ) (ps : List ℕ) : Type 0 where
+  pub passed : (i : ℕ) → i < j → Passed h n m i
+  pub seen : Seen W h n m j ps
+
+-- r says whether no added check before j contains its lower bits x and y, which are in the table then.
+pub record Fresh (W : ℕ) (h : Matrix) (n m j x y : ℕ) (ps : List ℕ) (r : Bool) : Type 0 where
+  pub yes-none : r ≡ true → NoneOf h m j x y
+  pub yes-seen : r ≡ true → Seen W h n m (j + 1) ps
+  pub none-yes : NoneOf h m j x y → r ≡ true
+
+-- r says that added check j passes too, or rule A does not hold for it.
+pub record Judged (W : ℕ) (h : Matrix) (n m k j : ℕ) (ps : List ℕ) (r : Bool) : Type 0 where
+  pub yes : r ≡ true → Passing W h n m (j + 1) ps
+  pub no : r ≡ false → ruleAt h n m k j ≡ false

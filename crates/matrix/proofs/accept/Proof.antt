@@ -49,7 +49,7 @@ rule-a-requires c κs =
     let s = c .before .before .before .before .before .before in
     let o = c .before .before in
     let (a, b, d, e) = ranges (s .args .n) (s .args .m) (s .args .k) .0 (sym (o .before .in-range .ensures) ∙ not-false (o .before .in-range .result) (o .if2 .left)) in
-    (o .before .before .if1 .left, omega arith, omega arith, sym (c .before .is-clean .ensures) ∙ not-false (c .before .is-clean .result) (c .if3 .left))
+    (o .before .before .if1 .left, omega arith, omega arith, omega arith, sym (c .before .is-clean .ensures) ∙ not-false (c .before .is-clean .result) (c .if3 .left))
 
 returns-4 : tie.Need-returns-4
 returns-4 c =

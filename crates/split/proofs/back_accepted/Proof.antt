@@ -84,6 +84,7 @@ rule-a-requires c κs =
       E .kept .0 ∙ A .words,
       omega (arith, S .n120, S .k392),
       omega (arith, S .m120, S .k392),
+      S .m120,
       cleans 8 (s .n + (s .k - 1)) (s .m + (s .k - 1)) (lit< tt) _ .1 (λ i. c .before .slice-known2 .given i .fits, rw (E .ensures .0) (R .clean)),
     )
 

@@ -1,16 +1,16 @@
 -- `rule::rule_at` meets its contract. Assumes nothing.
 use mathlib.Core.Path.{_≡_, sym, _∙_}
 use mathlib.Core.Bool.{true, false}
-use Prim.Native.Nat.{ℕ, _+_, _≤_, _<_}
+use Prim.Native.Nat.{ℕ, _+_, _*_, _≤_, _<_}
 use native.Mathlib.Omega.{arith}
-use borrow.Author.Tests.{not-true, not-false}
-use Rattle.parity.specs.Finite.{count}
-use Rattle.parity.specs.Matrix.{lent}
-use Rattle.parity.proofs.Finite.Bools.{same-test}
-use Rattle.parity.proofs.Matrix.Clean.{clean-bits}
-use Rattle.matrix.proofs.Three.{not-three, not-own, first-below, not-lower, three-rule, rule-three}
-use Rattle.matrix.proofs.Alone.{only-columns, columns-only}
 use borrow.Author.Needs.{needs}
+use borrow.Author.Tests.{not-true, not-false}
+use Rattle.parity.specs.Matrix.{lent, ruleAt}
+use Rattle.parity.proofs.Matrix.Clean.{clean-bits}
+use Rattle.matrix.specs.Three.{Three, NoneIn}
+use Rattle.matrix.proofs.Three.{no-lower, one-lower, rule-last, last-three}
+use Rattle.matrix.proofs.Apart.{none-columns, columns-none}
+use Rattle.matrix.proofs.Passing.{unless, judged-no, judged, rule-given}
 use Rattle.matrix.proofs.rule.rule_at.Statement.{statement}
 use Rattle.matrix.proofs.rule.rule_at.Tie as tie
 
@@ -20,91 +20,107 @@ add-c c = search needs
 add-z : tie.Need-add-z
 add-z c = search needs
 
-weight-requires : tie.Need-weight-requires
-weight-requires c κs = search needs
+next-one-requires : tie.Need-next-one-requires
+next-one-requires c κs = search needs
 
 returns : tie.Need-returns
 returns c =
-    let s = c .before .before .before .before in
-    let ws = s .args .words .now in
-    let N = s .args .n + s .args .k in
-    let M = s .args .m + s .args .k in
-    let jk : s .args .j < s .args .k = omega (arith, s .pre .0) in
-    let few : N ≤ 512 = omega (arith, s .pre .0) in
-    let end : (b : ℕ) → N ≤ b → lent 8 ws (s .args .m + s .args .j) b ≡ false = λ b l. clean-bits 8 N M ws (s .pre .1 .0) .bits (s .args .m + s .args .j) b l in
-    sym (not-three 512 (lent 8 ws) (s .args .n) (s .args .m) (s .args .k) (s .args .j) jk end few (λ e. c .if1 .taken (c .before .weight .ensures ∙ e)))
-
-has-requires : tie.Need-has-requires
-has-requires c κs = search needs
-
-returns-2 : tie.Need-returns-2
-returns-2 c =
-    let s = c .before .before .before .before .before .before in
-    let ws = s .args .words .now in
-    let N = s .args .n + s .args .k in
-    let M = s .args .m + s .args .k in
-    let jk : s .args .j < s .args .k = omega (arith, s .pre .0) in
-    let few : N ≤ 512 = omega (arith, s .pre .0) in
-    let end : (b : ℕ) → N ≤ b → lent 8 ws (s .args .m + s .args .j) b ≡ false = λ b l. clean-bits 8 N M ws (s .pre .1 .0) .bits (s .args .m + s .args .j) b l in
-    sym (not-own 512 (lent 8 ws) (s .args .n) (s .args .m) (s .args .k) (s .args .j) jk end few (sym (c .before .has .ensures) ∙ not-true (c .before .has .result) (c .if2 .taken)))
-
-next-one-requires : tie.Need-next-one-requires
-next-one-requires c κs = search needs
+    let o = c .before in
+    let s = o .before .before .before .before in
+    let a = s .args in
+    let jk : a .j < a .k = omega (arith, s .pre .0) in
+    let few : a .n + a .k ≤ 512 = omega (arith, s .pre .0) in
+    judged-no (a .width) (lent 8 (a .words .now)) (a .n) (a .m) (a .k) (a .j) _ (no-lower 512 (lent 8 (a .words .now)) (a .n) (a .m) (a .k) (a .j) jk few (o .next-one .result) (o .next-one .ensures) (omega (arith, c .if1 .taken)))
 
 add-next-one : tie.Need-add-next-one
 add-next-one c = search needs
 
 next-one-requires-2 : tie.Need-next-one-requires-2
-next-one-requires-2 c κs =
-    let s = c .before .before .before .before .before .before .before in
-    let ws = s .args .words .now in
-    let N = s .args .n + s .args .k in
-    let M = s .args .m + s .args .k in
-    let jk : s .args .j < s .args .k = omega (arith, s .pre .0) in
-    let few : N ≤ 512 = omega (arith, s .pre .0) in
-    let end : (b : ℕ) → N ≤ b → lent 8 ws (s .args .m + s .args .j) b ≡ false = λ b l. clean-bits 8 N M ws (s .pre .1 .0) .bits (s .args .m + s .args .j) b l in
-    let e = c .before .before .before in
-    let t : count 512 (lent 8 ws (s .args .m + s .args .j)) ≡ 3 = sym (e .before .weight .ensures) ∙ e .if1 .left in
-    (omega (arith, s .pre .0), omega (arith, s .pre .0), omega (arith, first-below 512 (lent 8 ws) (s .args .n) (s .args .m) (s .args .k) (s .args .j) jk end few (c .next-one .result) 0 (c .next-one .ensures) t))
+next-one-requires-2 c κs = search needs
+
+returns-2 : tie.Need-returns-2
+returns-2 c =
+    let o = c .before .before .before in
+    let s = o .before .before .before .before in
+    let a = s .args in
+    let jk : a .j < a .k = omega (arith, s .pre .0) in
+    let few : a .n + a .k ≤ 512 = omega (arith, s .pre .0) in
+    let y = c .before in
+    let xz : o .next-one .result < a .n + a .j = omega (arith, y .before .if1 .left) in
+    judged-no (a .width) (lent 8 (a .words .now)) (a .n) (a .m) (a .k) (a .j) _ (one-lower 512 (lent 8 (a .words .now)) (a .n) (a .m) (a .k) (a .j) jk few (o .next-one .result) (o .next-one .ensures) xz (y .next-one2 .result) (y .next-one2 .ensures) (omega (arith, c .if2 .taken)))
+
+add-ends : tie.Need-add-ends
+add-ends c = search needs
+
+ends-requires : tie.Need-ends-requires
+ends-requires c κs = search needs
 
 returns-3 : tie.Need-returns-3
 returns-3 c =
-    let s = c .before .before .before .before .before .before .before .before .before in
-    let ws = s .args .words .now in
-    let N = s .args .n + s .args .k in
-    let M = s .args .m + s .args .k in
-    let jk : s .args .j < s .args .k = omega (arith, s .pre .0) in
-    let few : N ≤ 512 = omega (arith, s .pre .0) in
-    let end : (b : ℕ) → N ≤ b → lent 8 ws (s .args .m + s .args .j) b ≡ false = λ b l. clean-bits 8 N M ws (s .pre .1 .0) .bits (s .args .m + s .args .j) b l in
-    let x = c .before .before in
-    let e = x .before .before .before in
-    let t : count 512 (lent 8 ws (s .args .m + s .args .j)) ≡ 3 = sym (e .before .weight .ensures) ∙ e .if1 .left in
-    sym (not-lower 512 (lent 8 ws) (s .args .n) (s .args .m) (s .args .k) (s .args .j) jk end few (x .next-one .result) (c .before .next-one2 .result) (x .next-one .ensures) t (c .before .next-one2 .ensures) (omega (arith, c .if3 .taken)))
+    let o = c .before .before .before .before .before in
+    let s = o .before .before .before .before in
+    let a = s .args in
+    let jk : a .j < a .k = omega (arith, s .pre .0) in
+    let few : a .n + a .k ≤ 512 = omega (arith, s .pre .0) in
+    let y = c .before .before .before in
+    let xz : o .next-one .result < a .n + a .j = omega (arith, y .before .if1 .left) in
+    let yz : y .next-one2 .result < a .n + a .j = omega (arith, c .before .before .if2 .left) in
+    let end : (b : ℕ) → a .n + a .k ≤ b → lent 8 (a .words .now) (a .m + a .j) b ≡ false = λ b l. clean-bits 8 (a .n + a .k) (a .m + a .k) (a .words .now) (s .pre .1 .0) .bits (a .m + a .j) b l in
+    judged-no (a .width) (lent 8 (a .words .now)) (a .n) (a .m) (a .k) (a .j) _ (unless (ruleAt (lent 8 (a .words .now)) (a .n) (a .m) (a .k) (a .j)) (c .before .ends .result) (λ t. c .before .ends .ensures .last-yes (rule-last 512 (lent 8 (a .words .now)) (a .n) (a .m) (a .k) (a .j) jk few (o .next-one .result) (o .next-one .ensures) xz (y .next-one2 .result) (y .next-one2 .ensures) yz end t)) (not-true (c .before .ends .result) (c .if3 .taken)))
 
-alone-requires : tie.Need-alone-requires
-alone-requires c κs = search needs
+apart-requires : tie.Need-apart-requires
+apart-requires c κs = search needs
 
 returns-4 : tie.Need-returns-4
 returns-4 c =
-    let s = c .before .before .before .before .before .before .before .before .before .before in
-    let ws = s .args .words .now in
-    let N = s .args .n + s .args .k in
-    let M = s .args .m + s .args .k in
-    let jk : s .args .j < s .args .k = omega (arith, s .pre .0) in
-    let few : N ≤ 512 = omega (arith, s .pre .0) in
-    let end : (b : ℕ) → N ≤ b → lent 8 ws (s .args .m + s .args .j) b ≡ false = λ b l. clean-bits 8 N M ws (s .pre .1 .0) .bits (s .args .m + s .args .j) b l in
-    let y = c .before .before in
-    let x = y .before in
-    let e = x .before .before .before in
-    let t : count 512 (lent 8 ws (s .args .m + s .args .j)) ≡ 3 = sym (e .before .weight .ensures) ∙ e .if1 .left in
-    let own : lent 8 ws (s .args .m + s .args .j) (s .args .n + s .args .j) ≡ true = sym (x .before .before .has .ensures) ∙ not-false (x .before .before .has .result) (x .before .if2 .left) in
-    let l : y .next-one2 .result < s .args .n + s .args .j = omega (arith, c .before .if3 .left) in
-    let m512 : M ≤ 512 = omega (arith, s .pre .0) in
-    same-test (c .alone .result) _
-    (λ q. three-rule 512 (lent 8 ws) (s .args .n) (s .args .m) (s .args .k) (s .args .j) jk end few (x .next-one .result) (y .next-one2 .result) (x .next-one .ensures) t (y .next-one2 .ensures) l own
-    (only-columns 8 (lent 8 ws) (s .args .cols .now) M _ _ _ _ (s .pre .1 .1) m512 (c .alone .ensures .yes-only q)))
-    (λ q. c .alone .ensures .only-yes (columns-only 8 (lent 8 ws) (s .args .cols .now) M _ _ _ _ (s .pre .1 .1) m512
-    (rule-three 512 (lent 8 ws) (s .args .n) (s .args .m) (s .args .k) (s .args .j) jk end few (x .next-one .result) (y .next-one2 .result) (x .next-one .ensures) t (y .next-one2 .ensures) l own q)))
+    let o = c .before .before .before .before .before .before .before in
+    let s = o .before .before .before .before in
+    let a = s .args in
+    let jk : a .j < a .k = omega (arith, s .pre .0) in
+    let few : a .n + a .k ≤ 512 = omega (arith, s .pre .0) in
+    let y = c .before .before .before .before .before in
+    let xz : o .next-one .result < a .n + a .j = omega (arith, y .before .if1 .left) in
+    let yz : y .next-one2 .result < a .n + a .j = omega (arith, c .before .before .before .before .if2 .left) in
+    let T : Three (lent 8 (a .words .now)) (a .m + a .j) (o .next-one .result) (y .next-one2 .result) (a .n + a .j) = last-three 512 (lent 8 (a .words .now)) (a .n) (a .m) (a .k) (a .j) jk few (o .next-one .result) (o .next-one .ensures) xz (y .next-one2 .result) (y .next-one2 .ensures) yz (c .before .before .before .ends .ensures .yes-last (not-false (c .before .before .before .ends .result) (c .before .before .if3 .left))) in
+    let m128 : a .m ≤ 2 * 64 = omega (arith, s .pre .0) in
+    judged-no (a .width) (lent 8 (a .words .now)) (a .n) (a .m) (a .k) (a .j) _ (unless (ruleAt (lent 8 (a .words .now)) (a .n) (a .m) (a .k) (a .j)) (c .before .apart .result)
+    (λ t. c .before .apart .ensures .none-yes (columns-none 2 (lent 8 (a .words .now)) (a .cols .now) (a .m) (o .next-one .result) (y .next-one2 .result) (a .n + a .j) (s .pre .1 .1) m128 (rule-given (lent 8 (a .words .now)) (a .n) (a .m) (a .k) (a .j) (o .next-one .result) (y .next-one2 .result) jk T t)))
+    (not-true (c .before .apart .result) (c .if4 .taken)))
+
+fresh-requires : tie.Need-fresh-requires
+fresh-requires c κs =
+    let o = c .before .before .before .before .before .before .before .before in
+    let s = o .before .before .before .before in
+    let a = s .args in
+    let jk : a .j < a .k = omega (arith, s .pre .0) in
+    let few : a .n + a .k ≤ 512 = omega (arith, s .pre .0) in
+    let y = c .before .before .before .before .before .before in
+    let xz : o .next-one .result < a .n + a .j = omega (arith, y .before .if1 .left) in
+    let yz : y .next-one2 .result < a .n + a .j = omega (arith, c .before .before .before .before .before .if2 .left) in
+    let T : Three (lent 8 (a .words .now)) (a .m + a .j) (o .next-one .result) (y .next-one2 .result) (a .n + a .j) = last-three 512 (lent 8 (a .words .now)) (a .n) (a .m) (a .k) (a .j) jk few (o .next-one .result) (o .next-one .ensures) xz (y .next-one2 .result) (y .next-one2 .ensures) yz (c .before .before .before .before .ends .ensures .yes-last (not-false (c .before .before .before .before .ends .result) (c .before .before .before .if3 .left))) in
+    ((s .pre .0 .0, s .pre .0 .2, s .pre .0 .3, omega (arith, s .pre .0), omega (arith, s .pre .0)), (T, s .pre .1 .2))
+
+same-length : tie.Need-same-length
+same-length c = search needs
+
+returns-5 : tie.Need-returns-5
+returns-5 c =
+    let f = c .before .before in
+    let e = f .before .before in
+    let o = e .before .before .before .before .before .before .before in
+    let s = o .before .before .before .before in
+    let a = s .args in
+    let jk : a .j < a .k = omega (arith, s .pre .0) in
+    let few : a .n + a .k ≤ 512 = omega (arith, s .pre .0) in
+    let y = e .before .before .before .before .before in
+    let xz : o .next-one .result < a .n + a .j = omega (arith, y .before .if1 .left) in
+    let yz : y .next-one2 .result < a .n + a .j = omega (arith, e .before .before .before .before .if2 .left) in
+    let T : Three (lent 8 (a .words .now)) (a .m + a .j) (o .next-one .result) (y .next-one2 .result) (a .n + a .j) = last-three 512 (lent 8 (a .words .now)) (a .n) (a .m) (a .k) (a .j) jk few (o .next-one .result) (o .next-one .ensures) xz (y .next-one2 .result) (y .next-one2 .ensures) yz (e .before .before .before .ends .ensures .yes-last (not-false (e .before .before .before .ends .result) (e .before .before .if3 .left))) in
+    let m128 : a .m ≤ 2 * 64 = omega (arith, s .pre .0) in
+    let top : a .n + a .j < 64 * a .width = omega (arith, s .pre .0) in
+    judged (a .width) (lent 8 (a .words .now)) (a .n) (a .m) (a .k) (a .j) (o .next-one .result) (y .next-one2 .result) (a .pairs .now) _ (f .fresh .result) jk top T (s .pre .1 .2)
+    (none-columns 2 (lent 8 (a .words .now)) (a .cols .now) (a .m) (o .next-one .result) (y .next-one2 .result) (a .n + a .j) (s .pre .1 .1) m128 (e .before .apart .ensures .yes-none (not-false (e .before .apart .result) (e .if4 .left))))
+    (f .fresh .ensures)
 
 pub rule-at-spec : {M : Type 1} → statement M
 rule-at-spec =
@@ -112,13 +128,16 @@ rule-at-spec =
     (tie.spec
     add-c
     add-z
-    weight-requires
-    returns
-    has-requires
-    returns-2
     next-one-requires
+    returns
     add-next-one
     next-one-requires-2
+    returns-2
+    add-ends
+    ends-requires
     returns-3
-    alone-requires
-    returns-4)
+    apart-requires
+    returns-4
+    fresh-requires
+    same-length
+    returns-5)

@@ -11,8 +11,6 @@ ghost use mathlib.Core.Path.{_≡_};
 ghost use Prim.Native.Nat.{_*_, _<_, _≤_};
 ghost use lib.ListN.{length};
 ghost use Rattle.parity.specs.Matrix.{lent};
-ghost use Rattle.parity.specs.Words.{erased};
-ghost use Rattle.parity.specs.Calls.{byteOf};
 ghost use Rattle.elimination.specs.Reduction.{FirstIn, Pivoted, Turned, Reduction};
 
 // Bit `b`, which check `p` contains, becomes the pivot of check `r`: no other check contains it afterwards.
@@ -50,28 +48,7 @@ fn turn(
     r
 }
 
-// The rows are reduced in the bits that are 2 in `word`. The answer is the number of pivots, which stand in `pivots`, rising.
-pub fn reduce(
-    rows: &mut [u64],
-    width: usize,
-    checks: usize,
-    word: &[u8],
-    pivots: &mut [usize],
-) -> usize
-    requires { ⌜ (checks * width ≤ length (now rows)) × (width ≤ 8) × (length (now word) ≤ width * 64) × (checks ≤ length (now pivots)) ⌝ }
-    ensures { λ r. ⌜ Reduction (lent width (now (rows .entry))) (lent width (now (rows .exit))) (length (now (word .entry))) checks
-        (erased (byteOf (now (word .entry)))) (length (now (word .entry))) r (now (pivots .exit)) ⌝ }
-{
-    let mut r: usize = 0;
-    for b in 0..word.len() {
-        if word[b] == 2 {
-            r = turn(rows, width, checks, r, b, pivots);
-        }
-    }
-    r
-}
-
-// The rows are reduced in the bits of a set, likewise.
+// The rows are reduced in the bits of a set. The answer is the number of pivots, which stand in `pivots`, rising.
 pub fn reduce_in(
     rows: &mut [u64],
     width: usize,

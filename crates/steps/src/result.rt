@@ -12,14 +12,14 @@ ghost use Rattle.parity.specs.Matrix.{lent};
 ghost use Rattle.parity.specs.Calls.{byteOf};
 ghost use Rattle.steps.specs.Steps.{agreeing, filled, Short, Reaching, WordWritten, Finished};
 
-// Whether each of the first `checks` checks without an erased bit is even.
+// Whether each of the first `checks` checks without an erased bit is even. Where nothing is erased, no check is odd but for a contradiction, and so this is asked first.
 pub fn agree(words: &[u64], checks: usize, erased: &[u64], ones: &[u64]) -> bool
     requires { ⌜ (length (now words) ≡ 4096) × (checks ≤ 512) × (length (now erased) ≡ 8) × (length (now ones) ≡ 8) ⌝ }
     ensures { λ r. ⌜ r ≡ agreeing (lent 8 (now (words .entry))) 512 checks (lent 8 (now (erased .entry)) 0) (lent 8 (now (ones .entry)) 0) ⌝ }
 {
     for c in 0..checks {
-        if !touches(words, Check(c), erased) {
-            if is_odd(words, Check(c), ones) {
+        if is_odd(words, Check(c), ones) {
+            if !touches(words, Check(c), erased) {
                 return false;
             }
         }

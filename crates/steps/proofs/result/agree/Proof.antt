@@ -25,17 +25,17 @@ loop-holds : tie.Need-loop-holds Inv-loop μ-loop
 unfolding agreeing all
 loop-holds c = (omega arith, refl)
 
-touches-requires : tie.Need-touches-requires Inv-loop μ-loop
-touches-requires c κs = search needs
-
 is-odd-requires : tie.Need-is-odd-requires Inv-loop μ-loop
 is-odd-requires c κs = search needs
+
+touches-requires : tie.Need-touches-requires Inv-loop μ-loop
+touches-requires c κs = search needs
 
 returns : tie.Need-returns Inv-loop μ-loop
 unfolding agreeing
 returns c = let l = c .before .before .before .before .before .loop in
     let s = c .before .before .before .before .before .before .before .before .before in
-    sym (all-false (s .args .checks) _ (l .c) (omega arith) (rw (sym (c .before .before .before .touches .ensures) ∙ not-true (c .before .before .before .touches .result) (c .before .before .if1 .taken)) (odd-even _ (sym (c .before .is-odd .ensures) ∙ c .if2 .taken))))
+    sym (all-false (s .args .checks) _ (l .c) (omega arith) (rw (sym (c .before .touches .ensures) ∙ not-true (c .before .touches .result) (c .if2 .taken)) (odd-even _ (sym (c .before .before .before .is-odd .ensures) ∙ c .before .before .if1 .taken))))
 
 add-c : tie.Need-add-c Inv-loop μ-loop
 add-c c = omega arith
@@ -49,8 +49,8 @@ loop-again c = let l = c .before .before .before .loop in (
   omega arith,
   all-more (l .c) _ (l .inv .1) (
       ⊎-elim
-      (λ w. rw (not-odd-even _ (sym (w .1 .ensures) ∙ w .2 .left), or-true))
-      (λ w. rw (sym (c .before .touches .ensures) ∙ not-false (c .before .touches .result) (w .left))) (c .if1 .came)),
+      (λ w. rw (sym (w .1 .ensures) ∙ not-false (w .1 .result) (w .2 .left)))
+      (λ w. rw (not-odd-even _ (sym (c .before .is-odd .ensures) ∙ w .left), or-true)) (c .if1 .came)),
 )
 
 returns-2 : tie.Need-returns-2 Inv-loop μ-loop
@@ -63,8 +63,8 @@ agree-spec =
     Inv-loop
     μ-loop
     loop-holds
-    touches-requires
     is-odd-requires
+    touches-requires
     returns
     add-c
     loop-less

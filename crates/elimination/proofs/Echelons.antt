@@ -1,5 +1,5 @@
 -- The echelon form: clearing below the pivots alone follows the elimination that clears all checks. Assumes nothing.
-use mathlib.Core.Path.{_≡_, refl, sym, ap, _∙_}
+use mathlib.Core.Path.{_≡_, refl, sym, _∙_}
 use mathlib.Core.Bool.{true, false, xor}
 use mathlib.Core.List.{List}
 use Prim.Native.Nat.{ℕ, _+_, _≤_, _<_}
@@ -8,9 +8,9 @@ use native.Mathlib.Decide.{ℕ-discrete, decLt}
 use lib.ListN.{getD, length, set}
 use lib.Seq.{getD-set-same, getD-set-other}
 use Rattle.parity.specs.Matrix.{Matrix}
-use Rattle.elimination.specs.Reduction.{plus, when, cleared, Same, Pivoted, Lower, everyBit, Echelon, Stepped}
+use Rattle.elimination.specs.Reduction.{plus, when, cleared, Same, Lower, everyBit, Echelon, Stepped}
 use Rattle.elimination.proofs.Adding.{plus-at, plus-else}
-use Rattle.elimination.proofs.Clearing.{xor-false, xor-self, same-trans, plus-same, added-same, cleared-in, cleared-out, around, around-else, around-behind, around-pivoted, lifted, lifted-own}
+use Rattle.elimination.proofs.Clearing.{xor-false, xor-self, same-trans, plus-same, added-same, cleared-in, cleared-out, around, around-else, around-behind, around-pivoted, lifted}
 use Rattle.elimination.proofs.Turns.{turned-none, turned-pivot, reduction-start}
 
 -- Check r is added to each check behind it that contains b.

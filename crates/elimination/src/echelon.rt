@@ -3,7 +3,6 @@ use crate::checks::add_check;
 use crate::checks::clear;
 use crate::checks::first_with;
 use crate::checks::row_of;
-ghost use mathlib.Core.Path.{_≡_};
 ghost use Prim.Native.Nat.{_*_, _<_, _≤_};
 ghost use lib.ListN.{length};
 ghost use Rattle.parity.specs.Matrix.{lent};

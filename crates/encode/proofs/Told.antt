@@ -2,7 +2,7 @@
 use mathlib.Core.Path.{_≡_, refl, sym, ap, _∙_}
 use mathlib.Core.Bool.{Bool, true, false, not, false≢true}
 use mathlib.Core.List.{List, [], _∷_}
-use Prim.Native.Nat.{ℕ, zero, suc, _+_, _-_, _%_, _≤_, _<_}
+use Prim.Native.Nat.{ℕ, _+_, _-_, _%_, _≤_, _<_}
 use native.Mathlib.Omega.{arith}
 use native.Mathlib.Decide.{decLt}
 use lib.Dec.{eqb}
@@ -12,7 +12,7 @@ use Rattle.parity.specs.Finite.{one, count, listFrom}
 use Rattle.parity.specs.Matrix.{Matrix, lent}
 use Rattle.parity.specs.Words.{isOne, inside, evenChecks}
 use Rattle.parity.specs.Encoding.{rankOf, encoded}
-use Rattle.parity.specs.Causes.{Reply, answer, refusalOf, accepting}
+use Rattle.parity.specs.Causes.{Reply, answer, refusalOf}
 use Rattle.parity.specs.Calls.{byteOf, wrongByte, wrongPlace, acceptReply, rankReply, encodeReply, encodeOutcome}
 use Rattle.parity.specs.declared.Refusal.{Refusal}
 use Rattle.parity.specs.declared.Refusal.the-variants.{WrongLength, WrongByte, AddedBits}
@@ -21,7 +21,7 @@ use Rattle.parity.proofs.Finite.Firsts.{all-cong}
 use Rattle.parity.proofs.Splits.Split.{Even}
 use Rattle.parity.proofs.Encoding.Encode.{lengths}
 use Rattle.parity.proofs.Encoding.Dependent.{inside-zero}
-use Rattle.parity.proofs.Matrix.Accept.{Accepted, accepts, passes}
+use Rattle.parity.proofs.Matrix.Accept.{Accepted, passes}
 use Rattle.parity.proofs.Causes.Refused.{refused-number, refused-same}
 use Rattle.parity.proofs.Words.Bytes.{right-bytes}
 use Rattle.parity.proofs.Encoding.Messages.{ranks}

@@ -1,7 +1,7 @@
 -- A message placed at the bits that are no pivots, and pivots filled in. Assumes nothing.
 use Prim.Native.Nat.{ℕ, _%_, _≤_, _<_}
 use mathlib.Core.Path.{_≡_}
-use mathlib.Core.Bool.{Bool, true, false, not, cond}
+use mathlib.Core.Bool.{true, false, not, cond}
 use mathlib.Core.List.{List}
 use lib.ListN.{getD, length}
 use Rattle.parity.specs.Finite.{count}

@@ -5,7 +5,6 @@ ghost use mathlib.Core.Bool.{true};
 ghost use mathlib.Core.List.{[], _∷_, _++_};
 ghost use Prim.Native.Nat.{_+_, _*_, _^_, _≤_, _<_};
 ghost use lib.ListN.{length, getD};
-ghost use Rattle.parity.specs.Matrix.{lent};
 ghost use Rattle.parity.specs.StoppingSets.{stoppingSets, flat};
 ghost use Rattle.enumeration.specs.Search.{across, loneWord, completing, Seen, OnceWith, SomeWith, Longer, Under, NextLast, listed, Put, roomFor};
 

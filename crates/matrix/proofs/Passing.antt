@@ -1,15 +1,15 @@
 -- Added checks that pass one after the other, with the table of their lower bits, and rule A from them. Assumes nothing.
-use mathlib.Core.Path.{_≡_, refl, sym, ap, _∙_}
+use mathlib.Core.Path.{_≡_, sym, ap, _∙_}
 use mathlib.Core.Bool.{Bool, true, false, _&&_, and-eq-true-iff, true≢false, false≢true}
 use mathlib.Core.List.{List}
 use Prim.Native.Nat.{ℕ, _+_, _*_, _-_, _≤_, _<_}
 use native.Mathlib.Omega.{arith}
 use native.Mathlib.Decide.{ℕ-discrete, decLt}
 use lib.ListN.{replicate}
-use Rattle.parity.specs.Matrix.{Matrix, lent, ruleAt, ruleA}
+use Rattle.parity.specs.Matrix.{Matrix, ruleAt, ruleA}
 use Rattle.parity.proofs.Finite.Sums.{is-true, is-false, is, all-of}
 use Rattle.parity.proofs.Matrix.Lent.{lent-empty}
-use Rattle.parity.proofs.Matrix.Rule.{Place, first, second, new}
+use Rattle.parity.proofs.Matrix.Rule.{first, second, new}
 use Rattle.matrix.specs.Three.{two, NoneIn, OnlyIn, Three, NoneOf, Passed, rowOf, placeOf, paired, PairIn, Seen, Passing, Fresh, Judged}
 use Rattle.matrix.proofs.Three.{two-false, two-none, place-of, three-rule, rule-three}
 

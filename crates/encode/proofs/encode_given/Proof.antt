@@ -1,5 +1,5 @@
 -- `encode_given` meets its contract. Assumes nothing.
-use Rattle.encode.proofs.Told.{is-rank, rising, opened, codeword-read, given-length, given-byte, given-written}
+use Rattle.encode.proofs.Told.{is-rank, opened, codeword-read, given-length, given-byte, given-written}
 use Rattle.word.proofs.Above.{byte-wrong, byte-right}
 use native.Mathlib.Omega.{arith}
 use mathlib.Core.Path.{_∙_}

@@ -1,13 +1,13 @@
 -- `rule::rule_at` meets its contract. Assumes nothing.
-use mathlib.Core.Path.{_≡_, sym, _∙_}
-use mathlib.Core.Bool.{true, false}
+use mathlib.Core.Path.{_≡_}
+use mathlib.Core.Bool.{false}
 use Prim.Native.Nat.{ℕ, _+_, _*_, _≤_, _<_}
 use native.Mathlib.Omega.{arith}
 use borrow.Author.Needs.{needs}
 use borrow.Author.Tests.{not-true, not-false}
 use Rattle.parity.specs.Matrix.{lent, ruleAt}
 use Rattle.parity.proofs.Matrix.Clean.{clean-bits}
-use Rattle.matrix.specs.Three.{Three, NoneIn}
+use Rattle.matrix.specs.Three.{Three}
 use Rattle.matrix.proofs.Three.{no-lower, one-lower, rule-last, last-three}
 use Rattle.matrix.proofs.Apart.{none-columns, columns-none}
 use Rattle.matrix.proofs.Passing.{unless, judged-no, judged, rule-given}

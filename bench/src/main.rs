@@ -3,6 +3,7 @@
 //! starts of the rows' names that are wanted; without any, all rows are.
 
 mod plain;
+mod planes;
 mod program;
 mod ranges;
 

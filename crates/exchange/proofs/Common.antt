@@ -16,7 +16,7 @@ use Rattle.parity.proofs.Matrix.Digits.{bit-and}
 use Rattle.parity.proofs.Matrix.Lent.{lent-in, lent-out}
 use Rattle.parity.proofs.Matrix.Clean.{Clean}
 use Rattle.rows.specs.Rows.{Column}
-use Rattle.exchange.specs.Merge.{Apart, Both, Kept}
+use Rattle.exchange.specs.Merge.{Apart, Both, Meeting, Kept}
 
 -- the words below i are the and of both, and the others are left
 pub record Keeping (col other now : List ℕ) (i : ℕ) : Type 0 where
@@ -64,10 +64,13 @@ module _ (h : Matrix) (m M z u v : ℕ) (K : Clean h z M) (A : Apart h m M u v) 
       go true a b = refl
       go false a b = refl
 
-  pub both-columns : (ws a b r : List ℕ) → h ≡ lent 8 ws → M ≤ 512 → Column ws m u a → Column ws m v b → Kept (lent 8 a 0) (lent 8 b 0) (lent 8 r 0) → Both h u v (lent 8 r 0)
-  both-columns ws a b r e k P Q R = record {
-    at = λ c. R .at c ∙ elim (decLt c 512) [
+  pub meeting-columns : (ws a b : List ℕ) → h ≡ lent 8 ws → M ≤ 512 → Column ws m u a → Column ws m v b → Meeting h u v (lent 8 a 0) (lent 8 b 0)
+  meeting-columns ws a b e k P Q = record {
+    at = λ c. elim (decLt c 512) [
       | yes l ↦ rw (P .at c l, Q .at c l, ← e) (twice c)
       | no l ↦ rw (lent-out 8 a 0 c (omega arith), K .checks c u (omega arith))
     ];
   }
+
+pub both-kept : (h : Matrix) (u v : ℕ) (set other kept : ℕ → Bool) → Meeting h u v set other → Kept set other kept → Both h u v kept
+both-kept h u v set other kept P R = record { at = λ c. R .at c ∙ P .at c }

@@ -5,8 +5,9 @@ use crate::orthogonal::Course;
 use crate::orthogonal::repeat;
 use cycles::pairs::Shared;
 use cycles::pairs::is_pair;
-use cycles::pairs::share_of;
+use cycles::pairs::share_in;
 use exchange::back::back_pair;
+use exchange::merge::split_columns;
 use exchange::merge::split_pair;
 use matrix::Accepting;
 use matrix::accept;
@@ -15,6 +16,7 @@ use parity::Bit;
 use parity::Check;
 use parity::Holders;
 use parity::Refusal;
+use rows::columns::column;
 use rows::ones::next_one;
 ghost use mathlib.Core.Path.{_≡_};
 ghost use Rattle.parity.specs.Matrix.{cause};
@@ -57,14 +59,16 @@ fn split_accepted(words: &mut [u64], n: usize, m: usize, k: usize, u: Bit, v: Bi
     if !is_pair(bits, u, v) {
         return Splitting::Refused(Refusal::NotAPair);
     }
-    let Shared { share, held } = share_of(words, checks, u, v);
+    let mut both = column(words, checks, u);
+    let other = column(words, checks, v);
+    let Shared { share, held } = share_in(&both, &other);
     if share < 2 {
         return Splitting::Refused(Refusal::ShareBelowTwo { share });
     }
     if k == 392 {
         return Splitting::Refused(Refusal::NoRoomToSplit);
     }
-    split_pair(words, m, Check(checks), u, v, Bit(bits));
+    split_columns(words, Check(checks), u, v, Bit(bits), &mut both, &other);
     let next = k + 1;
     Splitting::Made {
         share,

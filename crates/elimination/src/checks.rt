@@ -29,13 +29,14 @@ fn add_row(rows: &mut [u64], width: usize, c: usize, row: &[u64], q: usize)
     }
 }
 
-// Check `p` is added to check `c`, modulo 2.
+// Check `p` is added to check `c`, another one, modulo 2.
 pub fn add_check(rows: &mut [u64], width: usize, p: usize, c: usize)
-    requires { ⌜ (p * width + width ≤ length (now rows)) × (c * width + width ≤ length (now rows)) × (width ≤ 8) ⌝ }
+    requires { ⌜ (p * width + width ≤ length (now rows)) × (c * width + width ≤ length (now rows)) × (p ≡ c → ⊥) ⌝ }
     ensures { λ _. ⌜ lent width (now (rows .exit)) ≡ plus c (lent width (now (rows .entry)) p) (lent width (now (rows .entry))) ⌝ }
 {
-    let row = row_of(rows, width, p);
-    add_row(rows, width, c, &row, 1);
+    for i in 0..width {
+        rows[c * width + i] = rows[c * width + i] ^ rows[p * width + i];
+    }
 }
 
 // The row is added to check `c` if the check contains bit `b`. The bit picks the row, without a branch: which checks contain it is hard to foresee.
@@ -58,11 +59,16 @@ fn clear_rows(rows: &mut [u64], width: usize, first: usize, end: usize, row: &[u
     }
 }
 
-// The same: where the number of words is known beforehand, it is quicker. Given checks have two, the checks of a few splits three, and those of all splits eight.
+// The same: where the number of words is known beforehand, it is quicker. Given checks have one or two, the checks of a few splits three, and
+// those of all splits eight.
 pub fn clear(rows: &mut [u64], width: usize, first: usize, end: usize, row: &[u64], b: usize)
     requires { ⌜ (first ≤ end) × (end * width ≤ length (now rows)) × (width ≤ 8) × (b < width * 64) × Blank width (now row) ⌝ }
     ensures { λ _. ⌜ lent width (now (rows .exit)) ≡ cleared (lent width (now (row .entry)) 1) b first end (lent width (now (rows .entry))) ⌝ }
 {
+    if width == 1 {
+        clear_rows(rows, 1, first, end, row, b);
+        return;
+    }
     if width == 2 {
         clear_rows(rows, 2, first, end, row, b);
         return;

@@ -1,25 +1,51 @@
 -- Checks gathered into rows, one after the other. Assumes nothing.
-use mathlib.Core.Path.{_≡_, sym, _∙_}
-use mathlib.Core.Bool.{Bool, false, not}
-use Prim.Native.Nat.{ℕ, _+_, _<_}
+use mathlib.Core.Path.{_≡_, sym, ap, _∙_}
+use mathlib.Core.Bool.{Bool, false, not, _&&_}
+use mathlib.Core.List.{List}
+use Prim.Native.Nat.{ℕ, _+_, _*_, _/_, _-_, _≤_, _<_}
+use native.Mathlib.Nat.{zero-mul, zero-add}
 use native.Mathlib.Omega.{arith}
 use native.Mathlib.Decide.{ℕ-discrete}
 use lib.Dec.{eqb}
+use lib.ListN.{length, take, drop, length-drop}
+use lib.Seq.{take-all, getD-drop}
 use borrow.Author.Tests.{eqb-true, not-false}
-use Rattle.parity.specs.Matrix.{Matrix}
+use Rattle.parity.specs.Finite.{count}
+use Rattle.parity.specs.Matrix.{Matrix, lent}
 use Rattle.parity.specs.Words.{inside}
+use Rattle.parity.proofs.Finite.Sums.{count-cong}
+use Rattle.parity.proofs.Matrix.Lent.{lent-in}
 use Rattle.residue.specs.Rows.{Gathered}
 
--- a check that does not touch a set
-pub not-touched : (r : Bool) (s : ℕ) → r ≡ not (eqb s 0) → r ≡ false → s ≡ 0
-not-touched r s e q = eqb-true s 0 (not-false (eqb s 0) (sym e ∙ q))
+-- a set, by fewer words
+pub narrow : (W U : ℕ) → W ≤ U → (s : List ℕ) (b : ℕ) → b < W * 64 → lent W s 0 b ≡ lent U s 0 b
+narrow W U k s b l = rw (lent-in W s 0 b l, lent-in U s 0 b (omega arith), zero-mul W, zero-mul U)
 
-pub gathered-none : (h g : Matrix) (B T : ℕ) (e : ℕ → Bool) → Gathered h g B T 0 e 0
-gathered-none h g B T e = record { few = omega arith; from = λ d l. absurd (omega arith); all = λ c l. absurd (omega arith) }
+-- the words from place a on
+rest : (a : ℕ) (ws : List ℕ) → take (length ws - a) (drop a ws) ≡ drop a ws
+rest a ws = take-all (length ws - a) (drop a ws) (omega (arith, length-drop a ws))
 
-module _ (h g : Matrix) (B T c : ℕ) (e : ℕ → Bool) (L : ℕ) (G : Gathered h g B T c e L) where
+pub rest-length : (a : ℕ) (ws : List ℕ) → length (take (length ws - a) (drop a ws)) ≡ length ws - a
+rest-length a ws = ap length (rest a ws) ∙ length-drop a ws
+
+-- check c, by the first W of its U words
+first-words : (W U : ℕ) → W ≤ U → (ws : List ℕ) (c b : ℕ) → b < W * 64 → lent W (drop (c * U) ws) 0 b ≡ lent U ws c b
+first-words W U k ws c b l = rw (lent-in W (drop (c * U) ws) 0 b l, lent-in U ws c b (omega arith), zero-mul W, zero-add (b / 64), getD-drop (c * U) ws (b / 64) 0)
+
+-- a check whose first W words do not touch a set
+pub not-touched : (W U : ℕ) → W ≤ U → (ws set : List ℕ) (c : ℕ) (r : Bool)
+    → r ≡ not (eqb (count (W * 64) (λ t. lent W (take (length ws - c * U) (drop (c * U) ws)) 0 t && lent W set 0 t)) 0) → r ≡ false → inside (lent U ws) (W * 64) c (lent U set 0) ≡ 0
+unfolding inside
+not-touched W U k ws set c r e q =
+    count-cong (W * 64) (λ b l. rw (sym (first-words W U k ws c b l), sym (narrow W U k set b l)))
+    ∙ eqb-true (count (W * 64) (λ t. lent W (drop (c * U) ws) 0 t && lent W set 0 t)) 0 (not-false _ (sym (rw (rest (c * U) ws) at e) ∙ q))
+
+pub gathered-none : (h g : Matrix) (B : ℕ) (e : ℕ → Bool) → Gathered h g B 0 e 0
+gathered-none h g B e = record { few = omega arith; from = λ d l. absurd (omega arith); all = λ c l. absurd (omega arith) }
+
+module _ (h g : Matrix) (B c : ℕ) (e : ℕ → Bool) (L : ℕ) (G : Gathered h g B c e L) where
   -- check c does not touch the set
-  pub gathered-past : inside h T c e ≡ 0 → Gathered h g B T (c + 1) e L
+  pub gathered-past : inside h B c e ≡ 0 → Gathered h g B (c + 1) e L
   gathered-past q = record {
     few = omega (arith, G .few);
     from = λ d l. let (a, k, C) = G .from d l in (a, omega arith, C);
@@ -27,7 +53,7 @@ module _ (h g : Matrix) (B T c : ℕ) (e : ℕ → Bool) (L : ℕ) (G : Gathered
   }
 
   -- check c is row L of k, whose rows before it are those of g
-  pub gathered-more : (k : Matrix) → ((b : ℕ) → b < B → k L b ≡ h c b) → ((d b : ℕ) → d < L → b < B → k d b ≡ g d b) → Gathered h k B T (c + 1) e (L + 1)
+  pub gathered-more : (k : Matrix) → ((b : ℕ) → b < B → k L b ≡ h c b) → ((d b : ℕ) → d < L → b < B → k d b ≡ g d b) → Gathered h k B (c + 1) e (L + 1)
   gathered-more k here kept = record {
     few = omega (arith, G .few);
     from = λ d l. elim (ℕ-discrete d L) [

@@ -4,7 +4,7 @@ use mathlib.Core.Logic.{_↔_}
 use mathlib.Core.Bool.{Bool, true, false, not, _&&_, and-true, and-false, or-false, and-eq-true-iff, true≢false, false≢true}
 use mathlib.Core.List.{List}
 use Prim.Native.Nat.{ℕ, _+_, _*_, _%_, _≤_, _<_}
-use native.Mathlib.Nat.{zero-mul, mul-le-mul-right}
+use native.Mathlib.Nat.{mul-le-mul-right}
 use native.Mathlib.Omega.{arith}
 use native.Mathlib.Decide.{ℕ-discrete, decLt}
 use lib.Dec.{eqb}
@@ -16,7 +16,7 @@ use Rattle.parity.specs.Words.{erased, isOne, inside, odd}
 use Rattle.parity.specs.Determining.{someAgrees, determined}
 use Rattle.parity.proofs.Finite.Bools.{or-false-both, or-else}
 use Rattle.parity.proofs.Finite.Sums.{Is, is-true, is-false, is, all-at, all-not, any-of, any-at, count-pos, count-cong, sum-zero}
-use Rattle.parity.proofs.Matrix.Lent.{lent-in, lent-out}
+use Rattle.parity.proofs.Matrix.Lent.{lent-out}
 use Rattle.parity.proofs.Words.Residue.{outside}
 use Rattle.parity.proofs.Words.Sets.{inside-below}
 use Rattle.parity.proofs.Words.Agreeing.{Agree, some-of, none-of, known-value, some-same, determined-same}
@@ -28,11 +28,8 @@ use Rattle.elimination.proofs.Turns.{reduced-in, reduction-below}
 use Rattle.elimination.proofs.Reduced.{pivot-at, pivot-of, the-row}
 use Rattle.residue.specs.Rows.{Copied, Gathered, EvenFrom, alone, aloneOdd, PivotsWritten, Low}
 use Rattle.residue.specs.Sets.{Apart, Determined}
+use Rattle.residue.proofs.Gathering.{narrow}
 use Rattle.residue.proofs.Reading.{inside-in, consistent, some-agrees, at-pivot, at-free, at-bound}
-
--- a set, by fewer words
-pub narrow : (W U : ℕ) → W ≤ U → (s : List ℕ) (b : ℕ) → b < W * 64 → lent W s 0 b ≡ lent U s 0 b
-narrow W U k s b l = rw (lent-in W s 0 b l, lent-in U s 0 b (omega arith), zero-mul W, zero-mul U)
 
 module _ (h : Matrix) (N M : ℕ) (e o : ℕ → Bool) (few : N ≤ 512) (A : Apart N e o) where
   -- the word that the sets hold
@@ -93,9 +90,9 @@ module _ (h : Matrix) (N M : ℕ) (e o : ℕ → Bool) (few : N ≤ 512) (A : Ap
         }
 
     -- The rows g are the checks that touch the residue; k are the rows reduced; ew and ow are the sets as far as the B bits of a row.
-    module _ (g k : Matrix) (B L r : ℕ) (at : List ℕ) (ew ow : ℕ → Bool) (room : N ≤ B)
+    module _ (g k : Matrix) (B L r : ℕ) (at : List ℕ) (ew ow : ℕ → Bool) (room : N ≤ B) (most : B ≤ 512)
         (same-e : (b : ℕ) → b < B → ew b ≡ e b) (same-o : (b : ℕ) → b < B → ow b ≡ o b) (out-e : (b : ℕ) → B ≤ b → ew b ≡ false) (out-o : (b : ℕ) → B ≤ b → ow b ≡ false)
-        (G : Gathered h g B 512 M e L) (R : Reduction g k B L ew B r at) where
+        (G : Gathered h g B M e L) (R : Reduction g k B L ew B r at) where
       copied : (c d : ℕ) → Copied h g B c d → (y : ℕ → Bool) → inside g N d y ≡ inside h N c y
       copied c d C y = unfold inside in count-cong N (λ b l. rw (C .same b (omega arith)))
 
@@ -106,7 +103,7 @@ module _ (h : Matrix) (N M : ℕ) (e o : ℕ → Bool) (few : N ≤ 512) (A : Ap
         λ a. record {
           even = λ c l. elim (ℕ-discrete (inside h 512 c e) 0) [
             | yes z ↦ rw (untouched c z y (a .known)) (even-at c l z)
-            | no z ↦ let (d, i, C) = G .all c l z in rw (← copied c d C y) (a .even d i)
+            | no z ↦ let (d, i, C) = G .all c l (λ q. z (inside-short h 512 B c e most (λ b j. A .short-e b (omega arith)) ∙ q)) in rw (← copied c d C y) (a .even d i)
           ];
           known = a .known;
         },
@@ -217,7 +214,7 @@ few-words a b k l = omega (arith, mul-le-mul-right b k)
 -- On words: the sets have eight, a row has W.
 module _ (ws es os : List ℕ) (N M W : ℕ) (few : N ≤ 512) (wide : W ≤ 8) (room : N ≤ W * 64) (A : Apart N (lent 8 es 0) (lent 8 os 0))
     (t : agreeing (lent 8 ws) 512 M (lent 8 es 0) (lent 8 os 0) ≡ true) (g k : Matrix) (L r : ℕ) (at : List ℕ)
-    (G : Gathered (lent 8 ws) g (W * 64) 512 M (lent 8 es 0) L) (R : Reduction g k (W * 64) L (lent W es 0) (W * 64) r at) where
+    (G : Gathered (lent 8 ws) g (W * 64) M (lent 8 es 0) L) (R : Reduction g k (W * 64) L (lent W es 0) (W * 64) r at) where
   pub rows-low : Low r 512 at
   rows-low = record { low = λ c l. omega (arith, R .form .low c l) }
 
@@ -225,12 +222,12 @@ module _ (ws es os : List ℕ) (N M W : ℕ) (few : N ≤ 512) (wide : W ≤ 8) 
   pub rows-none : EvenFrom k (W * 64) r L (lent W os 0) false → (l v : List ℕ) → l ≡ es → Determined (lent 8 ws) N M (lent 8 es 0) (lent 8 os 0) false (lent 8 l 0) (lent 8 v 0)
   rows-none E l v p =
       refused (lent 8 ws) N M (lent 8 es 0) (lent 8 os 0) few A
-      (eliminated-none (lent 8 ws) N M (lent 8 es 0) (lent 8 os 0) few A t g k (W * 64) L r at (lent W es 0) (lent W os 0) room (narrow W 8 wide es) (narrow W 8 wide os) (lent-out W es 0) (lent-out W os 0) G R E)
+      (eliminated-none (lent 8 ws) N M (lent 8 es 0) (lent 8 os 0) few A t g k (W * 64) L r at (lent W es 0) (lent W os 0) room (omega arith) (narrow W 8 wide es) (narrow W 8 wide os) (lent-out W es 0) (lent-out W os 0) G R E)
       (lent 8 l 0) (lent 8 v 0) (λ b q. rw p at q)
 
   -- all are even, and pivots are written
   pub rows-some : EvenFrom k (W * 64) r L (lent W os 0) true → (l v : List ℕ) → l ≡ es → v ≡ os → (l' v' : ℕ → Bool)
       → PivotsWritten k (W * 64) (lent W es 0) (lent W os 0) at r (lent 8 l 0) (lent 8 v 0) l' v' → Determined (lent 8 ws) N M (lent 8 es 0) (lent 8 os 0) true l' v'
   rows-some E l v p q l' v' P =
-      eliminated-some (lent 8 ws) N M (lent 8 es 0) (lent 8 os 0) few A t g k (W * 64) L r at (lent W es 0) (lent W os 0) room (narrow W 8 wide es) (narrow W 8 wide os) (lent-out W es 0) (lent-out W os 0) G R
+      eliminated-some (lent 8 ws) N M (lent 8 es 0) (lent 8 os 0) few A t g k (W * 64) L r at (lent W es 0) (lent W os 0) room (omega arith) (narrow W 8 wide es) (narrow W 8 wide os) (lent-out W es 0) (lent-out W os 0) G R
       E l' v' (rw (p, q) at P)

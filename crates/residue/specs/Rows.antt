@@ -13,11 +13,11 @@ use Rattle.parity.specs.Words.{inside, odd}
 pub record Copied (h g : Matrix) (B c d : ℕ) : Type 0 where
   pub same : (b : ℕ) → b < B → g d b ≡ h c b
 
--- The L rows of g are checks of h below M, and each of these that contains one of the bits e, of which there are T, is among them.
-pub record Gathered (h g : Matrix) (B T M : ℕ) (e : ℕ → Bool) (L : ℕ) : Type 0 where
+-- The L rows of g are checks of h below M, and each of these that contains one of the bits e is among them.
+pub record Gathered (h g : Matrix) (B M : ℕ) (e : ℕ → Bool) (L : ℕ) : Type 0 where
   pub few : L ≤ M
   pub from : (d : ℕ) → d < L → (c : ℕ) × (c < M) × Copied h g B c d
-  pub all : (c : ℕ) → c < M → (inside h T c e ≡ 0 → ⊥) → (d : ℕ) × (d < L) × Copied h g B c d
+  pub all : (c : ℕ) → c < M → (inside h B c e ≡ 0 → ⊥) → (d : ℕ) × (d < L) × Copied h g B c d
 
 -- r says whether the rows from `first` up to `end` are even in the bits o
 pub record EvenFrom (g : Matrix) (B first end : ℕ) (o : ℕ → Bool) (r : Bool) : Type 0 where

@@ -1,52 +1,22 @@
 // What the checks determine of the bits that peeling leaves, by elimination in these bits alone.
+mod eliminate;
 mod gather;
 mod pivots;
 
-use crate::gather::gather;
-use crate::pivots::even_from;
-use crate::pivots::write_pivots;
-use elimination::reduce_in;
+use crate::eliminate::eliminate;
 use rows::words_of;
 use steps::result::agree;
 use steps::result::write;
 use word::sets::size;
 ghost use mathlib.Core.Path.{_≡_};
 ghost use mathlib.Core.Bool.{true};
-ghost use Prim.Native.Nat.{_*_, _≤_};
+ghost use Prim.Native.Nat.{_≤_};
 ghost use lib.ListN.{length};
 ghost use Rattle.parity.specs.Matrix.{lent};
 ghost use Rattle.steps.specs.Steps.{agreeing, Short};
-ghost use Rattle.residue.specs.Sets.{Apart, Determined, Finished};
+ghost use Rattle.residue.specs.Sets.{Apart, Finished};
 
-// Elimination in the bits of the residue, with the checks that touch it, in rows of `width` words. Whether some codeword agrees with the known
-// bits; if so, each bit that is determined leaves `left`, and enters `values` if it is a one.
-fn eliminate(
-    words: &[u64],
-    width: usize,
-    bits: usize,
-    checks: usize,
-    residue: &[u64],
-    known: &[u64],
-    left: &mut [u64],
-    values: &mut [u64],
-) -> bool
-    requires { ⌜ (length (now words) ≡ 4096) × (bits ≤ 512) × (checks ≤ 512) × (length (now residue) ≡ 8) × (length (now known) ≡ 8) × (now left ≡ now residue) × (now values ≡ now known) × (width ≤ 8) × (bits ≤ width * 64) ⌝ }
-    requires { ⌜ Apart bits (lent 8 (now residue) 0) (lent 8 (now known) 0) × (agreeing (lent 8 (now words)) 512 checks (lent 8 (now residue) 0) (lent 8 (now known) 0) ≡ true) ⌝ }
-    ensures { λ r. ⌜ Determined (lent 8 (now (words .entry))) bits checks (lent 8 (now (residue .entry)) 0) (lent 8 (now (known .entry)) 0) r (lent 8 (now (left .exit)) 0) (lent 8 (now (values .exit)) 0) ⌝ }
-{
-    let mut rows = [0u64; 4096];
-    let mut pivots = [0usize; 512];
-    let count = gather(words, width, checks, residue, &mut rows);
-    let r = reduce_in(&mut rows, width, count, residue, &mut pivots);
-    if !even_from(&rows, width, r, count, known) {
-        return false;
-    }
-    write_pivots(&rows, width, &pivots, r, residue, known, left, values);
-    true
-}
-
-// Elimination in rows of as many words as the bits take, and writing. `eliminate` is called at two places, so that the compiler leaves it a
-// function of its own: its rows are then on the stack while they are used, and not while the matrix is accepted.
+// Elimination in rows of as many words as the bits take, and writing.
 fn finish_left(
     words: &[u64],
     bits: usize,
@@ -63,13 +33,6 @@ fn finish_left(
     ensures { λ r. ⌜ Finished (lent 8 (now (words .entry))) bits checks (lent 8 (now (lost .entry)) 0) (lent 8 (now (residue .entry)) 0) (lent 8 (now (known .entry)) 0) (now (word .entry)) r (lent 8 (now (left .exit)) 0) (lent 8 (now (values .exit)) 0) (now (word .exit)) ⌝ }
 {
     let width = words_of(bits);
-    if width == 8 {
-        if !eliminate(words, 8, bits, checks, residue, known, left, values) {
-            return false;
-        }
-        write(word, lost, left, values, 8);
-        return true;
-    }
     if !eliminate(words, width, bits, checks, residue, known, left, values) {
         return false;
     }

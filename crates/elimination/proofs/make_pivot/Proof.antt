@@ -18,7 +18,7 @@ add-check-requires c κs =
     let W = s .args .width in (
       omega (arith, row-room W (s .args .p) (s .args .checks) (s .pre .0 .3)),
       omega (arith, row-room W (s .args .r) (s .args .checks) (omega (arith, s .pre .1 .from))),
-      s .pre .0 .1,
+      c .before .if1 .taken,
     )
 
 -- where the arms meet, check r contains b, and clearing the column is what is left to do

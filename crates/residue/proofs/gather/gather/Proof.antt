@@ -1,87 +1,57 @@
 -- `gather::gather` meets its contract. Assumes nothing.
-use Prim.Native.Nat.{_*_, _-_, _≤_}
-use mathlib.Core.Path.{_≡_, refl, _∙_}
-use mathlib.Core.Logic.{⊎-elim}
-use native.Mathlib.Omega.{arith}
-use lib.ListN.{length}
-use Rattle.parity.specs.Matrix.{lent}
-use Rattle.parity.proofs.Matrix.Lent.{row-room}
-use Rattle.elimination.proofs.Copying.{check-lent, check-kept}
-use Rattle.residue.specs.Rows.{Gathered}
-use Rattle.residue.proofs.Gathering.{not-touched, gathered-none, gathered-past, gathered-more}
 use borrow.Author.Needs.{needs}
 use Rattle.residue.proofs.gather.gather.Statement.{statement}
 use Rattle.residue.proofs.gather.gather.Tie as tie
 
-abbrev Inv-loop : tie.InvT-loop
-Inv-loop words width checks set rows₀ count₀ c₀ rows count c =
-    (c ≤ checks) × (length rows ≡ length rows₀) × Gathered (lent 8 words) (lent width rows) (width * 64) 512 c (lent 8 set 0) count
+gather-in-requires : tie.Need-gather-in-requires
+gather-in-requires c κs = rw (c .before .if1 .taken) at (c .before .before .before .before .before .pre)
 
-abbrev μ-loop : tie.MeasureT-loop
-μ-loop words width checks set rows₀ count₀ c₀ rows count c = checks - c
-
-loop-holds : tie.Need-loop-holds Inv-loop μ-loop
-loop-holds c = (omega arith, refl, gathered-none _ _ _ _ _)
-
-touches-requires : tie.Need-touches-requires Inv-loop μ-loop
-touches-requires c κs = search needs
-
-copy-check-requires : tie.Need-copy-check-requires Inv-loop μ-loop
-copy-check-requires c κs =
-    let i = c .before .before .before in
-    let l = i .before .loop in
-    let s = i .before .before .before .before .before in
-    (omega arith, omega (arith, l .inv .1, l .inv .2 .few, row-room (s .args .width) (l .count) (s .args .checks) (omega (arith, l .inv .2 .few))))
-
-add-count : tie.Need-add-count Inv-loop μ-loop
-add-count c =
-    let l = c .before .before .before .before .before .before .before .loop in
-    omega (arith, l .inv .2 .few)
-
-add-c : tie.Need-add-c Inv-loop μ-loop
-add-c c = search needs
-
-loop-less : tie.Need-loop-less Inv-loop μ-loop
-loop-less c = search needs
-
-loop-again : tie.Need-loop-again Inv-loop μ-loop
-loop-again c =
-    let l = c .before .before .before .loop in
-    let s = c .before .before .before .before .before .before .before in
-    ⊎-elim
-    (λ w. rw (w .5, w .6) (
-      omega arith,
-      w .2 .kept .1 .1 .1 .1 .0 ∙ l .inv .1,
-      gathered-more _ _ _ _ _ _ _ (l .inv .2) _ (check-lent 8 _ (s .pre .3) _ _ _ _ _ (w .2 .ensures)) (λ d b. check-kept 8 _ _ _ _ _ _ (w .2 .ensures) d b),
-    ))
-    (λ w. rw (w .1, w .2) (
-      omega arith,
-      l .inv .1,
-      gathered-past _ _ _ _ _ _ _ (l .inv .2) (not-touched _ _ (c .before .touches .ensures) (w .0 .left)),
-    ))
-    (c .if1 .came)
-
-same-length : tie.Need-same-length Inv-loop μ-loop
+same-length : tie.Need-same-length
 same-length c = search needs
 
-returns : tie.Need-returns Inv-loop μ-loop
-returns c =
-    let l = c .before .loop in
-    let e : l .c ≡ c .before .before .before .before .before .args .checks = omega arith in
-    rw e at (l .inv .2)
+returns : tie.Need-returns
+returns c = rw (c .before .before .before .before .if1 .taken) (c .before .before .gather-in .ensures)
+
+gather-in-requires-2 : tie.Need-gather-in-requires-2
+gather-in-requires-2 c κs = rw (c .before .if2 .taken) at (c .before .before .before .before .before .before .pre)
+
+same-length-2 : tie.Need-same-length-2
+same-length-2 c = search needs
+
+returns-2 : tie.Need-returns-2
+returns-2 c = rw (c .before .before .before .before .if2 .taken) (c .before .before .gather-in2 .ensures)
+
+gather-in-requires-3 : tie.Need-gather-in-requires-3
+gather-in-requires-3 c κs = rw (c .before .if3 .taken) at (c .before .before .before .before .before .before .before .pre)
+
+same-length-3 : tie.Need-same-length-3
+same-length-3 c = search needs
+
+returns-3 : tie.Need-returns-3
+returns-3 c = rw (c .before .before .before .before .if3 .taken) (c .before .before .gather-in3 .ensures)
+
+gather-in-requires-4 : tie.Need-gather-in-requires-4
+gather-in-requires-4 c κs = search needs
+
+same-length-4 : tie.Need-same-length-4
+same-length-4 c = search needs
+
+returns-4 : tie.Need-returns-4
+returns-4 c = search needs
 
 pub gather-spec : {M : Type 1} → statement M
 gather-spec =
     tie.close
     (tie.spec
-    Inv-loop
-    μ-loop
-    loop-holds
-    touches-requires
-    copy-check-requires
-    add-count
-    add-c
-    loop-less
-    loop-again
+    gather-in-requires
     same-length
-    returns)
+    returns
+    gather-in-requires-2
+    same-length-2
+    returns-2
+    gather-in-requires-3
+    same-length-3
+    returns-3
+    gather-in-requires-4
+    same-length-4
+    returns-4)

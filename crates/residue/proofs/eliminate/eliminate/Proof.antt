@@ -1,0 +1,65 @@
+-- `eliminate::eliminate` meets its contract. Assumes nothing.
+use native.Mathlib.Omega.{arith}
+use Rattle.residue.proofs.Solving.{few-words}
+use borrow.Author.Needs.{needs}
+use Rattle.residue.proofs.eliminate.eliminate.Statement.{statement}
+use Rattle.residue.proofs.eliminate.eliminate.Tie as tie
+
+mul-if2 : tie.Need-mul-if2
+mul-if2 c =
+    let s = c .before .before .before .before .before .before in
+    omega (arith, few-words (s .args .checks) (s .args .width) (s .pre .0 .2) (s .pre .0 .7))
+
+eliminate-few-requires : tie.Need-eliminate-few-requires
+eliminate-few-requires c κs = search needs
+
+same-length : tie.Need-same-length
+same-length c = search needs
+
+same-length-2 : tie.Need-same-length-2
+same-length-2 c = search needs
+
+returns : tie.Need-returns
+returns c = search needs
+
+eliminate-many-requires : tie.Need-eliminate-many-requires
+eliminate-many-requires c κs = search needs
+
+same-length-3 : tie.Need-same-length-3
+same-length-3 c = search needs
+
+same-length-4 : tie.Need-same-length-4
+same-length-4 c = search needs
+
+returns-2 : tie.Need-returns-2
+returns-2 c = search needs
+
+eliminate-many-requires-2 : tie.Need-eliminate-many-requires-2
+eliminate-many-requires-2 c κs = search needs
+
+same-length-5 : tie.Need-same-length-5
+same-length-5 c = search needs
+
+same-length-6 : tie.Need-same-length-6
+same-length-6 c = search needs
+
+returns-3 : tie.Need-returns-3
+returns-3 c = search needs
+
+pub eliminate-spec : {M : Type 1} → statement M
+eliminate-spec =
+    tie.close
+    (tie.spec
+    mul-if2
+    eliminate-few-requires
+    same-length
+    same-length-2
+    returns
+    eliminate-many-requires
+    same-length-3
+    same-length-4
+    returns-2
+    eliminate-many-requires-2
+    same-length-5
+    same-length-6
+    returns-3)

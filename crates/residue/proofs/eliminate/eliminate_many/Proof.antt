@@ -1,0 +1,37 @@
+-- `eliminate::eliminate_many` meets its contract. Assumes nothing.
+use Rattle.residue.proofs.Solving.{few-words}
+use borrow.Author.Needs.{needs}
+use Rattle.residue.proofs.eliminate.eliminate_many.Statement.{statement}
+use Rattle.residue.proofs.eliminate.eliminate_many.Tie as tie
+
+slice-aggregate-eliminate-in : tie.Need-slice-aggregate-eliminate-in
+slice-aggregate-eliminate-in c = search needs
+
+slice-aggregate-eliminate-in-2 : tie.Need-slice-aggregate-eliminate-in-2
+slice-aggregate-eliminate-in-2 c = search needs
+
+eliminate-in-requires : tie.Need-eliminate-in-requires
+eliminate-in-requires c κs =
+    let s = c .before .before .before .before .before .before .before .before .before in
+    let p = s .pre .0 in
+    ((p .0, p .1, p .2, p .3, p .4, p .5, p .6, p .7, p .8, few-words (s .args .checks) (s .args .width) (p .2) (p .7), p .2), s .pre .1)
+
+same-length : tie.Need-same-length
+same-length c = search needs
+
+same-length-2 : tie.Need-same-length-2
+same-length-2 c = search needs
+
+returns : tie.Need-returns
+returns c = search needs
+
+pub eliminate-many-spec : {M : Type 1} → statement M
+eliminate-many-spec =
+    tie.close
+    (tie.spec
+    slice-aggregate-eliminate-in
+    slice-aggregate-eliminate-in-2
+    eliminate-in-requires
+    same-length
+    same-length-2
+    returns)

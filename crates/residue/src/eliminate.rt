@@ -1,0 +1,128 @@
+// Elimination in the bits of the residue, in as much room as the checks take.
+use crate::gather::gather;
+use crate::pivots::even_from;
+use crate::pivots::write_pivots;
+use elimination::reduce_in;
+ghost use mathlib.Core.Path.{_≡_};
+ghost use mathlib.Core.Bool.{true};
+ghost use Prim.Native.Nat.{_*_, _≤_};
+ghost use lib.ListN.{length};
+ghost use Rattle.parity.specs.Matrix.{lent};
+ghost use Rattle.steps.specs.Steps.{agreeing};
+ghost use Rattle.residue.specs.Sets.{Apart, Determined};
+
+// Elimination with the checks that touch the residue, in rows of `width` words that are lent, and so are the places of the pivots. Whether some
+// codeword agrees with the known bits; if so, each bit that is determined leaves `left`, and enters `values` if it is a one.
+fn eliminate_in(
+    words: &[u64],
+    width: usize,
+    bits: usize,
+    checks: usize,
+    residue: &[u64],
+    known: &[u64],
+    left: &mut [u64],
+    values: &mut [u64],
+    rows: &mut [u64],
+    pivots: &mut [usize],
+) -> bool
+    requires { ⌜ (length (now words) ≡ 4096) × (bits ≤ 512) × (checks ≤ 512) × (length (now residue) ≡ 8) × (length (now known) ≡ 8) × (now left ≡ now residue) × (now values ≡ now known) × (width ≤ 8) × (bits ≤ width * 64) × (checks * width ≤ length (now rows)) × (checks ≤ length (now pivots)) ⌝ }
+    requires { ⌜ Apart bits (lent 8 (now residue) 0) (lent 8 (now known) 0) × (agreeing (lent 8 (now words)) 512 checks (lent 8 (now residue) 0) (lent 8 (now known) 0) ≡ true) ⌝ }
+    ensures { λ r. ⌜ Determined (lent 8 (now (words .entry))) bits checks (lent 8 (now (residue .entry)) 0) (lent 8 (now (known .entry)) 0) r (lent 8 (now (left .exit)) 0) (lent 8 (now (values .exit)) 0) ⌝ }
+{
+    let count = gather(words, width, checks, residue, rows);
+    let r = reduce_in(rows, width, count, residue, pivots);
+    if !even_from(rows, width, r, count, known) {
+        return false;
+    }
+    write_pivots(rows, width, pivots, r, residue, known, left, values);
+    true
+}
+
+// The same, with the room of few checks.
+fn eliminate_few(
+    words: &[u64],
+    width: usize,
+    bits: usize,
+    checks: usize,
+    residue: &[u64],
+    known: &[u64],
+    left: &mut [u64],
+    values: &mut [u64],
+) -> bool
+    requires { ⌜ (length (now words) ≡ 4096) × (bits ≤ 512) × (checks ≤ 512) × (length (now residue) ≡ 8) × (length (now known) ≡ 8) × (now left ≡ now residue) × (now values ≡ now known) × (width ≤ 8) × (bits ≤ width * 64) × (checks ≤ 128) × (checks * width ≤ 512) ⌝ }
+    requires { ⌜ Apart bits (lent 8 (now residue) 0) (lent 8 (now known) 0) × (agreeing (lent 8 (now words)) 512 checks (lent 8 (now residue) 0) (lent 8 (now known) 0) ≡ true) ⌝ }
+    ensures { λ r. ⌜ Determined (lent 8 (now (words .entry))) bits checks (lent 8 (now (residue .entry)) 0) (lent 8 (now (known .entry)) 0) r (lent 8 (now (left .exit)) 0) (lent 8 (now (values .exit)) 0) ⌝ }
+{
+    let mut rows = [0u64; 512];
+    let mut pivots = [0usize; 128];
+    eliminate_in(
+        words,
+        width,
+        bits,
+        checks,
+        residue,
+        known,
+        left,
+        values,
+        &mut rows,
+        &mut pivots,
+    )
+}
+
+// The same, with the room of any checks.
+fn eliminate_many(
+    words: &[u64],
+    width: usize,
+    bits: usize,
+    checks: usize,
+    residue: &[u64],
+    known: &[u64],
+    left: &mut [u64],
+    values: &mut [u64],
+) -> bool
+    requires { ⌜ (length (now words) ≡ 4096) × (bits ≤ 512) × (checks ≤ 512) × (length (now residue) ≡ 8) × (length (now known) ≡ 8) × (now left ≡ now residue) × (now values ≡ now known) × (width ≤ 8) × (bits ≤ width * 64) ⌝ }
+    requires { ⌜ Apart bits (lent 8 (now residue) 0) (lent 8 (now known) 0) × (agreeing (lent 8 (now words)) 512 checks (lent 8 (now residue) 0) (lent 8 (now known) 0) ≡ true) ⌝ }
+    ensures { λ r. ⌜ Determined (lent 8 (now (words .entry))) bits checks (lent 8 (now (residue .entry)) 0) (lent 8 (now (known .entry)) 0) r (lent 8 (now (left .exit)) 0) (lent 8 (now (values .exit)) 0) ⌝ }
+{
+    let mut rows = [0u64; 4096];
+    let mut pivots = [0usize; 512];
+    eliminate_in(
+        words,
+        width,
+        bits,
+        checks,
+        residue,
+        known,
+        left,
+        values,
+        &mut rows,
+        &mut pivots,
+    )
+}
+
+// The same: to clear the room of many checks takes longer than the elimination of few. `eliminate_many` is called at two places, so that the
+// compiler leaves it a function of its own: its room is then on the stack while it is used, and not while the matrix is accepted.
+pub fn eliminate(
+    words: &[u64],
+    width: usize,
+    bits: usize,
+    checks: usize,
+    residue: &[u64],
+    known: &[u64],
+    left: &mut [u64],
+    values: &mut [u64],
+) -> bool
+    requires { ⌜ (length (now words) ≡ 4096) × (bits ≤ 512) × (checks ≤ 512) × (length (now residue) ≡ 8) × (length (now known) ≡ 8) × (now left ≡ now residue) × (now values ≡ now known) × (width ≤ 8) × (bits ≤ width * 64) ⌝ }
+    requires { ⌜ Apart bits (lent 8 (now residue) 0) (lent 8 (now known) 0) × (agreeing (lent 8 (now words)) 512 checks (lent 8 (now residue) 0) (lent 8 (now known) 0) ≡ true) ⌝ }
+    ensures { λ r. ⌜ Determined (lent 8 (now (words .entry))) bits checks (lent 8 (now (residue .entry)) 0) (lent 8 (now (known .entry)) 0) r (lent 8 (now (left .exit)) 0) (lent 8 (now (values .exit)) 0) ⌝ }
+{
+    if checks <= 128 {
+        if checks * width <= 512 {
+            return eliminate_few(words, width, bits, checks, residue, known, left, values);
+        }
+    }
+    if width == 8 {
+        return eliminate_many(words, 8, bits, checks, residue, known, left, values);
+    }
+    eliminate_many(words, width, bits, checks, residue, known, left, values)
+}

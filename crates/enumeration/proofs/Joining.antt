@@ -1,7 +1,7 @@
 -- Lists of stopping sets, one after the other. Assumes nothing.
 use mathlib.Core.Path.{_≡_, refl, sym, ap, _∙_}
 use mathlib.Core.Bool.{Bool, true, false}
-use mathlib.Core.List.{List, [], _∷_, _++_, append-nil}
+use mathlib.Core.List.{List, [], _∷_, _++_}
 use Prim.Native.Nat.{ℕ, zero, suc, _+_, _-_, _≤_, _<_, max}
 use native.Mathlib.Numerals.{add-one}
 use native.Mathlib.Omega.{arith}
@@ -10,8 +10,8 @@ use lib.ListN.{length, length-append}
 use Rattle.parity.specs.Matrix.{Matrix}
 use Rattle.parity.specs.Words.{stopping}
 use Rattle.parity.specs.StoppingSets.{isIn}
-use Rattle.enumeration.specs.Search.{across, completing, Seen, Under, NextLast, joined, ifStopping, listed, Put, roomFor}
-use Rattle.enumeration.proofs.Members.{under-later, completes-law}
+use Rattle.enumeration.specs.Search.{across, completing, Seen, OnceWith, SomeWith, Under, joined, ifStopping, lastOf, listed, Put, roomFor}
+use Rattle.enumeration.proofs.Members.{seen-more, under-more, under-later, completes-law}
 use Rattle.enumeration.proofs.Storing.{put-none, put-more, put-length}
 
 stopping-no : (h : Matrix) (M : ℕ) (p : List ℕ) → stopping h 128 M (isIn p) ≡ false → ifStopping h M p ≡ []
@@ -49,17 +49,6 @@ module _ (a d : ℕ) (f : ℕ → List ℕ) (k : a ≤ d) where
   pub joined-room : (n : ℕ) → d < n → length (joined (d - a) a f) + length (f d) ≤ length (joined (n - a) a f)
   joined-room n l = omega (arith, ap length joined-next ∙ length-append (joined (d - a) a f) (f d), joined-mono (d + 1 - a) (n - a) a f (omega arith))
 
-  pub joined-skip : (e : ℕ) → d ≤ e → ((b : ℕ) → d ≤ b → b < e → f b ≡ []) → joined (e - a) a f ≡ joined (d - a) a f
-  joined-skip zero l g = let z : d ≡ 0 = omega arith in rw z
-  joined-skip (suc e) l g =
-      elim (ℕ-discrete d (suc e)) [
-        | yes q ↦ rw q
-        | no q ↦
-            let s : suc e - a ≡ suc (e - a) = omega arith in
-            let t : a + (e - a) ≡ e = omega arith in
-            rw s (joined-more (e - a) a f ∙ rw (t, g e (omega arith) (omega arith)) (append-nil (joined (e - a) a f) ∙ joined-skip e (omega arith) (λ b i j. g b i (omega arith))))
-      ]
-
 pub joined-none : (a : ℕ) (f : ℕ → List ℕ) → joined (a - a) a f ≡ []
 unfolding joined
 joined-none a f = let e : a - a ≡ 0 = omega arith in rw e
@@ -81,10 +70,6 @@ module _ (w : Bool) (old new : List ℕ) (at a d n : ℕ) (f : ℕ → List ℕ)
     put = rw (joined-next a d f (L .from)) (put-more w old new newer at r s (joined (d - a) a f) (f d) (L .put) P);
   }
 
-  -- members with which nothing is listed may be passed over
-  pub searched-skip : (e : ℕ) → d ≤ e → e ≤ max a n → ((b : ℕ) → d ≤ b → b < e → f b ≡ []) → Searched w old new at a e n f r
-  searched-skip e k l g = record { from = omega (arith, L .from); top = l; put = rw (joined-skip a d f (L .from) e k g) (L .put) }
-
   pub searched-fits : (top : ℕ) → d < n → at + length (joined (n - a) a f) < top → r + length (f d) < top
   searched-fits top k l = omega (arith, L .put .place, joined-room a d f (L .from) n k)
 
@@ -96,10 +81,7 @@ module _ (w : Bool) (old new : List ℕ) (at a d n : ℕ) (f : ℕ → List ℕ)
   pub searched-all : n ≤ d → Put w old new at (joined (n - a) a f) r
   searched-all k = let e : d - a ≡ n - a = omega (arith, L .top) in rw e at (L .put)
 
--- what is listed with the next member b: where it is the last, and where t more come after it
-abbrev pub lastOf : Matrix → ℕ → List ℕ → ℕ → List ℕ
-lastOf h M p b = ifStopping h M (p ++ (b ∷ []))
-
+-- what is listed with the next member b, where t more come after it
 abbrev pub nextOf : Matrix → ℕ → ℕ → ℕ → List ℕ → ℕ → List ℕ
 nextOf h M n t p b = listed h M n t (p ++ (b ∷ [])) (suc b)
 
@@ -111,15 +93,38 @@ pub listed-more : (h : Matrix) (M n t : ℕ) (p : List ℕ) (a : ℕ) → listed
 unfolding listed
 listed-more h M n t p a = refl
 
--- what a call for one member fewer lists
-pub next-same : (h : Matrix) (M n left : ℕ) (p q : List ℕ) (d : ℕ) → 1 ≤ left → q ≡ p ++ (d ∷ []) → listed h M n (left - 1 + 1) q (d + 1) ≡ nextOf h M n left p d
-next-same h M n left p q d k e = let f : left - 1 + 1 ≡ left = omega arith in rw (f, add-one d, e)
+-- A loop over the next member d, from a on: t more come after it, and T = t + 1 from a on.
+module _ (cols p : List ℕ) (M n t T : ℕ) (f : T ≡ suc t) {w : Bool} {old new : List ℕ} {at a d r : ℕ} (L : Searched w old new at a d n (nextOf (across cols) M n t p) r) where
+  -- all are listed when it ends
+  pub next-all : n ≤ d → Put w old new at (listed (across cols) M n T p a) r
+  next-all k = rw (f, listed-more (across cols) M n t p a) (searched-all w old new at a d n (nextOf (across cols) M n t p) r L k)
 
--- What is listed with the last member: the set where it completes the members, and nothing with those that are passed over.
-module _ (cols p x u : List ℕ) (S : Seen (across cols) p x u) (M : ℕ) (l : M ≤ 512) where
-  pub last-found : (d : ℕ) → d < 128 → Under p d → completing cols x u M d ≡ true → lastOf (across cols) M p d ≡ p ++ (d ∷ [])
-  last-found d k U e = stopping-yes (across cols) M (p ++ (d ∷ [])) (sym (completes-law cols p x u S d k U M l) ∙ e)
+  -- The call of d, whose members are q.
+  module _ (s : ℕ) (e : s ≡ t) {q : List ℕ} (g : q ≡ p ++ (d ∷ [])) (k : d < n) where
+    next-same : listed (across cols) M n s q (d + 1) ≡ nextOf (across cols) M n t p d
+    next-same = rw (e, add-one d, g)
 
-  pub last-passed : (a n r : ℕ) → n ≤ 128 → Under p a → NextLast cols x u M a n r → (d : ℕ) → a ≤ d → d < r → lastOf (across cols) M p d ≡ []
-  last-passed a n r k U N d i j =
-      stopping-no (across cols) M (p ++ (d ∷ [])) (sym (completes-law cols p x u S d (omega (arith, N .top)) (under-later p a d U i) M l) ∙ N .none d i j)
+    -- what it lists comes behind what is listed
+    pub next-listed : {newer : List ℕ} {z : ℕ} → Put w new newer r (listed (across cols) M n s q (d + 1)) z
+        → Searched w old newer at a (d + 1) n (nextOf (across cols) M n t p) z
+    next-listed {newer} {z} P =
+        searched-next w old new at a d n (nextOf (across cols) M n t p) r L newer z k (rw next-same at P)
+
+    -- what it asks for
+    pub next-call : {x u : List ℕ} → Seen (across cols) p x u → Under p a → n ≤ 128 → {x′ u′ : List ℕ} → OnceWith cols x u d x′ → SomeWith cols u d u′
+        → (top : ℕ) → (at + length (listed (across cols) M n T p a) < top) × (roomFor w (at + length (listed (across cols) M n T p a)) ≤ length old)
+        → (Seen (across cols) q x′ u′ × Under q (d + 1)) × ((r + length (listed (across cols) M n s q (d + 1)) < top) × (roomFor w (r + length (listed (across cols) M n s q (d + 1))) ≤ length new))
+    next-call {x} {u} S U few {x′} {u′} X Y top F =
+        let G = rw (f, listed-more (across cols) M n t p a) at F in
+        let W = under-later p a d U (L .from) in (
+          (rw g (seen-more cols p x u S d (omega arith) W x′ u′ X Y), rw g (under-more p d W)),
+          rw next-same (searched-fits w old new at a d n (nextOf (across cols) M n t p) r L top k (G .0), searched-room w old new at a d n (nextOf (across cols) M n t p) r L k (G .1)),
+        )
+
+-- What is listed with the last member: the set where it completes the members, and else nothing.
+module _ (cols p x u : List ℕ) (S : Seen (across cols) p x u) (d : ℕ) (k : d < 128) (U : Under p d) (M : ℕ) (l : M ≤ 512) where
+  pub last-found : completing cols x u M d ≡ true → lastOf (across cols) M p d ≡ p ++ (d ∷ [])
+  last-found e = stopping-yes (across cols) M (p ++ (d ∷ [])) (sym (completes-law cols p x u S d k U M l) ∙ e)
+
+  pub last-none : completing cols x u M d ≡ false → lastOf (across cols) M p d ≡ []
+  last-none e = stopping-no (across cols) M (p ++ (d ∷ [])) (sym (completes-law cols p x u S d k U M l) ∙ e)

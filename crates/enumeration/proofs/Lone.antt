@@ -3,7 +3,7 @@ use mathlib.Core.Path.{_≡_, refl, sym, ap, _∙_}
 use mathlib.Core.Bool.{Bool, true, false, not, _||_}
 use mathlib.Core.List.{List}
 use Prim.Native.Nat.{ℕ, _+_, _*_, _-_, _/_, _%_, _^_, _≤_, _<_}
-use native.Mathlib.Nat.{zero-add, zero-mul}
+use native.Mathlib.Nat.{add-zero, zero-add, zero-mul}
 use native.Mathlib.Omega.{arith}
 use native.Mathlib.Decide.{decLt}
 use lib.Bits.{bitAnd, bitOr, and-lt, or-lt}
@@ -44,6 +44,10 @@ someAt cols u d i = bitOr (getD u i 0) (getD cols (d * 8 + i) 0)
 abbrev pub isLone : List ℕ → List ℕ → List ℕ → ℕ → ℕ → Bool
 isLone cols x u d c = lone (lent 8 x 0 c) (lent 8 u 0 c) (lent 8 cols d c)
 
+pub completing-is : (cols x u : List ℕ) (M d : ℕ) → completing cols x u M d ≡ all M (λ c. not (isLone cols x u d c))
+unfolding completing
+completing-is cols x u M d = refl
+
 module _ (cols x u : List ℕ) (d : ℕ) (ul : (i : ℕ) → getD u i 0 < 2 ^ 64) (dl : (i : ℕ) → getD cols i 0 < 2 ^ 64) where
   lone-bit : (i j : ℕ) → i < 8 → j < 64 → bitOf (loneAt cols x u d i) j ≡ isLone cols x u d (i * 64 + j)
   lone-bit i j k l =
@@ -69,15 +73,22 @@ module _ (cols x u : List ℕ) (d : ℕ) (ul : (i : ℕ) → getD u i 0 < 2 ^ 64
         ap not (rw s at f)
   ])
 
+  -- nor in the first
+  pub none-first : loneWord (getD x 0 0) (getD u 0 0) (getD cols (d * 8) 0) ≡ 0 → completing cols x u 64 d ≡ true
+  none-first z = completing-is cols x u 64 d ∙ none-more 0 (omega arith) (rw (add-zero (d * 8)) z) (unfold all in refl)
+
   module _ (xl : (i : ℕ) → getD x i 0 < 2 ^ 64) where
     -- a word with one
-    pub none-not : (i used : ℕ) → i < used → used ≤ 8 → (loneAt cols x u d i ≡ 0 → ⊥) → all (used * 64) (λ c. not (isLone cols x u d c)) ≡ false
+    pub none-not : (i used : ℕ) → i < used → used ≤ 8 → (loneAt cols x u d i ≡ 0 → ⊥) → completing cols x u (used * 64) d ≡ false
     none-not i used k l z =
         elim (is (all (used * 64) (λ c. not (isLone cols x u d c)))) [
-          | is-false q ↦ q
+          | is-false q ↦ completing-is cols x u (used * 64) d ∙ q
           | is-true q ↦ absurd (z (same-bits 64 (loneAt cols x u d i) 0 (lone-lt (getD x i 0) (getD u i 0) (getD cols (d * 8 + i) 0) (xl i) (dl (d * 8 + i))) (lit< tt) (λ j m.
               lone-bit i j (omega arith) m ∙ rw (not-true (isLone cols x u d (i * 64 + j)) (all-at (used * 64) _ q (i * 64 + j) (omega arith)), bit-zero j))))
         ]
+
+    pub none-not-first : (used : ℕ) → 1 ≤ used → used ≤ 8 → (loneWord (getD x 0 0) (getD u 0 0) (getD cols (d * 8) 0) ≡ 0 → ⊥) → completing cols x u (used * 64) d ≡ false
+    none-not-first used k l z = none-not 0 used k l (λ e. z (rw (add-zero (d * 8)) at e))
 
 module _ (cols u : List ℕ) (d : ℕ) (r : List ℕ) (F : Filled 8 (someAt cols u d) 8 r) where
   some-bit : (i j : ℕ) → i < 8 → j < 64 → lent 8 r 0 (i * 64 + j) ≡ (lent 8 u 0 (i * 64 + j) || lent 8 cols d (i * 64 + j))
@@ -91,7 +102,3 @@ module _ (cols u : List ℕ) (d : ℕ) (r : List ℕ) (F : Filled 8 (someAt cols
         let s : c / 64 * 64 + c % 64 ≡ c = omega arith in
         rw s at (some-bit (c / 64) (c % 64) (omega arith) (omega arith));
   }
-
-pub completing-is : (cols x u : List ℕ) (M d : ℕ) → completing cols x u M d ≡ all M (λ c. not (isLone cols x u d c))
-unfolding completing
-completing-is cols x u M d = refl

@@ -6,9 +6,11 @@ use Prim.Native.Nat.{ℕ, suc, _+_, _≤_, _<_}
 use native.Mathlib.Nat.{add-zero, zero-add}
 use native.Mathlib.Numerals.{add-one}
 use native.Mathlib.Omega.{arith}
-use native.Mathlib.Decide.{ℕ-discrete}
+use native.Mathlib.Decide.{ℕ-discrete, decLt}
+use lib.Dec.{ltb}
 use lib.ListN.{getD, length, set, take, drop, length-set, length-append}
 use lib.Seq.{sets, length-sets, sets-eq, take-suc, length-take-le, take-all, getD-set-same, getD-set-other, getD-take, ext-getD}
+use borrow.Author.Tests.{lt-ltb, le-ltb}
 use Rattle.enumeration.specs.Search.{Longer, Put}
 
 pub sets-append : (l : List ℕ) (p : ℕ) (vs us : List ℕ) → sets l p (vs ++ us) ≡ sets (sets l p vs) (p + length vs) us
@@ -16,9 +18,17 @@ sets-append l p [] us = rw (add-zero p)
 sets-append l p (v ∷ vs) us = let e : p + suc (length vs) ≡ suc p + length vs = omega arith in rw e (sets-append (set l p v) (suc p) vs us)
 
 -- one more of a list that is copied
-pub copy-next : (l : List ℕ) (p i : ℕ) (s : List ℕ) → i < length s → sets l p (take (i + 1) s) ≡ set (sets l p (take i s)) (p + i) (getD s i 0)
+copy-next : (l : List ℕ) (p i : ℕ) (s : List ℕ) → i < length s → sets l p (take (i + 1) s) ≡ set (sets l p (take i s)) (p + i) (getD s i 0)
 copy-next l p i s k =
     rw (add-one i, take-suc s i 0 k) (sets-append l p (take i s) (getD s i 0 ∷ []) ∙ rw (length-take-le i s (omega arith)))
+
+-- or none, where there is no more
+pub copy-if : (l : List ℕ) (p i : ℕ) (s : List ℕ) → sets l p (take (i + 1) s) ≡ cond (ltb i (length s)) (set (sets l p (take i s)) (p + i) (getD s i 0)) (sets l p (take i s))
+copy-if l p i s =
+    elim (decLt i (length s)) [
+      | yes k ↦ rw (lt-ltb i (length s) k) (copy-next l p i s k)
+      | no k ↦ rw (le-ltb i (length s) (omega arith), take-all i s (omega arith), take-all (i + 1) s (omega arith))
+    ]
 
 -- and the number behind it
 pub copy-last : (l : List ℕ) (p : ℕ) (s : List ℕ) (d : ℕ) → set (sets l p s) (p + length s) d ≡ sets l p (s ++ (d ∷ []))

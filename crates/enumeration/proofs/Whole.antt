@@ -2,7 +2,7 @@
 use mathlib.Core.Path.{_≡_, refl, sym, ap, _∙_}
 use mathlib.Core.Bool.{Bool}
 use mathlib.Core.List.{List, [], _∷_, _++_, map, append-assoc, append-nil}
-use Prim.Native.Nat.{ℕ, zero, suc, _+_, _*_, _-_, _≤_}
+use Prim.Native.Nat.{ℕ, zero, suc, _+_, _*_, _-_, _≤_, _<_}
 use native.Mathlib.Nat.{add-zero, suc-mul, mul-le-mul-right}
 use native.Mathlib.Omega.{arith}
 use lib.ListN.{length, length-append}
@@ -10,7 +10,7 @@ use Rattle.parity.specs.Matrix.{Matrix}
 use Rattle.parity.specs.Words.{stopping}
 use Rattle.parity.specs.StoppingSets.{isIn, setsFrom, keep, flat, stoppingSets}
 use Rattle.parity.proofs.Finite.Sums.{is-true, is-false, is}
-use Rattle.enumeration.specs.Search.{joined, ifStopping, listed}
+use Rattle.enumeration.specs.Search.{joined, ifStopping, listed, Put, roomFor}
 use Rattle.enumeration.proofs.Joining.{nextOf, listed-more}
 
 -- joined lists, the first apart
@@ -76,7 +76,7 @@ whole h M n (suc r) (suc t) a p e =
     two k l = rw (k, l)
 
 -- What is listed from no member on are the stopping sets.
-pub listed-whole : (h : Matrix) (M n t : ℕ) → listed h M n t [] 0 ≡ flat (stoppingSets h n 128 M t)
+listed-whole : (h : Matrix) (M n t : ℕ) → listed h M n t [] 0 ≡ flat (stoppingSets h n 128 M t)
 unfolding stoppingSets
 listed-whole h M n t =
     let z : 0 + n ≡ n = omega arith in
@@ -115,10 +115,21 @@ module _ (h : Matrix) (M n : ℕ) (k : n ≤ 120) where
   few4 : (p : List ℕ) (a : ℕ) → length p + 4 ≤ 4 → length (listed h M n 4 p a) ≤ 829440000
   few4 = listed-few-more h M n 3 6912000 k few3
 
-  pub listed-few : (t : ℕ) → t ≤ 4 → length (listed h M n t [] 0) ≤ 829440000
+  listed-few : (t : ℕ) → t ≤ 4 → length (listed h M n t [] 0) ≤ 829440000
   listed-few zero l = omega (arith, few-kept h M n [] 0 (omega arith))
   listed-few (suc zero) l = omega (arith, few1 [] 0 (omega arith))
   listed-few (suc (suc zero)) l = omega (arith, few2 [] 0 (omega arith))
   listed-few (suc (suc (suc zero))) l = omega (arith, few3 [] 0 (omega arith))
   listed-few (suc (suc (suc (suc zero)))) l = few4 [] 0 (omega arith)
   listed-few (suc (suc (suc (suc (suc t))))) l = absurd (omega arith)
+
+-- A call from no member on, for T = t: what it asks for, and what it lists.
+module _ (h : Matrix) (M n t T : ℕ) (e : T ≡ t) (w : Bool) where
+  pub whole-call : (old : List ℕ) → n ≤ 120 → t ≤ 4 → roomFor w (length (flat (stoppingSets h n 128 M t))) ≤ length old
+      → (0 + length (listed h M n T [] 0) < 1099511627776) × (roomFor w (0 + length (listed h M n T [] 0)) ≤ length old)
+  whole-call old k l r =
+      let z : (x : ℕ) → 0 + x ≡ x = λ x. omega arith in
+      rw (e, z) (omega (arith, listed-few h M n k t l), rw (listed-whole h M n t) r)
+
+  pub whole-put : {old new : List ℕ} {r : ℕ} → Put w old new 0 (listed h M n T [] 0) r → Put w old new 0 (flat (stoppingSets h n 128 M t)) r
+  whole-put P = rw (e, listed-whole h M n t) at P

@@ -2,7 +2,7 @@
 use mathlib.Core.Path.{_≡_}
 use mathlib.Core.Bool.{Bool, true, false, not, cond, _&&_, _||_}
 use mathlib.Core.List.{List, [], _∷_, _++_}
-use Prim.Native.Nat.{ℕ, zero, suc, _+_, _-_, _^_, _≤_, _<_, max}
+use Prim.Native.Nat.{ℕ, zero, suc, _+_, _-_, _^_, _≤_, _<_}
 use lib.Bits.{bitAnd, bitOr}
 use lib.Dec.{eqb, ltb}
 use lib.ListN.{length, getD, take}
@@ -34,13 +34,6 @@ pub record Seen (h : Matrix) (p x u : List ℕ) : Type 0 where
 unfoldable pub completing : List ℕ → List ℕ → List ℕ → ℕ → ℕ → Bool
 completing cols x u M d = all M (λ c. not (lone (lent 8 x 0 c) (lent 8 u 0 c) (lent 8 cols d c)))
 
--- r is the first of a to n - 1 that completes the members, and else behind them
-pub record NextLast (cols x u : List ℕ) (M a n r : ℕ) : Type 0 where
-  pub from : a ≤ r
-  pub top : r ≤ max a n
-  pub none : (d : ℕ) → a ≤ d → d < r → completing cols x u M d ≡ false
-  pub found : r < n → completing cols x u M r ≡ true
-
 -- r is x, with bit d among the members besides
 pub record OnceWith (cols x u : List ℕ) (d : ℕ) (r : List ℕ) : Type 0 where
   pub size : length r ≡ 8
@@ -68,6 +61,10 @@ joined (suc r) a f = joined r a f ++ f (a + r)
 -- the set p, if it is a stopping set
 unfoldable pub ifStopping : Matrix → ℕ → List ℕ → List ℕ
 ifStopping h M p = cond (stopping h 128 M (isIn p)) p []
+
+-- what is listed with b as the last member
+abbrev pub lastOf : Matrix → ℕ → List ℕ → ℕ → List ℕ
+lastOf h M p b = ifStopping h M (p ++ (b ∷ []))
 
 -- The stopping sets that begin with the members p and have t more, from a to n - 1, one after the other.
 unfoldable pub listed : Matrix → ℕ → ℕ → ℕ → List ℕ → ℕ → List ℕ

@@ -1,12 +1,13 @@
 // The search for stopping sets, over the columns of the matrix: eight words for each bit, whose bit `c` says whether check `c` contains it.
 // Of the members chosen so far, `once` has the checks that contain exactly one of them, and `some` those that contain one or more.
 ghost use mathlib.Core.Path.{_≡_};
-ghost use mathlib.Core.Bool.{true};
+ghost use mathlib.Core.Bool.{true, cond};
 ghost use mathlib.Core.List.{[], _∷_, _++_};
 ghost use Prim.Native.Nat.{_+_, _*_, _^_, _≤_, _<_};
-ghost use lib.ListN.{length, getD};
+ghost use lib.Dec.{ltb};
+ghost use lib.ListN.{length, getD, set};
 ghost use Rattle.parity.specs.StoppingSets.{stoppingSets, flat};
-ghost use Rattle.enumeration.specs.Search.{across, loneWord, completing, Seen, OnceWith, SomeWith, Longer, Under, NextLast, listed, Put, roomFor};
+ghost use Rattle.enumeration.specs.Search.{across, loneWord, completing, Seen, OnceWith, SomeWith, Longer, Under, lastOf, listed, Put, roomFor};
 
 // The checks of a word that contain exactly one of the members and one more bit, whose checks are `d`.
 fn lone_word(once: u64, some: u64, d: u64) -> u64
@@ -15,17 +16,33 @@ fn lone_word(once: u64, some: u64, d: u64) -> u64
     (once & !d) | (d & !some)
 }
 
-// Whether no check of the first `used` words contains exactly one of the members and bit `d`.
-fn completes(cols: &[u64], once: &[u64], some: &[u64], used: usize, d: usize) -> bool
-    requires { ⌜ (length (now cols) ≡ 1024) × (length (now once) ≡ 8) × (length (now some) ≡ 8) × (used ≤ 8) × (d < 128) ⌝ }
+// The same as `completes`, where the first word has no such check.
+fn completes_further(cols: &[u64], once: &[u64], some: &[u64], used: usize, d: usize) -> bool
+    requires { ⌜ (length (now cols) ≡ 1024) × (length (now once) ≡ 8) × (length (now some) ≡ 8) × (1 ≤ used) × (used ≤ 8) × (d < 128) ⌝ }
+    requires { ⌜ completing (now cols) (now once) (now some) 64 d ≡ true ⌝ }
     ensures { λ r. ⌜ r ≡ completing (now (cols .entry)) (now (once .entry)) (now (some .entry)) (used * 64) d ⌝ }
 {
-    for i in 0..used {
+    for i in 1..used {
         if lone_word(once[i], some[i], cols[d * 8 + i]) != 0 {
             return false;
         }
     }
     true
+}
+
+// Whether no check of the first `used` words contains exactly one of the members and bit `d`. Most bits fail in the first word; where all eight are
+// in use, their number is known beforehand.
+fn completes(cols: &[u64], once: &[u64], some: &[u64], used: usize, d: usize) -> bool
+    requires { ⌜ (length (now cols) ≡ 1024) × (length (now once) ≡ 8) × (length (now some) ≡ 8) × (1 ≤ used) × (used ≤ 8) × (d < 128) ⌝ }
+    ensures { λ r. ⌜ r ≡ completing (now (cols .entry)) (now (once .entry)) (now (some .entry)) (used * 64) d ⌝ }
+{
+    if lone_word(once[0], some[0], cols[d * 8]) != 0 {
+        return false;
+    }
+    if used == 8 {
+        return completes_further(cols, once, some, 8, d);
+    }
+    completes_further(cols, once, some, used, d)
 }
 
 // The checks that contain exactly one of the members and bit `d`.
@@ -86,22 +103,32 @@ fn longer(first: &[u16], d: usize) -> [u16; 4]
     all
 }
 
-// Writes the members and `d` from place `at` on, and answers the place behind them.
-fn put_set(first: &[u16], d: usize, sets: &mut [u16], at: usize) -> usize
-    requires { ⌜ (at + length (now first) < length (now sets)) × (d < 128) ⌝ }
-    ensures { λ r. ⌜ Put true (now (sets .entry)) (now (sets .exit)) at (now (first .entry) ++ (d ∷ [])) r ⌝ }
+// Writes member `i` to place `at + i`, if there is one.
+fn put_member(first: &[u16], i: usize, sets: &mut [u16], at: usize)
+    requires { ⌜ (at + length (now first) < length (now sets)) × (i < 3) ⌝ }
+    ensures { λ r. ⌜ now (sets .exit) ≡ cond (ltb i (length (now (first .entry)))) (set (now (sets .entry)) (at + i) (getD (now (first .entry)) i 0)) (now (sets .entry)) ⌝ }
 {
-    let len = first.len();
-    for i in 0..len {
+    if i < first.len() {
         sets[at + i] = first[i];
     }
+}
+
+// Writes the members and `d` from place `at` on, and answers the place behind them.
+fn put_set(first: &[u16], d: usize, sets: &mut [u16], at: usize) -> usize
+    requires { ⌜ (at + length (now first) < length (now sets)) × (length (now first) < 4) × (d < 128) ⌝ }
+    ensures { λ r. ⌜ Put true (now (sets .entry)) (now (sets .exit)) at (now (first .entry) ++ (d ∷ [])) r ⌝ }
+{
+    for i in 0..3 {
+        put_member(first, i, sets, at);
+    }
+    let len = first.len();
     sets[at + len] = member(d);
     at + len + 1
 }
 
 // Lists the members and `d`: writes them from place `at` on if `write`, and answers the place behind them.
 fn take_in(first: &[u16], d: usize, sets: &mut [u16], at: usize, write: bool) -> usize
-    requires { ⌜ (at + length (now first) < 2 ^ 40) × (roomFor write (at + length (now first) + 1) ≤ length (now sets)) × (d < 128) ⌝ }
+    requires { ⌜ (at + length (now first) < 2 ^ 40) × (roomFor write (at + length (now first) + 1) ≤ length (now sets)) × (length (now first) < 4) × (d < 128) ⌝ }
     ensures { λ r. ⌜ Put write (now (sets .entry)) (now (sets .exit)) at (now (first .entry) ++ (d ∷ [])) r ⌝ }
 {
     if write {
@@ -110,51 +137,31 @@ fn take_in(first: &[u16], d: usize, sets: &mut [u16], at: usize, write: bool) ->
     at + first.len() + 1
 }
 
-// The first bit from `from` on that makes a stopping set of the members, or where the search ends.
-fn next_last(cols: &[u64], once: &[u64], some: &[u64], used: usize, from: usize, n: usize) -> usize
-    requires { ⌜ (length (now cols) ≡ 1024) × (length (now once) ≡ 8) × (length (now some) ≡ 8) × (used ≤ 8) × (n ≤ 128) ⌝ }
-    ensures { λ r. ⌜ NextLast (now (cols .entry)) (now (once .entry)) (now (some .entry)) (used * 64) from n r ⌝ }
-{
-    let mut d = from;
-    while d < n {
-        if completes(cols, once, some, used, d) {
-            return d;
-        }
-        d += 1;
-    }
-    d
-}
-
-// Lists the stopping sets of the members and one more bit, from `from` on, and answers the place behind them. Nothing is written while the next is
-// looked for, so that what is known of the members stays in registers.
-fn list_each(
+// Lists the members and `d` if they are a stopping set, and answers the place behind.
+fn list_with(
     cols: &[u64],
-    n: usize,
     used: usize,
     once: &[u64],
     some: &[u64],
     first: &[u16],
-    from: usize,
+    d: usize,
     sets: &mut [u16],
     at: usize,
     write: bool,
 ) -> usize
-    requires { ⌜ (length (now cols) ≡ 1024) × (length (now once) ≡ 8) × (length (now some) ≡ 8) × (used ≤ 8) × (n ≤ 128) ⌝ }
-    requires { ⌜ Seen (across (now cols)) (now first) (now once) (now some) × Under (now first) from ⌝ }
-    requires { ⌜ at + length (listed (across (now cols)) (used * 64) n 1 (now first) from) < 2 ^ 40 ⌝ }
-    requires { ⌜ roomFor write (at + length (listed (across (now cols)) (used * 64) n 1 (now first) from)) ≤ length (now sets) ⌝ }
-    ensures { λ r. ⌜ Put write (now (sets .entry)) (now (sets .exit)) at (listed (across (now (cols .entry))) (used * 64) n 1 (now (first .entry)) from) r ⌝ }
+    requires { ⌜ (length (now cols) ≡ 1024) × (length (now once) ≡ 8) × (length (now some) ≡ 8) × (1 ≤ used) × (used ≤ 8) × (d < 128) × (length (now first) < 4) ⌝ }
+    requires { ⌜ Seen (across (now cols)) (now first) (now once) (now some) × Under (now first) d ⌝ }
+    requires { ⌜ at + length (lastOf (across (now cols)) (used * 64) (now first) d) < 2 ^ 40 ⌝ }
+    requires { ⌜ roomFor write (at + length (lastOf (across (now cols)) (used * 64) (now first) d)) ≤ length (now sets) ⌝ }
+    ensures { λ r. ⌜ Put write (now (sets .entry)) (now (sets .exit)) at (lastOf (across (now (cols .entry))) (used * 64) (now (first .entry)) d) r ⌝ }
 {
-    let mut place = at;
-    let mut d = next_last(cols, once, some, used, from, n);
-    while d < n {
-        place = take_in(first, d, sets, place, write);
-        d = next_last(cols, once, some, used, d + 1, n);
+    if completes(cols, once, some, used, d) {
+        return take_in(first, d, sets, at, write);
     }
-    place
+    at
 }
 
-// The same: where the number of words is known beforehand, it is quicker. One or two hold the given checks, and eight all.
+// Lists the stopping sets of the members and one more bit, from `from` on, and answers the place behind them.
 fn list_last(
     cols: &[u64],
     n: usize,
@@ -167,25 +174,51 @@ fn list_last(
     at: usize,
     write: bool,
 ) -> usize
-    requires { ⌜ (length (now cols) ≡ 1024) × (length (now once) ≡ 8) × (length (now some) ≡ 8) × (used ≤ 8) × (n ≤ 128) ⌝ }
+    requires { ⌜ (length (now cols) ≡ 1024) × (length (now once) ≡ 8) × (length (now some) ≡ 8) × (1 ≤ used) × (used ≤ 8) × (n ≤ 128) × (length (now first) < 4) ⌝ }
     requires { ⌜ Seen (across (now cols)) (now first) (now once) (now some) × Under (now first) from ⌝ }
     requires { ⌜ at + length (listed (across (now cols)) (used * 64) n 1 (now first) from) < 2 ^ 40 ⌝ }
     requires { ⌜ roomFor write (at + length (listed (across (now cols)) (used * 64) n 1 (now first) from)) ≤ length (now sets) ⌝ }
     ensures { λ r. ⌜ Put write (now (sets .entry)) (now (sets .exit)) at (listed (across (now (cols .entry))) (used * 64) n 1 (now (first .entry)) from) r ⌝ }
 {
-    if used == 1 {
-        return list_each(cols, n, 1, once, some, first, from, sets, at, write);
+    let mut place = at;
+    for d in from..n {
+        place = list_with(cols, used, once, some, first, d, sets, place, write);
     }
-    if used == 2 {
-        return list_each(cols, n, 2, once, some, first, from, sets, at, write);
-    }
-    if used == 8 {
-        return list_each(cols, n, 8, once, some, first, from, sets, at, write);
-    }
-    list_each(cols, n, used, once, some, first, from, sets, at, write)
+    place
 }
 
-// Lists the stopping sets of the members and `left` + 1 more bits, from `from` on, and answers the place behind them.
+// Lists the stopping sets of the members and two more bits, from `from` on, and answers the place behind them. What is known of three members stays
+// in this function.
+fn list_pairs(
+    cols: &[u64],
+    n: usize,
+    used: usize,
+    once: &[u64],
+    some: &[u64],
+    first: &[u16],
+    from: usize,
+    sets: &mut [u16],
+    at: usize,
+    write: bool,
+) -> usize
+    requires { ⌜ (length (now cols) ≡ 1024) × (length (now once) ≡ 8) × (length (now some) ≡ 8) × (1 ≤ used) × (used ≤ 8) × (n ≤ 128) × (length (now first) < 3) ⌝ }
+    requires { ⌜ Seen (across (now cols)) (now first) (now once) (now some) × Under (now first) from ⌝ }
+    requires { ⌜ at + length (listed (across (now cols)) (used * 64) n 2 (now first) from) < 2 ^ 40 ⌝ }
+    requires { ⌜ roomFor write (at + length (listed (across (now cols)) (used * 64) n 2 (now first) from)) ≤ length (now sets) ⌝ }
+    ensures { λ r. ⌜ Put write (now (sets .entry)) (now (sets .exit)) at (listed (across (now (cols .entry))) (used * 64) n 2 (now (first .entry)) from) r ⌝ }
+{
+    let len = first.len() + 1;
+    let mut place = at;
+    for d in from..n {
+        let x = once_with(cols, once, some, d);
+        let u = some_with(cols, some, d);
+        let more = longer(first, d);
+        place = list_last(cols, n, used, &x, &u, &more[..len], d + 1, sets, place, write);
+    }
+    place
+}
+
+// Lists the stopping sets of the members and `left` + 2 more bits, from `from` on, and answers the place behind them.
 fn list_from(
     cols: &[u64],
     n: usize,
@@ -199,14 +232,14 @@ fn list_from(
     at: usize,
     write: bool,
 ) -> usize
-    requires { ⌜ (length (now cols) ≡ 1024) × (length (now once) ≡ 8) × (length (now some) ≡ 8) × (used ≤ 8) × (n ≤ 128) × (length (now first) + left < 4) ⌝ }
+    requires { ⌜ (length (now cols) ≡ 1024) × (length (now once) ≡ 8) × (length (now some) ≡ 8) × (1 ≤ used) × (used ≤ 8) × (n ≤ 128) × (length (now first) + left < 3) ⌝ }
     requires { ⌜ Seen (across (now cols)) (now first) (now once) (now some) × Under (now first) from ⌝ }
-    requires { ⌜ at + length (listed (across (now cols)) (used * 64) n (left + 1) (now first) from) < 2 ^ 40 ⌝ }
-    requires { ⌜ roomFor write (at + length (listed (across (now cols)) (used * 64) n (left + 1) (now first) from)) ≤ length (now sets) ⌝ }
-    ensures { λ r. ⌜ Put write (now (sets .entry)) (now (sets .exit)) at (listed (across (now (cols .entry))) (used * 64) n (left + 1) (now (first .entry)) from) r ⌝ }
+    requires { ⌜ at + length (listed (across (now cols)) (used * 64) n (left + 2) (now first) from) < 2 ^ 40 ⌝ }
+    requires { ⌜ roomFor write (at + length (listed (across (now cols)) (used * 64) n (left + 2) (now first) from)) ≤ length (now sets) ⌝ }
+    ensures { λ r. ⌜ Put write (now (sets .entry)) (now (sets .exit)) at (listed (across (now (cols .entry))) (used * 64) n (left + 2) (now (first .entry)) from) r ⌝ }
 {
     if left == 0 {
-        return list_last(cols, n, used, once, some, first, from, sets, at, write);
+        return list_pairs(cols, n, used, once, some, first, from, sets, at, write);
     }
     let len = first.len() + 1;
     let mut place = at;
@@ -240,18 +273,21 @@ pub fn list_all(
     sets: &mut [u16],
     write: bool,
 ) -> usize
-    requires { ⌜ (length (now cols) ≡ 1024) × (used ≤ 8) × (n ≤ 120) × (1 ≤ t) × (t ≤ 4) ⌝ }
+    requires { ⌜ (length (now cols) ≡ 1024) × (1 ≤ used) × (used ≤ 8) × (n ≤ 120) × (1 ≤ t) × (t ≤ 4) ⌝ }
     requires { ⌜ roomFor write (length (flat (stoppingSets (across (now cols)) n 128 (used * 64) t))) ≤ length (now sets) ⌝ }
     ensures { λ r. ⌜ Put write (now (sets .entry)) (now (sets .exit)) 0 (flat (stoppingSets (across (now (cols .entry))) n 128 (used * 64) t)) r ⌝ }
 {
     let none = [0u64; 8];
     let members = [0u16; 4];
     let len: usize = 0;
+    if t == 1 {
+        return list_last(cols, n, used, &none, &none, &members[..len], 0, sets, 0, write);
+    }
     list_from(
         cols,
         n,
         used,
-        t - 1,
+        t - 2,
         &none,
         &none,
         &members[..len],

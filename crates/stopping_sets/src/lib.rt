@@ -6,6 +6,7 @@ use rows::columns::first_columns;
 use rows::words_of;
 ghost use mathlib.Core.Path.{_≡_};
 ghost use mathlib.Core.Bool.{not};
+ghost use Prim.Native.Nat.{_*_, _≤_};
 ghost use Rattle.parity.specs.Calls.{wrongSize, stoppingSetsOutcome};
 ghost use Rattle.stopping_sets.specs.Answers.{listingReply};
 
@@ -25,6 +26,17 @@ fn is_size(t: usize) -> bool
     t <= 4
 }
 
+// How many words `checks` checks take, or one.
+fn words_used(checks: usize) -> usize
+    requires { ⌜ checks ≤ 512 ⌝ }
+    ensures { λ r. ⌜ (checks ≤ r * 64) × (1 ≤ r) × (r ≤ 8) ⌝ }
+{
+    if checks == 0 {
+        return 1;
+    }
+    words_of(checks)
+}
+
 // Lists every stopping set of exactly `t` sent bits in the first places of `sets`. They are counted first, so that a refusal leaves everything.
 pub fn list(words: &[u64], n: usize, m: usize, k: usize, t: usize, sets: &mut [u16]) -> Listing
     ensures { λ r. ⌜ listingReply r ≡ stoppingSetsOutcome (now (words .entry)) n m k t (now (sets .entry)) .reply ⌝ }
@@ -38,7 +50,7 @@ pub fn list(words: &[u64], n: usize, m: usize, k: usize, t: usize, sets: &mut [u
         return Listing::Refused(Refusal::WrongSize);
     }
     let cols = first_columns(words, m + k);
-    let used = words_of(m + k);
+    let used = words_used(m + k);
     let needed = list_all(&cols, n, used, t, sets, false);
     if sets.len() < needed {
         return Listing::Refused(Refusal::SetsTooShort { needed });

@@ -1,93 +1,73 @@
 -- `completes` meets its contract. Assumes nothing.
-use mathlib.Core.Path.{_≡_, refl, sym, _∙_}
-use mathlib.Core.Bool.{true, not}
-use Prim.Native.Nat.{_*_, _-_, _≤_}
+use mathlib.Core.Path.{_≡_, sym, _∙_}
+use mathlib.Core.Bool.{true}
 use native.Mathlib.Omega.{arith}
 use borrow.Author.Needs.{needs}
-use Rattle.parity.specs.Finite.{all}
-use Rattle.enumeration.proofs.Lone.{isLone, none-more, none-not, completing-is}
+use Rattle.enumeration.specs.Search.{completing}
+use Rattle.enumeration.proofs.Lone.{none-first, none-not-first}
 use Rattle.enumeration.proofs.completes.Statement.{statement}
 use Rattle.enumeration.proofs.completes.Tie as tie
+use Rattle.enumeration.proofs.completes.Reads as reads
+use Rattle.enumeration.proofs.completes.Lts as lts
+use Rattle.enumeration.proofs.completes_further.Reads as completes-further-reads
+use Rattle.enumeration.proofs.lone_word.Reads as lone-word-reads
 
-abbrev Inv-loop : tie.InvT-loop
-Inv-loop cols once some used d i₀ i = (i ≤ used) × (all (i * 64) (λ c. not (isLone cols once some d c)) ≡ true)
+shared-slice-read-lone-word : tie.Need-shared-slice-read-lone-word
+shared-slice-read-lone-word c = search needs
 
-abbrev μ-loop : tie.MeasureT-loop
-μ-loop cols once some used d i₀ i = used - i
+shared-slice-read-lone-word-2 : tie.Need-shared-slice-read-lone-word-2
+shared-slice-read-lone-word-2 c = search needs
 
-loop-holds : tie.Need-loop-holds Inv-loop μ-loop
-loop-holds c = (omega arith, unfold all in refl)
+mul-lone-word : tie.Need-mul-lone-word
+mul-lone-word c = search needs
 
-mul-lone-word : tie.Need-mul-lone-word Inv-loop μ-loop
-mul-lone-word c = omega arith
+mul-lone-word-2 : tie.Need-mul-lone-word-2
+mul-lone-word-2 c = search needs
 
-shared-slice-read-lone-word : tie.Need-shared-slice-read-lone-word Inv-loop μ-loop
-shared-slice-read-lone-word c = omega arith
+shared-slice-read-lone-word-3 : tie.Need-shared-slice-read-lone-word-3
+shared-slice-read-lone-word-3 c = search needs
 
-mul-lone-word-2 : tie.Need-mul-lone-word-2 Inv-loop μ-loop
-mul-lone-word-2 c = omega arith
-
-shared-slice-read-lone-word-2 : tie.Need-shared-slice-read-lone-word-2 Inv-loop μ-loop
-shared-slice-read-lone-word-2 c = omega arith
-
-mul-lone-word-3 : tie.Need-mul-lone-word-3 Inv-loop μ-loop
-mul-lone-word-3 c = omega arith
-
-add-lone-word : tie.Need-add-lone-word Inv-loop μ-loop
-add-lone-word c = omega arith
-
-mul-lone-word-4 : tie.Need-mul-lone-word-4 Inv-loop μ-loop
-mul-lone-word-4 c = omega arith
-
-shared-slice-read-lone-word-3 : tie.Need-shared-slice-read-lone-word-3 Inv-loop μ-loop
-shared-slice-read-lone-word-3 c = omega arith
-
-lone-word-requires : tie.Need-lone-word-requires Inv-loop μ-loop
+lone-word-requires : tie.Need-lone-word-requires
 lone-word-requires c κs = search needs
 
-returns : tie.Need-returns Inv-loop μ-loop
+returns : tie.Need-returns
 returns c =
-    let s = c .before .before .before .before .before .before .before .before .before .before in
-    let l = c .before .before .before .before .before .before .loop in
-    sym (completing-is (s .args .cols .now) (s .args .once .now) (s .args .some .now) (s .args .used * 64) (s .args .d) ∙ none-not (s .args .cols .now) (s .args .once .now) (s .args .some .now) (s .args .d) (λ i. omega (arith, c .before .before .before .before .before .before .before .shared-slice-known3 .given i)) (λ i. omega (arith, c .before .before .before .before .before .before .before .before .before .shared-slice-known .given i)) (λ i. omega (arith, c .before .before .before .before .before .before .before .before .shared-slice-known2 .given i)) (l .i) (s .args .used) (omega arith) (omega arith) (λ e. c .if1 .taken (c .before .lone-word .ensures ∙ e)))
+    let s = c .before .before .before .before .before .before .before .before in
+    sym (none-not-first (s .args .cols .now) (s .args .once .now) (s .args .some .now) (s .args .d) (λ i. omega (arith, c .before .before .before .before .before .shared-slice-known3 .given i)) (λ i. omega (arith, c .before .before .before .before .before .before .before .shared-slice-known .given i)) (λ i. omega (arith, c .before .before .before .before .before .before .shared-slice-known2 .given i)) (s .args .used) (omega arith) (omega arith) (λ e. c .if1 .taken (c .before .lone-word .ensures ∙ e)))
 
-add-i : tie.Need-add-i Inv-loop μ-loop
-add-i c = omega arith
+-- no check of the first word
+first-word : (c : lts.Else1 (lone-word-reads.Asked, lone-word-reads.Learnt, completes-further-reads.Asked, completes-further-reads.Learnt) reads.Pre reads.Post)
+    → let s = c .before .before .before .before .before .before .before .before in completing (s .args .cols .now) (s .args .once .now) (s .args .some .now) 64 (s .args .d) ≡ true
+first-word c =
+    let s = c .before .before .before .before .before .before .before .before in
+    none-first (s .args .cols .now) (s .args .once .now) (s .args .some .now) (s .args .d) (λ i. omega (arith, c .before .before .before .before .before .shared-slice-known3 .given i)) (λ i. omega (arith, c .before .before .before .before .before .before .before .shared-slice-known .given i)) (sym (c .before .lone-word .ensures) ∙ c .if1 .left)
 
-loop-less : tie.Need-loop-less Inv-loop μ-loop
-loop-less c = omega arith
+completes-further-requires : tie.Need-completes-further-requires
+completes-further-requires c κs = let P = c .before .before .before .before .before .before .before .before .before .pre in ((P .0, P .1, P .2, omega arith, omega arith, P .5), first-word (c .before))
 
-loop-again : tie.Need-loop-again Inv-loop μ-loop
-loop-again c =
-    let s = c .before .before .before .before .before .before .before .before .before .before in
-    let l = c .before .before .before .before .before .before .loop in
-    (omega arith, none-more (s .args .cols .now) (s .args .once .now) (s .args .some .now) (s .args .d) (λ i. omega (arith, c .before .before .before .before .before .before .before .shared-slice-known3 .given i)) (λ i. omega (arith, c .before .before .before .before .before .before .before .before .before .shared-slice-known .given i)) (l .i) (omega arith) (sym (c .before .lone-word .ensures) ∙ c .if1 .left) (l .inv .1))
-
-returns-2 : tie.Need-returns-2 Inv-loop μ-loop
+returns-2 : tie.Need-returns-2
 returns-2 c =
-    let l = c .before .loop in
-    let e : l .i ≡ c .before .before .before .before .before .args .used = omega arith in
-    let s = c .before .before .before .before .before in
-    sym (completing-is (s .args .cols .now) (s .args .once .now) (s .args .some .now) (s .args .used * 64) (s .args .d) ∙ rw e at (l .inv .1))
+    let e : c .before .before .before .before .before .before .before .before .before .before .args .used ≡ 8 = c .before .if2 .taken in
+    rw e (c .completes-further .ensures)
+
+completes-further-requires-2 : tie.Need-completes-further-requires-2
+completes-further-requires-2 c κs = (c .before .before .before .before .before .before .before .before .before .pre, first-word (c .before))
+
+returns-3 : tie.Need-returns-3
+returns-3 c = search needs
 
 pub completes-spec : {M : Type 1} → statement M
 completes-spec =
     tie.close
     (tie.spec
-    Inv-loop
-    μ-loop
-    loop-holds
-    mul-lone-word
     shared-slice-read-lone-word
-    mul-lone-word-2
     shared-slice-read-lone-word-2
-    mul-lone-word-3
-    add-lone-word
-    mul-lone-word-4
+    mul-lone-word
+    mul-lone-word-2
     shared-slice-read-lone-word-3
     lone-word-requires
     returns
-    add-i
-    loop-less
-    loop-again
-    returns-2)
+    completes-further-requires
+    returns-2
+    completes-further-requires-2
+    returns-3)

@@ -1,80 +1,66 @@
 -- `list_last` meets its contract. Assumes nothing.
-use mathlib.Core.Path.{_≡_}
+use Prim.Native.Nat.{_*_, _-_, max}
 use native.Mathlib.Omega.{arith}
-use borrow.Author.Needs.{needs}
+use Rattle.enumeration.specs.Search.{across, lastOf}
+use Rattle.enumeration.proofs.Members.{under-later}
+use Rattle.enumeration.proofs.Storing.{put-length}
+use Rattle.enumeration.proofs.Joining.{Searched, listed-one, searched-none, searched-next, searched-fits, searched-room, searched-all}
 use Rattle.enumeration.proofs.list_last.Statement.{statement}
 use Rattle.enumeration.proofs.list_last.Tie as tie
 
-list-each-requires : tie.Need-list-each-requires
-list-each-requires c κs =
-    let s = c .before .before .before .before .before .before .before in
-    let e : s .args .used ≡ 1 = c .before .if1 .taken in
-    let P = s .pre in
-    ((P .0 .0, P .0 .1, P .0 .2, omega arith, P .0 .4), (P .1 .0, (rw e at (P .1 .1 .0), rw e at (P .1 .1 .1))))
+abbrev Inv-loop : tie.InvT-loop
+Inv-loop cols n used once some first from sets₀ at write place₀ d₀ sets place d = Searched write sets₀ sets at from d n (lastOf (across cols) (used * 64) first) place
 
-same-length : tie.Need-same-length
-same-length c = search needs
+abbrev μ-loop : tie.MeasureT-loop
+μ-loop cols n used once some first from sets₀ at write place₀ d₀ sets place d = max from n - d
 
-returns : tie.Need-returns
-returns c =
-    let s = c .before .before .before .before .before .before .before .before .before .before in
-    let e : s .args .used ≡ 1 = c .before .before .before .before .if1 .taken in
-    rw e (c .before .before .list-each .ensures)
+loop-holds : tie.Need-loop-holds Inv-loop μ-loop
+loop-holds c = searched-none _ _ _ _ _ _
 
-list-each-requires-2 : tie.Need-list-each-requires-2
-list-each-requires-2 c κs =
+list-with-requires : tie.Need-list-with-requires Inv-loop μ-loop
+list-with-requires c κs =
     let s = c .before .before .before .before .before .before .before .before in
-    let e : s .args .used ≡ 2 = c .before .if2 .taken in
+    let l = c .before .before .loop in
     let P = s .pre in
-    ((P .0 .0, P .0 .1, P .0 .2, omega arith, P .0 .4), (P .1 .0, (rw e at (P .1 .1 .0), rw e at (P .1 .1 .1))))
+    let F = rw (listed-one (across (s .args .cols .now)) (s .args .used * 64) (s .args .n) (s .args .first .now) (s .args .from)) at (P .1 .1) in (
+      (P .0 .0, P .0 .1, P .0 .2, P .0 .3, P .0 .4, omega arith, P .0 .6),
+      (
+        (P .1 .0 .0, under-later _ _ _ (P .1 .0 .1) (l .inv .from)),
+        (searched-fits (s .args .write) (s .args .sets .now) (l .sets) (s .args .at) (s .args .from) (l .d) (s .args .n) (lastOf (across (s .args .cols .now)) (s .args .used * 64) (s .args .first .now)) (l .place) (l .inv) 1099511627776 (omega arith) (F .0), searched-room (s .args .write) (s .args .sets .now) (l .sets) (s .args .at) (s .args .from) (l .d) (s .args .n) (lastOf (across (s .args .cols .now)) (s .args .used * 64) (s .args .first .now)) (l .place) (l .inv) (omega arith) (F .1)),
+      ),
+    )
 
-same-length-2 : tie.Need-same-length-2
-same-length-2 c = search needs
+add-d : tie.Need-add-d Inv-loop μ-loop
+add-d c = omega arith
 
-returns-2 : tie.Need-returns-2
-returns-2 c =
+loop-less : tie.Need-loop-less Inv-loop μ-loop
+loop-less c = omega arith
+
+loop-again : tie.Need-loop-again Inv-loop μ-loop
+loop-again c =
     let s = c .before .before .before .before .before .before .before .before .before .before .before in
-    let e : s .args .used ≡ 2 = c .before .before .before .before .if2 .taken in
-    rw e (c .before .before .list-each2 .ensures)
+    let l = c .before .before .before .before .before .loop in
+    searched-next (s .args .write) (s .args .sets .now) (l .sets) (s .args .at) (s .args .from) (l .d) (s .args .n) (lastOf (across (s .args .cols .now)) (s .args .used * 64) (s .args .first .now)) (l .place) (l .inv) _ _ (omega arith) (c .before .before .list-with .ensures)
 
-list-each-requires-3 : tie.Need-list-each-requires-3
-list-each-requires-3 c κs =
-    let s = c .before .before .before .before .before .before .before .before .before in
-    let e : s .args .used ≡ 8 = c .before .if3 .taken in
-    let P = s .pre in
-    ((P .0 .0, P .0 .1, P .0 .2, omega arith, P .0 .4), (P .1 .0, (rw e at (P .1 .1 .0), rw e at (P .1 .1 .1))))
+same-length : tie.Need-same-length Inv-loop μ-loop
+same-length c = put-length _ _ _ _ _ _ (c .before .loop .inv .put)
 
-same-length-3 : tie.Need-same-length-3
-same-length-3 c = search needs
-
-returns-3 : tie.Need-returns-3
-returns-3 c =
-    let s = c .before .before .before .before .before .before .before .before .before .before .before .before in
-    let e : s .args .used ≡ 8 = c .before .before .before .before .if3 .taken in
-    rw e (c .before .before .list-each3 .ensures)
-
-list-each-requires-4 : tie.Need-list-each-requires-4
-list-each-requires-4 c κs = search needs
-
-same-length-4 : tie.Need-same-length-4
-same-length-4 c = search needs
-
-returns-4 : tie.Need-returns-4
-returns-4 c = search needs
+returns : tie.Need-returns Inv-loop μ-loop
+returns c =
+    let s = c .before .before .before .before .before .before .before in
+    let l = c .before .loop in
+    rw (listed-one (across (s .args .cols .now)) (s .args .used * 64) (s .args .n) (s .args .first .now) (s .args .from)) (searched-all (s .args .write) (s .args .sets .now) (l .sets) (s .args .at) (s .args .from) (l .d) (s .args .n) (lastOf (across (s .args .cols .now)) (s .args .used * 64) (s .args .first .now)) (l .place) (l .inv) (omega arith))
 
 pub list-last-spec : {M : Type 1} → statement M
 list-last-spec =
     tie.close
     (tie.spec
-    list-each-requires
+    Inv-loop
+    μ-loop
+    loop-holds
+    list-with-requires
+    add-d
+    loop-less
+    loop-again
     same-length
-    returns
-    list-each-requires-2
-    same-length-2
-    returns-2
-    list-each-requires-3
-    same-length-3
-    returns-3
-    list-each-requires-4
-    same-length-4
-    returns-4)
+    returns)

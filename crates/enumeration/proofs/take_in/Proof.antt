@@ -10,7 +10,7 @@ put-set-requires : tie.Need-put-set-requires
 put-set-requires c κs =
     let s = c .before .before .before .before in
     let k = rw (c .before .if1 .taken) at (s .pre .1) in
-    (omega arith, omega arith)
+    (omega arith, omega arith, omega arith)
 
 same-length : tie.Need-same-length
 same-length c = search needs

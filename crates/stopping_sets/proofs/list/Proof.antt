@@ -21,7 +21,7 @@ use Rattle.stopping_sets.proofs.list.Lts as lts
 use Rattle.stopping_sets.proofs.list.Reads as reads
 use Rattle.matrix.proofs.accept.Reads as accept-reads
 use Rattle.rows.proofs.columns.first_columns.Reads as first-columns-reads
-use Rattle.rows.proofs.words_of.Reads as words-of-reads
+use Rattle.stopping_sets.proofs.words_used.Reads as words-used-reads
 use Rattle.stopping_sets.proofs.is_size.Reads as is-size-reads
 use Rattle.enumeration.proofs.list_all.Reads as list-all-reads
 
@@ -45,7 +45,7 @@ is-size-requires : tie.Need-is-size-requires
 is-size-requires c κs = search needs
 
 -- the matrix is accepted
-accepted : (c : lts.After-enum-told (accept-reads.Asked, accept-reads.Learnt, is-size-reads.Asked, is-size-reads.Learnt, first-columns-reads.Asked, first-columns-reads.Learnt, words-of-reads.Asked, words-of-reads.Learnt, list-all-reads.Asked, list-all-reads.Learnt) reads.Pre reads.Post)
+accepted : (c : lts.After-enum-told (accept-reads.Asked, accept-reads.Learnt, is-size-reads.Asked, is-size-reads.Learnt, first-columns-reads.Asked, first-columns-reads.Learnt, words-used-reads.Asked, words-used-reads.Learnt, list-all-reads.Asked, list-all-reads.Learnt) reads.Pre reads.Post)
     → let s = c .before .before .before .before .before in cause (s .args .words .now) (s .args .n) (s .args .m) (s .args .k) ≡ 0
 accepted c = accepted-cause _ _ _ _ (rw (c .enum-told .given .1) at (c .before .before .accept .ensures))
 
@@ -56,12 +56,12 @@ returns-2 c =
     let e = list-size (s .args .words .now) (s .args .n) (s .args .m) (s .args .k) (s .args .t) (s .args .sets .now) (accepted (c .before .before)) p in
     (sym (ap (λ (o : Outcome). o .reply) e), sym (ap (λ (o : Outcome). o .after) e))
 
-matrix : (c : lts.Else1 (accept-reads.Asked, accept-reads.Learnt, is-size-reads.Asked, is-size-reads.Learnt, first-columns-reads.Asked, first-columns-reads.Learnt, words-of-reads.Asked, words-of-reads.Learnt, list-all-reads.Asked, list-all-reads.Learnt) reads.Pre reads.Post)
+matrix : (c : lts.Else1 (accept-reads.Asked, accept-reads.Learnt, is-size-reads.Asked, is-size-reads.Learnt, first-columns-reads.Asked, first-columns-reads.Learnt, words-used-reads.Asked, words-used-reads.Learnt, list-all-reads.Asked, list-all-reads.Learnt) reads.Pre reads.Post)
     → let s = c .before .before .before .before .before .before .before in Accepted (s .args .words .now) (s .args .n) (s .args .m) (s .args .k)
 matrix c = accepts _ _ _ _ .0 (accepted (c .before .before))
 
 -- and the size can be asked for
-sized : (c : lts.Else1 (accept-reads.Asked, accept-reads.Learnt, is-size-reads.Asked, is-size-reads.Learnt, first-columns-reads.Asked, first-columns-reads.Learnt, words-of-reads.Asked, words-of-reads.Learnt, list-all-reads.Asked, list-all-reads.Learnt) reads.Pre reads.Post)
+sized : (c : lts.Else1 (accept-reads.Asked, accept-reads.Learnt, is-size-reads.Asked, is-size-reads.Learnt, first-columns-reads.Asked, first-columns-reads.Learnt, words-used-reads.Asked, words-used-reads.Learnt, list-all-reads.Asked, list-all-reads.Learnt) reads.Pre reads.Post)
     → let s = c .before .before .before .before .before .before .before in wrongSize (s .args .t) ≡ false
 sized c = sym (Bool·not-not _) ∙ ap not (sym (c .before .is-size .ensures) ∙ not-false (c .before .is-size .result) (c .if1 .left))
 
@@ -71,11 +71,11 @@ add-first-columns c = let S = matrix c .sound in omega (arith, S .m120, S .k392)
 first-columns-requires : tie.Need-first-columns-requires
 first-columns-requires c κs = let S = matrix c .sound in (matrix c .words, omega (arith, S .m120, S .k392))
 
-add-words-of : tie.Need-add-words-of
-add-words-of c = let S = matrix (c .before) .sound in omega (arith, S .m120, S .k392)
+add-words-used : tie.Need-add-words-used
+add-words-used c = let S = matrix (c .before) .sound in omega (arith, S .m120, S .k392)
 
-words-of-requires : tie.Need-words-of-requires
-words-of-requires c κs = let S = matrix (c .before) .sound in omega (arith, S .m120, S .k392)
+words-used-requires : tie.Need-words-used-requires
+words-used-requires c κs = let S = matrix (c .before) .sound in omega (arith, S .m120, S .k392)
 
 slice-aggregate-list-all : tie.Need-slice-aggregate-list-all
 slice-aggregate-list-all c = search needs
@@ -85,7 +85,7 @@ list-all-requires c κs =
     let E = c .before .before .before .before in
     let S = matrix E .sound in
     let t = right-size _ (sized E) in
-    ((search needs, omega (arith, S .m120, S .k392, c .before .before .words-of .ensures .1), S .n120, t .0, t .1), omega arith)
+    ((search needs, c .before .before .words-used .ensures .1, c .before .before .words-used .ensures .2, S .n120, t .0, t .1), omega arith)
 
 same-length : tie.Need-same-length
 same-length c = search needs
@@ -94,7 +94,7 @@ returns-3 : tie.Need-returns-3
 returns-3 c =
     let s = c .before .before .before .before .before .before .before .before .before .before .before .before .before .before .before in
     let E = c .before .before .before .before .before .before .before .before in
-    let P = put-found _ _ _ _ _ _ _ _ _ _ _ (c .before .before .before .before .before .before .before .first-columns .ensures) (matrix E .sound .n120) (c .before .before .before .before .before .before .words-of .ensures .0) (c .before .before .before .list-all .ensures) in
+    let P = put-found _ _ _ _ _ _ _ _ _ _ _ (c .before .before .before .before .before .before .before .first-columns .ensures) (matrix E .sound .n120) (c .before .before .before .before .before .before .words-used .ensures .0) (c .before .before .before .list-all .ensures) in
     let u = place-is _ _ _ _ _ P in
     let e = list-short (s .args .words .now) (s .args .n) (s .args .m) (s .args .k) (s .args .t) (s .args .sets .now) (accepted (E .before .before)) (sized E) (omega (arith, c .if2 .taken, ap length (P .stored))) in
     rw u (sym (ap (λ (o : Outcome). o .reply) e), P .stored ∙ sym (ap (λ (o : Outcome). o .after) e))
@@ -107,7 +107,7 @@ list-all-requires-2 c κs =
     let E = c .before .before .before .before .before .before .before .before .before .before in
     let S = matrix E .sound in
     let t = right-size _ (sized E) in (
-      (search needs, omega (arith, S .m120, S .k392, c .before .before .before .before .before .before .before .before .words-of .ensures .1), S .n120, t .0, t .1),
+      (search needs, c .before .before .before .before .before .before .before .before .words-used .ensures .1, c .before .before .before .before .before .before .before .before .words-used .ensures .2, S .n120, t .0, t .1),
       omega (arith, c .before .before .if2 .left, c .before .before .before .before .before .list-all .ensures .place),
     )
 
@@ -123,7 +123,7 @@ returns-4 c =
     let E = c .before .before .before .before .before .before .before .before .before .before .before .before .before in
     let C = c .before .before .before .before .before .before .before .before .before .before .before .before .first-columns .ensures in
     let n = matrix E .sound .n120 in
-    let used = c .before .before .before .before .before .before .before .before .before .before .before .words-of .ensures .0 in
+    let used = c .before .before .before .before .before .before .before .before .before .before .before .words-used .ensures .0 in
     let P = put-found _ _ _ _ _ _ _ _ _ _ _ C n used (c .before .before .before .before .before .before .before .before .list-all .ensures) in
     let Q = put-found _ _ _ _ _ _ _ _ _ _ _ C n used (c .before .before .list-all2 .ensures) in
     let u = place-is _ _ _ _ _ P in
@@ -145,8 +145,8 @@ list-spec =
     returns-2
     add-first-columns
     first-columns-requires
-    add-words-of
-    words-of-requires
+    add-words-used
+    words-used-requires
     slice-aggregate-list-all
     list-all-requires
     same-length

@@ -1,0 +1,111 @@
+-- `list_pairs` meets its contract. Assumes nothing.
+use mathlib.Core.Path.{_≡_, refl, sym}
+use mathlib.Core.List.{[], _∷_}
+use Prim.Native.Nat.{_+_, _*_, _-_, max}
+use native.Mathlib.Omega.{arith}
+use borrow.Author.Needs.{needs}
+use lib.ListN.{length, length-append}
+use lib.Seq.{length-take-le}
+use Rattle.enumeration.specs.Search.{across}
+use Rattle.enumeration.proofs.Storing.{put-length}
+use Rattle.enumeration.proofs.Joining.{Searched, nextOf, searched-none, next-call, next-listed, next-all}
+use Rattle.enumeration.proofs.list_pairs.Statement.{statement}
+use Rattle.enumeration.proofs.list_pairs.Tie as tie
+
+abbrev Inv-loop : tie.InvT-loop
+Inv-loop cols n used once some first from sets₀ at write len place₀ d₀ sets place d =
+    (len ≡ length first + 1) × Searched write sets₀ sets at from d n (nextOf (across cols) (used * 64) n 1 first) place
+
+abbrev μ-loop : tie.MeasureT-loop
+μ-loop cols n used once some first from sets₀ at write len place₀ d₀ sets place d = max from n - d
+
+add-len : tie.Need-add-len Inv-loop μ-loop
+add-len c = omega arith
+
+loop-holds : tie.Need-loop-holds Inv-loop μ-loop
+loop-holds c = (refl, searched-none _ _ _ _ _ _)
+
+once-with-requires : tie.Need-once-with-requires Inv-loop μ-loop
+once-with-requires c κs = search needs
+
+some-with-requires : tie.Need-some-with-requires Inv-loop μ-loop
+some-with-requires c κs = search needs
+
+longer-requires : tie.Need-longer-requires Inv-loop μ-loop
+longer-requires c κs = search needs
+
+slice-aggregate-list-last : tie.Need-slice-aggregate-list-last Inv-loop μ-loop
+slice-aggregate-list-last c = search needs
+
+slice-aggregate-list-last-2 : tie.Need-slice-aggregate-list-last-2 Inv-loop μ-loop
+slice-aggregate-list-last-2 c = search needs
+
+array-share-prefix-more : tie.Need-array-share-prefix-more Inv-loop μ-loop
+array-share-prefix-more c =
+    let s = c .before .before .before .before .before .before .before .before .before .before .before .before in
+    omega (arith, c .before .before .longer .ensures .size, s .pre .0 .6)
+
+slice-aggregate-list-last-3 : tie.Need-slice-aggregate-list-last-3 Inv-loop μ-loop
+slice-aggregate-list-last-3 c =
+    let s = c .before .before .before .before .before .before .before .before .before .before .before .before .before in
+    let g = c .before .before .before .longer in
+    sym (length-take-le (length (s .args .first .now) + 1) (g .result) (omega (arith, g .ensures .size, s .pre .0 .6)))
+
+add-list-last : tie.Need-add-list-last Inv-loop μ-loop
+add-list-last c = omega arith
+
+list-last-requires : tie.Need-list-last-requires Inv-loop μ-loop
+list-last-requires c κs =
+    let s = c .before .before .before .before .before .before .before .before .before .before .before .before .before .before in
+    let l = c .before .before .before .before .before .before .before .before .loop in
+    let P = s .pre in
+    let g = c .before .before .before .before .longer .ensures .front in
+    let X = c .before .before .before .before .before .before .once-with .ensures in
+    let Y = c .before .before .before .before .before .some-with .ensures in (
+      (P .0 .0, X .size, Y .size, P .0 .3, P .0 .4, P .0 .5, rw (g, length-append (s .args .first .now) (l .d ∷ [])) (omega (arith, P .0 .6))),
+      next-call (s .args .cols .now) (s .args .first .now) (s .args .used * 64) (s .args .n) 1 2 refl (l .inv .1) 1 refl g (omega arith) (P .1 .0 .0) (P .1 .0 .1) (P .0 .5) X Y 1099511627776 (P .1 .1),
+    )
+
+add-d : tie.Need-add-d Inv-loop μ-loop
+add-d c = omega arith
+
+loop-less : tie.Need-loop-less Inv-loop μ-loop
+loop-less c = omega arith
+
+loop-again : tie.Need-loop-again Inv-loop μ-loop
+loop-again c =
+    let s = c .before .before .before .before .before .before .before .before .before .before .before .before .before .before .before .before .before in
+    let l = c .before .before .before .before .before .before .before .before .before .before .before .loop in
+    (refl, next-listed (s .args .cols .now) (s .args .first .now) (s .args .used * 64) (s .args .n) 1 2 refl (l .inv .1) 1 refl (c .before .before .before .before .before .before .before .longer .ensures .front) (omega (arith, c .before .before .before .before .before .before .before .before .before .before)) (c .before .before .list-last .ensures))
+
+same-length : tie.Need-same-length Inv-loop μ-loop
+same-length c = put-length _ _ _ _ _ _ (c .before .loop .inv .1 .put)
+
+returns : tie.Need-returns Inv-loop μ-loop
+returns c =
+    let s = c .before .before .before .before .before .before .before in
+    let l = c .before .loop in
+    next-all (s .args .cols .now) (s .args .first .now) (s .args .used * 64) (s .args .n) 1 2 refl (l .inv .1) (omega arith)
+
+pub list-pairs-spec : {M : Type 1} → statement M
+list-pairs-spec =
+    tie.close
+    (tie.spec
+    Inv-loop
+    μ-loop
+    add-len
+    loop-holds
+    once-with-requires
+    some-with-requires
+    longer-requires
+    slice-aggregate-list-last
+    slice-aggregate-list-last-2
+    array-share-prefix-more
+    slice-aggregate-list-last-3
+    add-list-last
+    list-last-requires
+    add-d
+    loop-less
+    loop-again
+    same-length
+    returns)

@@ -14,15 +14,15 @@ use Rattle.parity.specs.Finite.{sum, count}
 use Rattle.parity.specs.Matrix.{Matrix}
 use Rattle.parity.proofs.Finite.Sums.{count-suc, count-bound, count-end}
 use Rattle.parity.specs.Soft.{channelOf, messageAt}
-use Rattle.messages.specs.Memory.{start, place, held, column, Cursors, heldAt, Collected, Spread}
+use Rattle.messages.specs.Memory.{start, place, held, column, Cursors, Moving, heldAt, Collected, Gathering, Spread, Within}
 use Rattle.parity.specs.declared.Channel.{Channel}
 use Rattle.soft.proofs.Places.{message-other}
-use Rattle.rows.specs.Rows.{NextOne}
 use Rattle.messages.proofs.Compact.{rank-less, rank-same}
 use Rattle.messages.proofs.Places.{start-mono, place-low, place-high}
+use Rattle.messages.proofs.Word.{Gap, gap-count, gap-before}
 
 -- what was written is there
-message-here : (ts : List ℕ) (xs : List Float) (i y : ℕ) (x : Float) → i < length ts → i < length xs → messageAt (set ts i y) (set xs i x) i ≡ channelOf y x
+pub message-here : (ts : List ℕ) (xs : List Float) (i y : ℕ) (x : Float) → i < length ts → i < length xs → messageAt (set ts i y) (set xs i x) i ≡ channelOf y x
 unfolding messageAt
 message-here ts xs i y x k l = rw (getD-set-same ts i y 0 k, getD-set-same xs i x nan l)
 
@@ -30,63 +30,37 @@ pub message-is : (ts : List ℕ) (xs : List Float) (i : ℕ) → channelOf (getD
 unfolding messageAt
 message-is ts xs i = refl
 
-none-counted : (p : ℕ → Bool) → 0 ≡ count 0 p
+pub none-counted : (p : ℕ → Bool) → 0 ≡ count 0 p
 unfolding count sum
 none-counted p = refl
 
 -- one more number, that passes or not
-count-yes : (p : ℕ → Bool) (c : ℕ) → p c ≡ true → count (c + 1) p ≡ count c p + 1
+pub count-yes : (p : ℕ → Bool) (c : ℕ) → p c ≡ true → count (c + 1) p ≡ count c p + 1
 count-yes p c e = rw (add-one c) (let q = rw e at (count-suc c p) in q)
 
 count-no : (p : ℕ → Bool) (c : ℕ) → p c ≡ false → count (c + 1) p ≡ count c p
 count-no p c e = rw (add-one c) (let q = rw (e, add-zero) at (count-suc c p) in q)
 
--- ---- the next check of a bit
--- c is the first of the 512 checks, from some check on, that contains bit b; among those from M on that was looked past, none does.
-pub record At (h : Matrix) (M b c : ℕ) : Type 0 where
-  pub top : c ≤ 512
-  pub here : c < 512 → h c b ≡ true
-  pub past : (d : ℕ) → M ≤ d → d < c → h d b ≡ false
-
-module _ (h : Matrix) (M b : ℕ) where
-  pub at-first : (c : ℕ) → NextOne 512 (column h b) 0 c → At h M b c
-  at-first c T = record { top = T .top; here = T .found; past = λ d k l. T .none d (omega arith) l }
-
-  pub at-next : (c c' : ℕ) → c < M → NextOne 512 (column h b) (c + 1) c' → At h M b c'
-  at-next c c' k T = record { top = T .top; here = T .found; past = λ d i l. T .none d (omega arith) l }
-
-  -- all M checks are counted
-  pub at-end : (c : ℕ) → At h M b c → M ≤ c → count c (column h b) ≡ count M (column h b)
-  at-end c A k = count-end M c (column h b) k (A .past)
-
--- a check more is counted, and those without the bit are passed over
-pub count-next : (p : ℕ → Bool) (c c' : ℕ) → p c ≡ true → NextOne 512 p (c + 1) c' → count c' p ≡ count c p + 1
-count-next p c c' e T = count-end (c + 1) c' p (T .least) (T .none) ∙ count-yes p c e
-
-pub count-first : (p : ℕ → Bool) (c : ℕ) → NextOne 512 p 0 c → 0 ≡ count c p
-count-first p c T = none-counted p ∙ sym (count-end 0 c p (T .least) (T .none))
-
 -- ---- the row
 module _ (p : ℕ → Bool) (f : ℕ → Channel) where
-  over : (e c : ℕ) → NextOne 512 p e c → (i : ℕ) → i < c → p i ≡ true → i < e
-  over e c T i k q = elim (decLt i e) [ yes l ↦ l | no l ↦ absurd (true≢false (sym q ∙ T .none i (omega arith) k)) ]
-
-  pub collected-first : (c : ℕ) → NextOne 512 p 0 c → (ts : List ℕ) (xs : List Float) → length ts ≡ 512 → length xs ≡ 512 → Collected p c f ts xs
-  collected-first c T ts xs k l = record { tags = k; values = l; at = λ i j q. absurd (omega (arith, over 0 c T i j q)) }
+  pub collected-none : (ts : List ℕ) (xs : List Float) → length ts ≡ 512 → length xs ≡ 512 → Collected p 0 f ts xs
+  collected-none ts xs k l = record { tags = k; values = l; at = λ i j q. absurd (omega arith) }
 
   module _ (c : ℕ) (ts : List ℕ) (xs : List Float) (C : Collected p c f ts xs) where
     pub collected-end : (M : ℕ) → M ≤ c → Collected p M f ts xs
     collected-end M k = record { tags = C .tags; values = C .values; at = λ i l q. C .at i (omega arith) q }
 
-    pub collected-next : c < 512 → p c ≡ true → (y : ℕ) (x : Float) → channelOf y x ≡ f c → (c' : ℕ) → NextOne 512 p (c + 1) c'
-        → Collected p c' f (set ts (count c p) y) (set xs (count c p) x)
-    collected-next k e y x v c' T = record {
+    collected-gap : (e : ℕ) → Gap p c e → Collected p e f ts xs
+    collected-gap e G = record { tags = C .tags; values = C .values; at = λ i l q. C .at i (gap-before p c e G i l q) q }
+
+    collected-one : c < 512 → p c ≡ true → (y : ℕ) (x : Float) → channelOf y x ≡ f c → Collected p (c + 1) f (set ts (count c p) y) (set xs (count c p) x)
+    collected-one k e y x v = record {
       tags = length-set ts _ _ ∙ C .tags;
       values = length-set xs _ _ ∙ C .values;
       at = λ i l q. elim (ℕ-discrete i c) [
         | yes z ↦ rw z (message-here ts xs (count c p) y x (omega (arith, C .tags, count-bound c p)) (omega (arith, C .values, count-bound c p)) ∙ v)
         | no z ↦
-            let j : i < c = omega (arith, over (c + 1) c' T i l q) in
+            let j : i < c = omega arith in
             message-other ts xs (count c p) (count i p) _ _ (λ w. omega (arith, rank-less p i c j q)) ∙ C .at i j q
       ];
     }
@@ -105,43 +79,63 @@ place-same h N c b d a k l p q e = elim (ℕ-discrete c d) [
     same : c ≡ d → count b (h c) ≡ count a (h c)
     same z = let f = rw (← z) at e in omega arith
 
--- ---- the way back
-module _ (h : Matrix) (N M b : ℕ) (kb : b < N) (row : ℕ → Channel) (ts : List ℕ) (xs : List Float) where
-  pub spread-first : (c : ℕ) → NextOne 512 (column h b) 0 c → Spread h N M b c row ts xs ts xs
-  spread-first c T = record {
-    tags = refl;
-    values = refl;
-    done = λ d k q. absurd (omega (arith, over (column h b) row 0 c T d k q));
-    rest = λ d a k l e q. refl;
-  }
+-- the checks that have a bit
+pub within-below : (h : Matrix) (M : ℕ) → Within h M → (d a : ℕ) → h d a ≡ true → d < M
+within-below h M W d a e = elim (decLt d M) [ yes k ↦ k | no k ↦ absurd (true≢false (sym e ∙ W .after d a (omega arith))) ]
 
-  module _ (c : ℕ) (us : List ℕ) (ys : List Float) (S : Spread h N M b c row ts xs us ys) where
-    pub spread-end : M ≤ c → Spread h N M b M row ts xs us ys
-    spread-end k = record {
+pub within-gap : (h : Matrix) (M : ℕ) → Within h M → (b c : ℕ) → M ≤ c → Gap (column h b) M c
+within-gap h M W b c k = record { least = k; none = λ d l m. W .after d b l }
+
+-- ---- the way back
+module _ (h : Matrix) (N b : ℕ) (row : ℕ → Channel) (ts : List ℕ) (xs : List Float) where
+  pub spread-none : (l : ℕ) → Spread h N b l l row ts xs ts xs
+  spread-none l = record { tags = refl; values = refl; done = λ d k m e. absurd (omega arith); rest = λ d a k e q. refl }
+
+  module _ (l c : ℕ) (us : List ℕ) (ys : List Float) (S : Spread h N b l c row ts xs us ys) where
+    pub spread-gap : (e : ℕ) → Gap (column h b) c e → Spread h N b l e row ts xs us ys
+    spread-gap e G = record {
       tags = S .tags;
       values = S .values;
-      done = λ d l q. S .done d (omega arith) q;
-      rest = λ d a l m q r. S .rest d a l m q (λ z. omega (arith, r z));
+      done = λ d k m q. S .done d k (gap-before (column h b) c e G d m q) q;
+      rest = λ d a k q r. S .rest d a k q (λ z m. omega (arith, r z m, G .least));
     }
 
-    pub spread-next : h c b ≡ true → place h N c b < length us → place h N c b < length ys → (y : ℕ) (x : Float) → channelOf y x ≡ row (count c (column h b))
-        → (c' : ℕ) → NextOne 512 (column h b) (c + 1) c' → Spread h N M b c' row ts xs (set us (place h N c b) y) (set ys (place h N c b) x)
+    pub spread-end : (M : ℕ) → Within h M → M ≤ c → Spread h N b l M row ts xs us ys
+    spread-end M W k = record {
+      tags = S .tags;
+      values = S .values;
+      done = λ d i m q. S .done d i (omega arith) q;
+      rest = λ d a i q r. S .rest d a i q (λ z m. omega (arith, r z m, within-below h M W d a q));
+    }
+
+    -- those from c on besides
+    pub spread-more : (e : ℕ) (vs : List ℕ) (zs : List Float) → b < N → l ≤ c → c ≤ e → Spread h N b c e row us ys vs zs → Spread h N b l e row ts xs vs zs
+    spread-more e vs zs kb i j T = record {
+      tags = T .tags ∙ S .tags;
+      values = T .values ∙ S .values;
+      done = λ d k m q. elim (decLt d c) [
+        | yes n ↦ T .rest d b kb q (λ z o. omega arith) ∙ S .done d k n q
+        | no n ↦ T .done d (omega arith) m q
+      ];
+      rest = λ d a m q r. T .rest d a m q (λ z n. r z (omega arith)) ∙ S .rest d a m q (λ z n. omega (arith, r z n));
+    }
+
+    pub spread-one : b < N → l ≤ c → h c b ≡ true → place h N c b < length us → place h N c b < length ys → (y : ℕ) (x : Float) → channelOf y x ≡ row (count c (column h b))
+        → Spread h N b l (c + 1) row ts xs (set us (place h N c b) y) (set ys (place h N c b) x)
     unfolding held
-    spread-next e i j y x v c' T = record {
+    spread-one kb lc e i j y x v = record {
       tags = length-set us _ _ ∙ S .tags;
       values = length-set ys _ _ ∙ S .values;
-      done = λ d k r. elim (ℕ-discrete d c) [
+      done = λ d k m r. elim (ℕ-discrete d c) [
         | yes z ↦ rw z (message-here us ys (place h N c b) y x i j ∙ v)
-        | no z ↦
-            let l : d < c = omega (arith, over (column h b) row (c + 1) c' T d k r) in
-            message-other us ys (place h N c b) (place h N d b) _ _ (λ w. z (place-same h N d b c b kb kb r e w .0)) ∙ S .done d l r
+        | no z ↦ message-other us ys (place h N c b) (place h N d b) _ _ (λ w. z (place-same h N d b c b kb kb r e w .0)) ∙ S .done d k (omega arith) r
       ];
-      rest = λ d a k l r s. message-other us ys (place h N c b) (place h N d a) _ _
-          (λ w. let f = place-same h N d a c b l kb r e w in omega (arith, s (f .1), f .0, T .least)) ∙ S .rest d a k l r (λ z. omega (arith, s z, T .least));
+      rest = λ d a k r s. message-other us ys (place h N c b) (place h N d a) _ _
+          (λ w. let f = place-same h N d a c b k kb r e w in omega (arith, s (f .1) (omega (arith, f .0)), f .0)) ∙ S .rest d a k r (λ z m. omega (arith, s z m));
     }
 
 -- ---- the cursors
-place-yes : (h : Matrix) (N c b : ℕ) → h c b ≡ true → place h N c (b + 1) ≡ place h N c b + 1
+pub place-yes : (h : Matrix) (N c b : ℕ) → h c b ≡ true → place h N c (b + 1) ≡ place h N c b + 1
 unfolding place
 place-yes h N c b e = omega (arith, count-yes (h c) b e)
 
@@ -149,60 +143,77 @@ place-no : (h : Matrix) (N c b : ℕ) → h c b ≡ false → place h N c (b + 1
 unfolding place
 place-no h N c b e = omega (arith, count-no (h c) b e)
 
--- of the M cursors, those of the checks below c are those of the next bit
-pub record Moving (h : Matrix) (N M b c : ℕ) (at : List ℕ) : Type 0 where
-  pub size : length at ≡ 512
-  pub new : (d : ℕ) → d < c → d < M → getD at d 0 ≡ place h N d (b + 1)
-  pub old : (d : ℕ) → c ≤ d → d < M → getD at d 0 ≡ place h N d b
+-- a message's place is in the memory
+pub place-small : (h : Matrix) (N c b : ℕ) → start h N 512 ≤ 65536 → c < 512 → b < N → h c b ≡ true → place h N c b < 65536
+place-small h N c b m k l e = omega (arith, place-high h N c b l e, start-mono h N (suc c) 512 k)
 
-module _ (h : Matrix) (N M b : ℕ) where
-  pub moving-first : (c : ℕ) → NextOne 512 (column h b) 0 c → (at : List ℕ) → Cursors h N M b at → Moving h N M b c at
-  moving-first c T at C = record {
-    size = C .size;
-    new = λ d k l. C .is d l ∙ sym (place-no h N d b (T .none d (omega arith) k));
-    old = λ d k l. C .is d l;
-  }
+module _ (h : Matrix) (N b : ℕ) where
+  pub moving-none : (at : List ℕ) → Cursors h N b at → Moving h N b 0 at
+  moving-none at C = record { size = C .size; new = λ d a e k. absurd (omega arith); old = λ d a e k. C .is d a e }
 
-  module _ (c : ℕ) (at : List ℕ) (S : Moving h N M b c at) where
-    pub moving-end : M ≤ c → Cursors h N M (b + 1) at
-    moving-end k = record { size = S .size; is = λ d l. S .new d (omega arith) l }
+  module _ (c : ℕ) (at : List ℕ) (S : Moving h N b c at) where
+    pub moving-end : (M : ℕ) → Within h M → M ≤ c → Cursors h N (b + 1) at
+    moving-end M W k = record { size = S .size; is = λ d a e. S .new d a e (omega (arith, within-below h M W d a e)) }
 
-    pub moving-next : c < M → c < 512 → h c b ≡ true → (c' : ℕ) → NextOne 512 (column h b) (c + 1) c' → Moving h N M b c' (set at c (getD at c 0 + 1))
-    moving-next kc i e c' T = record {
-      size = length-set at _ _ ∙ S .size;
-      new = λ d k l. elim (ℕ-discrete d c) [
-        | yes z ↦ rw z (getD-set-same at c _ 0 (omega (arith, S .size)) ∙ ap (λ n. n + 1) (S .old c (omega arith) kc) ∙ sym (place-yes h N c b e))
-        | no z ↦ getD-set-other at c d _ 0 z ∙ moved d z k l
+    moving-gap : (e : ℕ) → Gap (column h b) c e → Moving h N b e at
+    moving-gap e G = record {
+      size = S .size;
+      new = λ d a q k. elim (decLt d c) [
+        | yes j ↦ S .new d a q j
+        | no j ↦ S .old d a q (omega arith) ∙ sym (place-no h N d b (G .none d (omega arith) k))
       ];
-      old = λ d k l. getD-set-other at c d _ 0 (λ z. omega (arith, T .least)) ∙ S .old d (omega (arith, T .least)) l;
+      old = λ d a q k. S .old d a q (omega (arith, G .least));
+    }
+
+    moving-one : c < 512 → h c b ≡ true → Moving h N b (c + 1) (set at c (getD at c 0 + 1))
+    moving-one i e = record {
+      size = length-set at _ _ ∙ S .size;
+      new = λ d a q k. elim (ℕ-discrete d c) [
+        | yes z ↦ rw z (getD-set-same at c _ 0 (omega (arith, S .size)) ∙ ap (λ n. n + 1) (S .old c b e (omega arith)) ∙ sym (place-yes h N c b e))
+        | no z ↦ getD-set-other at c d _ 0 z ∙ S .new d a q (omega arith)
+      ];
+      old = λ d a q k. getD-set-other at c d _ 0 (λ z. omega arith) ∙ S .old d a q (omega arith);
+    }
+
+-- ---- the row and the cursors
+module _ (h : Matrix) (N b : ℕ) (ts : List ℕ) (xs : List Float) where
+  pub gathering-none : (at : List ℕ) (rt : List ℕ) (rx : List Float) → Cursors h N b at → length rt ≡ 512 → length rx ≡ 512 → Gathering h N b 0 ts xs 0 at rt rx
+  gathering-none at rt rx C k l = record { many = none-counted (column h b); moving = moving-none h N b at C; row = collected-none _ _ rt rx k l }
+
+  module _ (c d : ℕ) (at : List ℕ) (rt : List ℕ) (rx : List Float) (S : Gathering h N b c ts xs d at rt rx) where
+    pub gathering-gap : (e : ℕ) → Gap (column h b) c e → Gathering h N b e ts xs d at rt rx
+    gathering-gap e G = record {
+      many = S .many ∙ sym (gap-count (column h b) c e G);
+      moving = moving-gap h N b c at (S .moving) e G;
+      row = collected-gap _ _ c rt rx (S .row) e G;
+    }
+
+    -- what stands at the cursor is read into the row
+    pub gathering-one : c < 512 → h c b ≡ true
+        → Gathering h N b (c + 1) ts xs (d + 1) (set at c (getD at c 0 + 1)) (set rt d (getD ts (getD at c 0) 0)) (set rx d (getD xs (getD at c 0) nan))
+    gathering-one k e = record {
+      many = rw (S .many) (sym (count-yes (column h b) c e));
+      moving = moving-one h N b c at (S .moving) k e;
+      row = rw (S .many) (collected-one (column h b) (heldAt h N ts xs b) c rt rx (S .row) k e _ _ reads);
     }
       where
-        moved : (d : ℕ) → (d ≡ c → ⊥) → d < c' → d < M → getD at d 0 ≡ place h N d (b + 1)
-        moved d z k l = elim (decLt d c) [
-          | yes j ↦ S .new d j l
-          | no j ↦ S .old d (omega arith) l ∙ sym (place-no h N d b (T .none d (omega arith) k))
-        ]
+        reads : channelOf (getD ts (getD at c 0) 0) (getD xs (getD at c 0) nan) ≡ heldAt h N ts xs b c
+        reads = unfold held messageAt in (rw (S .moving .old c b e (omega arith)))
 
-    -- what stands at the next cursor
-    pub moving-reads : c < M → (ts : List ℕ) (xs : List Float) → channelOf (getD ts (getD at c 0) 0) (getD xs (getD at c 0) nan) ≡ heldAt h N ts xs b c
-    unfolding held messageAt
-    moving-reads k ts xs = rw (S .old c (omega arith) k)
+    -- the cursor is a place in the memory, and the row has room
+    pub gathering-small : start h N 512 ≤ 65536 → b < N → c < 512 → h c b ≡ true → (getD at c 0 < 65536) × (d < 512)
+    gathering-small m l k e = (omega (arith, S .moving .old c b e (omega arith), place-small h N c b m k l e), omega (arith, S .many, count-bound c (column h b)))
 
-    -- the next cursor is a place in the memory
-    pub moving-small : c < M → b < N → h c b ≡ true → start h N M ≤ 65536 → getD at c 0 < 65536
-    moving-small k l e m = omega (arith, S .old c (omega arith) k, place-high h N c b l e, start-mono h N (suc c) M k)
-
--- before the cursor of the next bit is the place of this one, in the memory
-pub place-before : (h : Matrix) (N M b c : ℕ) (at : List ℕ) → Cursors h N M (b + 1) at → c < M → b < N → h c b ≡ true → start h N M ≤ 65536
-    → (getD at c 0 ≡ place h N c b + 1) × (place h N c b < 65536)
-place-before h N M b c at C k l e m = (C .is c k ∙ place-yes h N c b e, omega (arith, place-high h N c b l e, start-mono h N (suc c) M k))
+-- before the cursor of the next bit is the place of this one
+pub place-before : (h : Matrix) (N b c : ℕ) (at : List ℕ) → Cursors h N (b + 1) at → h c b ≡ true → getD at c 0 ≡ place h N c b + 1
+place-before h N b c at C e = C .is c b e ∙ place-yes h N c b e
 
 -- the cursors of the first c checks stand at their first messages
 pub record Begun (h : Matrix) (N c : ℕ) (at : List ℕ) : Type 0 where
   pub size : length at ≡ 512
   pub is : (d : ℕ) → d < c → getD at d 0 ≡ start h N d
 
-first-place : (h : Matrix) (N c : ℕ) → place h N c 0 ≡ start h N c
+pub first-place : (h : Matrix) (N c : ℕ) → place h N c 0 ≡ start h N c
 unfolding place
 first-place h N c = omega (arith, none-counted (h c))
 
@@ -219,5 +230,5 @@ module _ (h : Matrix) (N : ℕ) where
     ];
   }
 
-  pub begun-all : (M : ℕ) (at : List ℕ) → Begun h N M at → Cursors h N M 0 at
-  begun-all M at B = record { size = B .size; is = λ c k. B .is c k ∙ sym (first-place h N c) }
+  pub begun-all : (M : ℕ) (at : List ℕ) → Within h M → Begun h N M at → Cursors h N 0 at
+  begun-all M at W B = record { size = B .size; is = λ c a e. B .is c (within-below h M W c a e) ∙ sym (first-place h N c) }

@@ -13,8 +13,8 @@ use Rattle.parity.specs.Matrix.{Matrix}
 use Rattle.parity.specs.Soft.{Messages, messageAt, settled, bitSends, toChecks, but}
 use Rattle.soft.specs.Pass.{every, bitAnswer}
 use Rattle.rows.specs.Rows.{Columns}
-use Rattle.messages.specs.Memory.{held, across, column, heldAt, Part, from, Collected, Spread, BitSent, Sending, resultOf, Holds, Cursors, same, Inner}
-use Rattle.messages.specs.Loops.{SentAll, Filling}
+use Rattle.messages.specs.Memory.{held, across, column, heldAt, Part, from, Collected, Spread, BitSent, Sending, resultOf, Holds, Within}
+use Rattle.messages.specs.Loops.{SentAll}
 use Rattle.parity.specs.declared.Channel.{Channel}
 use Rattle.parity.proofs.Soft.Cong.{gathered-at}
 use Rattle.messages.proofs.Compact.{rank-less, gathered-row, all-row}
@@ -33,17 +33,17 @@ module _ (h : Matrix) (N M b : ℕ) (v : Channel) (ts : List ℕ) (xs : List Flo
   row-result = ap settled (all-row (column h b) (heldAt h N ts xs b) (from 0 rt rx) v M in-row)
 
   module _ (rt' : List ℕ) (rx' : List Float) (P : Part 0 (count M (column h b)) (bitAnswer v (count M (column h b)) (from 0 rt rx)) rt rx rt' rx')
-      (ts' : List ℕ) (xs' : List Float) (S : Spread h N M b M (messageAt rt' rx') ts xs ts' xs') where
+      (ts' : List ℕ) (xs' : List Float) (S : Spread h N b 0 M (messageAt rt' rx') ts xs ts' xs') where
     sent-at : (d : ℕ) → d < M → h d b ≡ true → held h N ts' xs' d b ≡ bitSends v M (λ e. h e b && but d e) (heldAt h N ts xs b)
     unfolding bitSends bitAnswer
     sent-at d k e =
         let t = count d (column h b) in
         let z : t ≡ 0 + t = omega arith in
-        S .done d k e ∙ ap (messageAt rt' rx') z ∙ P .new t (rank-less (column h b) d M k e)
+        S .done d (omega arith) k e ∙ ap (messageAt rt' rx') z ∙ P .new t (rank-less (column h b) d M k e)
         ∙ ap settled (gathered-row (column h b) (heldAt h N ts xs b) (from 0 rt rx) v M d e in-row)
 
     pub bit-sent : BitSent h N M b v ts xs ts' xs'
-    bit-sent = record { tags = S .tags; values = S .values; done = sent-at; rest = λ d a k l e n. S .rest d a k l e (λ z. absurd (n z)) }
+    bit-sent = record { tags = S .tags; values = S .values; done = sent-at; rest = λ d a k l e n. S .rest d a l e (λ z. absurd (n z)) }
 
 -- ---- all bits
 module _ (h : Matrix) (N M : ℕ) (channel : ℕ → Channel) (old : Messages) where
@@ -87,28 +87,10 @@ pub result-at : (h : Matrix) (N M b : ℕ) (channel : ℕ → Channel) (ts : Lis
 unfolding resultOf
 result-at h N M b channel ts xs r v e q = rw q at e
 
--- ---- filling
-pub filling-none : (h : Matrix) (M : ℕ) (channel : ℕ → Channel) (at : List ℕ) (ts : List ℕ) (xs : List Float) → Cursors h 512 M 0 at → length ts ≡ 65536 → length xs ≡ 65536 → Filling h M 0 channel at ts xs
-filling-none h M channel at ts xs C k l = record { cursors = C; tags = k; values = l; filled = record { at = λ d a i j m. absurd (omega arith) } }
-
-pub filling-more : (h : Matrix) (M b : ℕ) (channel : ℕ → Channel) (at : List ℕ) (ts : List ℕ) (xs : List Float) → b < 512 → Filling h M b channel at ts xs → (v : Channel) → v ≡ channel b
-    → (ts' : List ℕ) (xs' : List Float) → Spread h 512 M b M (same v) ts xs ts' xs' → (at' : List ℕ) → Cursors h 512 M (b + 1) at' → Filling h M (b + 1) channel at' ts' xs'
-filling-more h M b channel at ts xs kb F v q ts' xs' S at' C = record {
-  cursors = C;
-  tags = S .tags ∙ F .tags;
-  values = S .values ∙ F .values;
-  filled = record {
-    at = λ d a i j m e. elim (ℕ-discrete a b) [
-      | yes z ↦ rw z (S .done d i (rw z at e) ∙ q)
-      | no z ↦ S .rest d a i j e (λ y. absurd (z y)) ∙ F .filled .at d a i j (omega arith) e
-    ];
-  };
-}
-
 -- ---- the columns
 -- the columns of M checks say the matrix, which has no others
-pub across-is : (h g : Matrix) (N M : ℕ) → Inner h N M → Columns M h g → across g ≡ h
-across-is h g N M I C = fun-ext (λ d. fun-ext (λ a. C .at a d ∙ elim (decLt d M) [
+pub across-is : (h g : Matrix) (M : ℕ) → Within h M → Columns M h g → across g ≡ h
+across-is h g M W C = fun-ext (λ d. fun-ext (λ a. C .at a d ∙ elim (decLt d M) [
   | yes k ↦ rw (lt-ltb d M k)
-  | no k ↦ rw (le-ltb d M (omega arith)) (sym (I .after d a (omega arith)))
+  | no k ↦ rw (le-ltb d M (omega arith)) (sym (W .after d a (omega arith)))
 ]))

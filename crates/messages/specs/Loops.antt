@@ -6,13 +6,13 @@ use lib.ListN.{length}
 use lib.Ieee.{Float}
 use Rattle.parity.specs.Matrix.{Matrix}
 use Rattle.parity.specs.Soft.{Messages}
-use Rattle.messages.specs.Memory.{Cursors, Sending, Filled, Answering, held, resultOf}
+use Rattle.messages.specs.Memory.{Cursors, Sending, Answering, held, resultOf}
 use Rattle.soft.specs.Pass.{Holding}
 use Rattle.parity.specs.declared.Channel.{Channel}
 
 -- the cursors are those of bit b, and the row has its size
-pub record Moved (h : Matrix) (M b : ℕ) (at : List ℕ) (rt : List ℕ) (rx : List Float) : Type 0 where
-  pub cursors : Cursors h 512 M b at
+pub record Moved (h : Matrix) (b : ℕ) (at : List ℕ) (rt : List ℕ) (rx : List Float) : Type 0 where
+  pub cursors : Cursors h 512 b at
   pub tags : length rt ≡ 512
   pub values : length rx ≡ 512
 
@@ -21,13 +21,6 @@ pub record SentAll (h : Matrix) (M b : ℕ) (channel : ℕ → Channel) (old : M
   pub tags : length ts ≡ 65536
   pub values : length xs ≡ 65536
   pub sending : Sending h 512 M b channel old ts xs
-
--- the channel values of the first b bits are written to their messages
-pub record Filling (h : Matrix) (M b : ℕ) (channel : ℕ → Channel) (at : List ℕ) (ts : List ℕ) (xs : List Float) : Type 0 where
-  pub cursors : Cursors h 512 M b at
-  pub tags : length ts ≡ 65536
-  pub values : length xs ≡ 65536
-  pub filled : Filled h 512 M b channel ts xs
 
 -- the cursors and the row have their sizes
 pub record Sized (at : List ℕ) (rt : List ℕ) (rx : List Float) : Type 0 where

@@ -51,10 +51,16 @@ across g c b = g b c
 abbrev pub column : Matrix → ℕ → ℕ → Bool
 column h b c = h c b
 
--- For each of the M checks, the place of its message with bit b, or of the next above b.
-pub record Cursors (h : Matrix) (N M b : ℕ) (at : List ℕ) : Type 0 where
+-- For each check with a bit, the place of its message with bit b, or of the next above b.
+pub record Cursors (h : Matrix) (N b : ℕ) (at : List ℕ) : Type 0 where
   pub size : length at ≡ 512
-  pub is : (c : ℕ) → c < M → getD at c 0 ≡ place h N c b
+  pub is : (c a : ℕ) → h c a ≡ true → getD at c 0 ≡ place h N c b
+
+-- The cursors of the checks below c are those of the next bit.
+pub record Moving (h : Matrix) (N b c : ℕ) (at : List ℕ) : Type 0 where
+  pub size : length at ≡ 512
+  pub new : (d a : ℕ) → h d a ≡ true → d < c → getD at d 0 ≡ place h N d (b + 1)
+  pub old : (d a : ℕ) → h d a ≡ true → c ≤ d → getD at d 0 ≡ place h N d b
 
 -- what the messages at bit b are, by check
 abbrev pub heldAt : Matrix → ℕ → List ℕ → List Float → ℕ → ℕ → Channel
@@ -66,12 +72,18 @@ pub record Collected (p : ℕ → Bool) (N : ℕ) (f : ℕ → Channel) (ts : Li
   pub values : length xs ≡ 512
   pub at : (i : ℕ) → i < N → p i ≡ true → messageAt ts xs (count i p) ≡ f i
 
--- The messages of bit b with the first c checks are those of the row, and every other is as it was.
-pub record Spread (h : Matrix) (N M b c : ℕ) (row : ℕ → Channel) (ts : List ℕ) (xs : List Float) (ts' : List ℕ) (xs' : List Float) : Type 0 where
+-- Of bit b's messages, those with the checks below c stand in the row, d of them, and these checks' cursors have gone on.
+pub record Gathering (h : Matrix) (N b c : ℕ) (ts : List ℕ) (xs : List Float) (d : ℕ) (at : List ℕ) (rt : List ℕ) (rx : List Float) : Type 0 where
+  pub many : d ≡ count c (column h b)
+  pub moving : Moving h N b c at
+  pub row : Collected (column h b) c (heldAt h N ts xs b) rt rx
+
+-- The messages of bit b with the checks from l on below c are those of the row, and every other is as it was.
+pub record Spread (h : Matrix) (N b l c : ℕ) (row : ℕ → Channel) (ts : List ℕ) (xs : List Float) (ts' : List ℕ) (xs' : List Float) : Type 0 where
   pub tags : length ts' ≡ length ts
   pub values : length xs' ≡ length xs
-  pub done : (d : ℕ) → d < c → h d b ≡ true → held h N ts' xs' d b ≡ row (count d (column h b))
-  pub rest : (d a : ℕ) → d < M → a < N → h d a ≡ true → (a ≡ b → c ≤ d) → held h N ts' xs' d a ≡ held h N ts xs d a
+  pub done : (d : ℕ) → l ≤ d → d < c → h d b ≡ true → held h N ts' xs' d b ≡ row (count d (column h b))
+  pub rest : (d a : ℕ) → a < N → h d a ≡ true → (a ≡ b → l ≤ d → c ≤ d) → held h N ts' xs' d a ≡ held h N ts xs d a
 
 -- The first b bits have sent; the messages at the others are as they were.
 pub record Sending (h : Matrix) (N M b : ℕ) (channel : ℕ → Channel) (old : Messages) (ts : List ℕ) (xs : List Float) : Type 0 where
@@ -89,9 +101,12 @@ pub record BitSent (h : Matrix) (N M b : ℕ) (v : Channel) (ts : List ℕ) (xs 
 unfoldable pub resultOf : Matrix → ℕ → ℕ → (ℕ → Channel) → List ℕ → List Float → ℕ → Channel
 resultOf h N M channel ts xs b = bitSends (channel b) M (column h b) (heldAt h N ts xs b)
 
--- The messages of the first b bits are m's.
-pub record Filled (h : Matrix) (N M b : ℕ) (m : ℕ → Channel) (ts : List ℕ) (xs : List Float) : Type 0 where
-  pub at : (d a : ℕ) → d < M → a < N → a < b → h d a ≡ true → held h N ts xs d a ≡ m a
+-- The messages of the first c checks, and those of check c with the first b bits, are their bits' values m.
+pub record Filling (h : Matrix) (N c b : ℕ) (m : ℕ → Channel) (ts : List ℕ) (xs : List Float) : Type 0 where
+  pub tags : length ts ≡ 65536
+  pub values : length xs ≡ 65536
+  pub before : (d a : ℕ) → d < c → a < N → h d a ≡ true → held h N ts xs d a ≡ m a
+  pub here : (a : ℕ) → a < b → a < N → h c a ≡ true → held h N ts xs c a ≡ m a
 
 -- The lists hold the messages m, in the places of the ones.
 pub record Holds (h : Matrix) (N M : ℕ) (m : Messages) (ts : List ℕ) (xs : List Float) : Type 0 where
@@ -99,11 +114,11 @@ pub record Holds (h : Matrix) (N M : ℕ) (m : Messages) (ts : List ℕ) (xs : L
   pub values : length xs ≡ 65536
   pub at : (d a : ℕ) → d < M → a < N → h d a ≡ true → held h N ts xs d a ≡ m d a
 
--- the same value for every check
-abbrev pub same : Channel → ℕ → Channel
-same v j = v
+-- no check contains a bit from N on
+pub record Inner (h : Matrix) (N : ℕ) : Type 0 where
+  pub below : (d a : ℕ) → h d a ≡ true → a < N
 
--- The M checks contain no bit from N on, and no check after them contains one.
-pub record Inner (h : Matrix) (N M : ℕ) : Type 0 where
-  pub below : (d a : ℕ) → d < M → a < 512 → h d a ≡ true → a < N
+-- No check from M on contains a bit, and the messages of all fit the memory.
+pub record Within (h : Matrix) (M : ℕ) : Type 0 where
+  pub room : start h 512 512 ≤ 65536
   pub after : (d a : ℕ) → M ≤ d → h d a ≡ false

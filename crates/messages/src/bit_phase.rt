@@ -13,13 +13,13 @@ ghost use lib.ListN.{length};
 ghost use Rattle.parity.specs.Matrix.{lent};
 ghost use Rattle.parity.specs.Soft.{messageAt, bitSends};
 ghost use Rattle.soft.specs.Pass.{Holding};
-ghost use Rattle.messages.specs.Memory.{start, across, column, Cursors, held, heldAt, BitSent, resultOf};
+ghost use Rattle.messages.specs.Memory.{across, column, Cursors, held, heldAt, BitSent, resultOf, Within};
 ghost use Rattle.messages.specs.Loops.{Moved, SentAll};
 
 // The cursors stand at each check's first message.
 pub fn first_places(words: &[u64], checks: usize, at: &mut [usize])
-    requires { ⌜ (length (now words) ≡ 4096) × (checks ≤ 512) × (length (now at) ≡ 512) × (start (lent 8 (now words)) 512 checks ≤ 65536) ⌝ }
-    ensures { λ r. ⌜ Cursors (lent 8 (now (words .entry))) 512 checks 0 (now (at .exit)) ⌝ }
+    requires { ⌜ (length (now words) ≡ 4096) × (checks ≤ 512) × (length (now at) ≡ 512) × Within (lent 8 (now words)) checks ⌝ }
+    ensures { λ r. ⌜ Cursors (lent 8 (now (words .entry))) 512 0 (now (at .exit)) ⌝ }
 {
     let mut a: usize = 0;
     for c in 0..checks {
@@ -41,9 +41,9 @@ fn bit_sends(
     values: &mut [f32],
 )
     requires { ⌜ (length (now cols) ≡ 4096) × (checks ≤ 512) × (b < 512) × (length (now tags) ≡ 65536) × (length (now values) ≡ 65536) ⌝ }
-    requires { ⌜ (length (now «row_tags») ≡ 512) × (length (now «row_values») ≡ 512) × (start (across (lent 8 (now cols))) 512 checks ≤ 65536) ⌝ }
-    requires { ⌜ Cursors (across (lent 8 (now cols))) 512 checks b (now at) ⌝ }
-    ensures { λ r. ⌜ Moved (across (lent 8 (now (cols .entry)))) checks (b + 1) (now (at .exit)) (now («row_tags» .exit)) (now («row_values» .exit)) ⌝ }
+    requires { ⌜ (length (now «row_tags») ≡ 512) × (length (now «row_values») ≡ 512) × Within (across (lent 8 (now cols))) checks ⌝ }
+    requires { ⌜ Cursors (across (lent 8 (now cols))) 512 b (now at) ⌝ }
+    ensures { λ r. ⌜ Moved (across (lent 8 (now (cols .entry)))) (b + 1) (now (at .exit)) (now («row_tags» .exit)) (now («row_values» .exit)) ⌝ }
     ensures { λ r. ⌜ BitSent (across (lent 8 (now (cols .entry)))) 512 checks b channel (now (tags .entry)) (now (values .entry)) (now (tags .exit)) (now (values .exit)) ⌝ }
 {
     let d = gather(cols, checks, b, at, tags, values, row_tags, row_values);
@@ -64,9 +64,9 @@ fn bit_result(
     values: &[f32],
 ) -> Channel
     requires { ⌜ (length (now cols) ≡ 4096) × (checks ≤ 512) × (b < 512) × (length (now tags) ≡ 65536) × (length (now values) ≡ 65536) ⌝ }
-    requires { ⌜ (length (now «row_tags») ≡ 512) × (length (now «row_values») ≡ 512) × (start (across (lent 8 (now cols))) 512 checks ≤ 65536) ⌝ }
-    requires { ⌜ Cursors (across (lent 8 (now cols))) 512 checks b (now at) ⌝ }
-    ensures { λ r. ⌜ Moved (across (lent 8 (now (cols .entry)))) checks (b + 1) (now (at .exit)) (now («row_tags» .exit)) (now («row_values» .exit)) ⌝ }
+    requires { ⌜ (length (now «row_tags») ≡ 512) × (length (now «row_values») ≡ 512) × Within (across (lent 8 (now cols))) checks ⌝ }
+    requires { ⌜ Cursors (across (lent 8 (now cols))) 512 b (now at) ⌝ }
+    ensures { λ r. ⌜ Moved (across (lent 8 (now (cols .entry)))) (b + 1) (now (at .exit)) (now («row_tags» .exit)) (now («row_values» .exit)) ⌝ }
     ensures { λ r. ⌜ r ≡ bitSends channel checks (column (across (lent 8 (now (cols .entry)))) b) (heldAt (across (lent 8 (now (cols .entry)))) 512 (now (tags .entry)) (now (values .entry)) b) ⌝ }
 {
     let d = gather(cols, checks, b, at, tags, values, row_tags, row_values);
@@ -88,9 +88,9 @@ pub fn send_all(
     values: &mut [f32],
 )
     requires { ⌜ (length (now cols) ≡ 4096) × (checks ≤ 512) × (bits ≤ 512) × (length (now tags) ≡ 65536) × (length (now values) ≡ 65536) ⌝ }
-    requires { ⌜ (length (now word) ≡ bits) × (length (now floats) ≡ bits) × (start (across (lent 8 (now cols))) 512 checks ≤ 65536) ⌝ }
-    requires { ⌜ Moved (across (lent 8 (now cols))) checks 0 (now at) (now «row_tags») (now «row_values») ⌝ }
-    ensures { λ r. ⌜ Moved (across (lent 8 (now (cols .entry)))) checks bits (now (at .exit)) (now («row_tags» .exit)) (now («row_values» .exit)) ⌝ }
+    requires { ⌜ (length (now word) ≡ bits) × (length (now floats) ≡ bits) × Within (across (lent 8 (now cols))) checks ⌝ }
+    requires { ⌜ Moved (across (lent 8 (now cols))) 0 (now at) (now «row_tags») (now «row_values») ⌝ }
+    ensures { λ r. ⌜ Moved (across (lent 8 (now (cols .entry)))) bits (now (at .exit)) (now («row_tags» .exit)) (now («row_values» .exit)) ⌝ }
     ensures { λ r. ⌜ SentAll (across (lent 8 (now (cols .entry)))) checks bits (messageAt (now (word .entry)) (now (floats .entry))) (held (across (lent 8 (now (cols .entry)))) 512 (now (tags .entry)) (now (values .entry))) (now (tags .exit)) (now (values .exit)) ⌝ }
 {
     for b in 0..bits {
@@ -122,9 +122,9 @@ pub fn result_all(
     floats: &mut [f32],
 )
     requires { ⌜ (length (now cols) ≡ 4096) × (checks ≤ 512) × (bits ≤ 512) × (length (now tags) ≡ 65536) × (length (now values) ≡ 65536) ⌝ }
-    requires { ⌜ (length (now word) ≡ bits) × (length (now floats) ≡ bits) × (start (across (lent 8 (now cols))) 512 checks ≤ 65536) ⌝ }
-    requires { ⌜ Moved (across (lent 8 (now cols))) checks 0 (now at) (now «row_tags») (now «row_values») ⌝ }
-    ensures { λ r. ⌜ Moved (across (lent 8 (now (cols .entry)))) checks bits (now (at .exit)) (now («row_tags» .exit)) (now («row_values» .exit)) ⌝ }
+    requires { ⌜ (length (now word) ≡ bits) × (length (now floats) ≡ bits) × Within (across (lent 8 (now cols))) checks ⌝ }
+    requires { ⌜ Moved (across (lent 8 (now cols))) 0 (now at) (now «row_tags») (now «row_values») ⌝ }
+    ensures { λ r. ⌜ Moved (across (lent 8 (now (cols .entry)))) bits (now (at .exit)) (now («row_tags» .exit)) (now («row_values» .exit)) ⌝ }
     ensures { λ r. ⌜ Holding bits (resultOf (across (lent 8 (now (cols .entry)))) 512 checks (messageAt (now (word .entry)) (now (floats .entry))) (now (tags .entry)) (now (values .entry))) (now (word .exit)) (now (floats .exit)) ⌝ }
 {
     for b in 0..bits {

@@ -22,7 +22,7 @@ fn check_at(tags: &mut [u8], values: &mut [f32], a: usize, w: usize)
 // All checks answer.
 pub fn checks_send(words: &[u64], checks: usize, tags: &mut [u8], values: &mut [f32])
     requires { ⌜ (length (now words) ≡ 4096) × (checks ≤ 512) × (length (now tags) ≡ 65536) × (length (now values) ≡ 65536) ⌝ }
-    requires { ⌜ start (lent 8 (now words)) 512 checks ≤ 65536 ⌝ }
+    requires { ⌜ start (lent 8 (now words)) 512 512 ≤ 65536 ⌝ }
     requires { ⌜ SoundAll (lent 8 (now words)) 512 checks (held (lent 8 (now words)) 512 (now tags) (now values)) ⌝ }
     ensures { λ r. ⌜ Answering (lent 8 (now (words .entry))) 512 checks checks (held (lent 8 (now (words .entry))) 512 (now (tags .entry)) (now (values .entry))) (now (tags .exit)) (now (values .exit)) ⌝ }
 {

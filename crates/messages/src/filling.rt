@@ -1,57 +1,79 @@
 // Before the first round, bits send their channel value.
-use rows::next_one;
+use rows::wide;
 ghost use mathlib.Core.Path.{_≡_};
-ghost use Prim.Native.Nat.{_+_, _≤_, _<_};
+ghost use Prim.Native.Nat.{_+_, _*_, _≤_, _<_};
 ghost use lib.ListN.{length};
 ghost use Rattle.parity.specs.Matrix.{lent};
-ghost use Rattle.parity.specs.Soft.{channelOf, messageAt};
-ghost use Rattle.messages.specs.Memory.{start, across, Cursors, Spread, same};
-ghost use Rattle.messages.specs.Loops.{Filling};
+ghost use Rattle.parity.specs.Soft.{messageAt, sentAfter};
+ghost use Rattle.messages.specs.Memory.{start, place, Filling, Holds, Inner};
 
-// A byte and a float are written to the messages of bit `b`, and the cursors go on to the next bit.
-fn fill_bit(
-    cols: &[u64],
-    checks: usize,
-    b: usize,
-    at: &mut [usize],
-    byte: u8,
-    float: f32,
+// The channel values of the bits of word `i` of check `c` are written to the messages from place `first` on. Returns the place after them.
+fn fill_word(
+    words: &[u64],
+    c: usize,
+    i: usize,
+    first: usize,
+    word: &[u8],
+    floats: &[f32],
     tags: &mut [u8],
     values: &mut [f32],
-)
-    requires { ⌜ (length (now cols) ≡ 4096) × (checks ≤ 512) × (b < 512) × (length (now tags) ≡ 65536) × (length (now values) ≡ 65536) ⌝ }
-    requires { ⌜ start (across (lent 8 (now cols))) 512 checks ≤ 65536 ⌝ }
-    requires { ⌜ Cursors (across (lent 8 (now cols))) 512 checks b (now at) ⌝ }
-    ensures { λ r. ⌜ Spread (across (lent 8 (now (cols .entry)))) 512 checks b checks (same (channelOf byte float)) (now (tags .entry)) (now (values .entry)) (now (tags .exit)) (now (values .exit)) ⌝ }
-    ensures { λ r. ⌜ Cursors (across (lent 8 (now (cols .entry)))) 512 checks (b + 1) (now (at .exit)) ⌝ }
+) -> usize
+    requires { ⌜ (length (now words) ≡ 4096) × (c < 512) × (i < 8) × (length (now floats) ≡ length (now word)) ⌝ }
+    requires { ⌜ (start (lent 8 (now words)) 512 512 ≤ 65536) × Inner (lent 8 (now words)) (length (now word)) ⌝ }
+    requires { ⌜ (first ≡ place (lent 8 (now words)) 512 c (i * 64)) × Filling (lent 8 (now words)) 512 c (i * 64) (messageAt (now word) (now floats)) (now tags) (now values) ⌝ }
+    ensures { λ r. ⌜ r ≡ place (lent 8 (now (words .entry))) 512 c (i * 64 + 64) ⌝ }
+    ensures { λ r. ⌜ Filling (lent 8 (now (words .entry))) 512 c (i * 64 + 64) (messageAt (now (word .entry)) (now (floats .entry))) (now (tags .exit)) (now (values .exit)) ⌝ }
 {
-    let mut c = next_one(cols, 8, b, 0);
-    while c < checks {
-        let p = at[c];
-        tags[p] = byte;
-        values[p] = float;
-        at[c] = p + 1;
-        c = next_one(cols, 8, b, c + 1);
+    let mut a = first;
+    let mut rest = words[c * 8 + i];
+    while rest != 0 {
+        let b = i * 64 + wide(u64::trailing_zeros(rest));
+        tags[a] = word[b];
+        values[a] = floats[b];
+        a += 1;
+        rest = rest & (rest - 1);
     }
+    a
 }
 
-// Every bit's channel value is written to its messages.
+// The channel values of the bits of check `c` are written to its messages, from place `first` on. Returns the place after them.
+fn fill_check(
+    words: &[u64],
+    c: usize,
+    first: usize,
+    word: &[u8],
+    floats: &[f32],
+    tags: &mut [u8],
+    values: &mut [f32],
+) -> usize
+    requires { ⌜ (length (now words) ≡ 4096) × (c < 512) × (length (now floats) ≡ length (now word)) ⌝ }
+    requires { ⌜ (start (lent 8 (now words)) 512 512 ≤ 65536) × Inner (lent 8 (now words)) (length (now word)) ⌝ }
+    requires { ⌜ (first ≡ start (lent 8 (now words)) 512 c) × Filling (lent 8 (now words)) 512 c 0 (messageAt (now word) (now floats)) (now tags) (now values) ⌝ }
+    ensures { λ r. ⌜ r ≡ start (lent 8 (now (words .entry))) 512 (c + 1) ⌝ }
+    ensures { λ r. ⌜ Filling (lent 8 (now (words .entry))) 512 (c + 1) 0 (messageAt (now (word .entry)) (now (floats .entry))) (now (tags .exit)) (now (values .exit)) ⌝ }
+{
+    let mut a = first;
+    for i in 0..8 {
+        a = fill_word(words, c, i, a, word, floats, tags, values);
+    }
+    a
+}
+
+// Every bit's channel value is written to its messages, check after check.
 pub fn fill_all(
-    cols: &[u64],
-    bits: usize,
+    words: &[u64],
     checks: usize,
     word: &[u8],
     floats: &[f32],
-    at: &mut [usize],
     tags: &mut [u8],
     values: &mut [f32],
 )
-    requires { ⌜ (length (now cols) ≡ 4096) × (checks ≤ 512) × (bits ≤ 512) × (length (now tags) ≡ 65536) × (length (now values) ≡ 65536) ⌝ }
-    requires { ⌜ (length (now word) ≡ bits) × (length (now floats) ≡ bits) × (start (across (lent 8 (now cols))) 512 checks ≤ 65536) ⌝ }
-    requires { ⌜ Cursors (across (lent 8 (now cols))) 512 checks 0 (now at) ⌝ }
-    ensures { λ r. ⌜ Filling (across (lent 8 (now (cols .entry)))) checks bits (messageAt (now (word .entry)) (now (floats .entry))) (now (at .exit)) (now (tags .exit)) (now (values .exit)) ⌝ }
+    requires { ⌜ (length (now words) ≡ 4096) × (checks ≤ 512) × (length (now tags) ≡ 65536) × (length (now values) ≡ 65536) × (length (now floats) ≡ length (now word)) ⌝ }
+    requires { ⌜ (start (lent 8 (now words)) 512 512 ≤ 65536) × Inner (lent 8 (now words)) (length (now word)) ⌝ }
+    ensures { λ r. ⌜ Holds (lent 8 (now (words .entry))) 512 checks (sentAfter (lent 8 (now (words .entry))) 512 checks (messageAt (now (word .entry)) (now (floats .entry))) 0) (now (tags .exit)) (now (values .exit)) ⌝ }
 {
-    for b in 0..bits {
-        fill_bit(cols, checks, b, at, word[b], floats[b], tags, values);
+    let mut a: usize = 0;
+    for c in 0..checks {
+        a = fill_check(words, c, a, word, floats, tags, values);
     }
 }

@@ -10,7 +10,7 @@ use lib.Ieee.{Float}
 use Rattle.parity.specs.Matrix.{Matrix}
 use Rattle.parity.specs.Soft.{Messages, messageAt, settled, bitSends, toBits, toChecks, sentAfter, resultAfter, sound, byteFor, floatFor, but}
 use Rattle.messages.specs.Memory.{held, Inner, Holds, Answering, SoundAll, resultOf}
-use Rattle.messages.specs.Loops.{SentAll, Filling, Round, Last}
+use Rattle.messages.specs.Loops.{SentAll, Round, Last}
 use Rattle.soft.specs.Pass.{Holding, Sounds}
 use Rattle.parity.specs.declared.Channel.{Channel}
 use Rattle.parity.proofs.Soft.Sound.{check-sound, bit-sound}
@@ -54,12 +54,12 @@ module _ (h : Matrix) (N M : ℕ) where
     sent-sound (suc r) = sends-sound _ (heard-sound _ (sent-sound r))
 
 -- all bits have sent
-pub holds-sent : (h : Matrix) (N M : ℕ) → Inner h N M → (channel : ℕ → Channel) (m : Messages) (ts : List ℕ) (xs : List Float) → Holds h 512 M m ts xs
+pub holds-sent : (h : Matrix) (N M : ℕ) → Inner h N → (channel : ℕ → Channel) (m : Messages) (ts : List ℕ) (xs : List Float) → Holds h 512 M m ts xs
     → (ts' : List ℕ) (xs' : List Float) → SentAll h M N channel (held h 512 ts xs) ts' xs' → Holds h 512 M (toChecks h M channel m) ts' xs'
 holds-sent h N M I channel m ts xs H ts' xs' S = record {
   tags = S .tags;
   values = S .values;
-  at = λ d a i j e. S .sending .done d a i j (I .below d a i j e) e ∙ same-checks d a j;
+  at = λ d a i j e. S .sending .done d a i j (I .below d a e) e ∙ same-checks d a j;
 }
   where
     same-checks : (d a : ℕ) → a < 512 → toChecks h M channel (held h 512 ts xs) d a ≡ toChecks h M channel m d a
@@ -71,12 +71,6 @@ pub sent-suc : (h : Matrix) (N M : ℕ) (channel : ℕ → Channel) (r : ℕ) �
 unfolding sentAfter
 sent-suc h N M channel r = refl
 
--- before the first round
-pub filled-sent : (h : Matrix) (N M : ℕ) → Inner h N M → (channel : ℕ → Channel) (at : List ℕ) (ts : List ℕ) (xs : List Float) → Filling h M N channel at ts xs
-    → Holds h 512 M (sentAfter h 512 M channel 0) ts xs
-unfolding sentAfter
-filled-sent h N M I channel at ts xs F = record { tags = F .tags; values = F .values; at = λ d a i j e. F .filled .at d a i j (I .below d a i j e) e }
-
 -- the results
 pub results-are : (h : Matrix) (M r : ℕ) (channel : ℕ → Channel) (ts : List ℕ) (xs : List Float) → Holds h 512 M (toBits h 512 (sentAfter h 512 M channel r)) ts xs → (b : ℕ) → b < 512
     → resultOf h 512 M channel ts xs b ≡ resultAfter h 512 M channel (suc r) b
@@ -85,7 +79,7 @@ results-are h M r channel ts xs H b k =
     result-is h 512 M b channel (toBits h 512 (sentAfter h 512 M channel r)) ts xs k H ∙ (let e : suc r - 1 ≡ r = omega arith in rw e)
 
 -- a round takes the messages on by one
-pub round-more : (h : Matrix) (N M : ℕ) → Inner h N M → (channel : ℕ → Channel) (r : ℕ) (ts : List ℕ) (xs : List Float) → Holds h 512 M (sentAfter h 512 M channel r) ts xs
+pub round-more : (h : Matrix) (N M : ℕ) → Inner h N → (channel : ℕ → Channel) (r : ℕ) (ts : List ℕ) (xs : List Float) → Holds h 512 M (sentAfter h 512 M channel r) ts xs
     → (ts' : List ℕ) (xs' : List Float) → Round h N M channel ts xs ts' xs' → Holds h 512 M (sentAfter h 512 M channel (suc r)) ts' xs'
 round-more h N M I channel r ts xs H ts' xs' R =
     let K = holds-heard h 512 M _ ts xs H (R .mt) (R .mx) (R .heard .tags) (R .heard .values) (R .heard .answering) in

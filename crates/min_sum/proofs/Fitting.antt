@@ -9,14 +9,14 @@ use Rattle.parity.specs.Finite.{count}
 use Rattle.parity.specs.Matrix.{Matrix}
 use Rattle.parity.proofs.Finite.Sums.{count-bound, count-end}
 use Rattle.parity.proofs.Matrix.Sound.{Sound, sound-rule}
-use Rattle.messages.specs.Memory.{start, Inner}
+use Rattle.messages.specs.Memory.{start, Inner, Within}
 use Rattle.messages.proofs.Places.{start-zero, start-suc}
+use Rattle.messages.proofs.Cursor.{none-counted}
 
 module _ (h : Matrix) (n m k : ℕ) (S : Sound h n m k) where
-  pub inner : Inner h (n + k) (m + k)
+  pub inner : Inner h (n + k)
   inner = record {
-    below = λ d a i j e. elim (decLt a (n + k)) [ yes l ↦ l | no l ↦ absurd (true≢false (sym e ∙ S .clean .bits d a (omega arith))) ];
-    after = λ d a l. S .clean .checks d a l;
+    below = λ d a e. elim (decLt a (n + k)) [ yes l ↦ l | no l ↦ absurd (true≢false (sym e ∙ S .clean .bits d a (omega arith))) ];
   }
 
   -- given checks have at most 512 ones, and added ones three
@@ -31,6 +31,16 @@ module _ (h : Matrix) (n m k : ℕ) (S : Sound h n m k) where
   added-room zero l = rw (add-zero m) (omega (arith, given-room m (omega arith)))
   added-room (suc j) l = rw (add-suc m j) (omega (arith, start-suc h 512 (m + j), added-room j (omega arith), added-three j (omega arith)))
 
+  -- the checks after them have none
+  after-none : (j : ℕ) → start h 512 (m + k + j) ≡ start h 512 (m + k)
+  after-none zero = rw (add-zero (m + k))
+  after-none (suc j) =
+      let e = count-end 0 512 (h (m + k + j)) (omega arith) (λ b i q. S .clean .checks (m + k + j) b (omega arith)) in
+      rw (add-suc (m + k) j) (omega (arith, start-suc h 512 (m + k + j), after-none j, e, none-counted (h (m + k + j))))
+
   -- at most 62,616 messages
-  pub room-all : start h 512 (m + k) ≤ 65536
-  room-all = omega (arith, added-room k (omega arith), S .m120, S .k392)
+  pub within : Within h (m + k)
+  within =
+      let e : m + k + (512 - (m + k)) ≡ 512 = omega (arith, S .m120, S .k392) in
+      let q = rw e at (after-none (512 - (m + k))) in
+      record { room = omega (arith, q, added-room k (omega arith), S .m120, S .k392); after = λ d a l. S .clean .checks d a l }

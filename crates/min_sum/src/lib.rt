@@ -19,7 +19,7 @@ ghost use Rattle.parity.specs.Floats.{positiveZero};
 ghost use Rattle.parity.specs.Soft.{messageAt, resultAfter};
 ghost use Rattle.parity.specs.SoftCall.{minSumOutcome};
 ghost use Rattle.soft.specs.Pass.{Holding, Sounds};
-ghost use Rattle.messages.specs.Memory.{start, Inner};
+ghost use Rattle.messages.specs.Memory.{Inner, Within};
 ghost use Rattle.min_sum.specs.Answers.{decodingReply, Results};
 
 // What the call on soft bits answers.
@@ -64,8 +64,8 @@ fn by_columns(
     values: &mut [f32],
 )
     requires { ⌜ (length (now words) ≡ 4096) × (checks ≤ 512) × (bits ≤ 512) × (length (now tags) ≡ 65536) × (length (now values) ≡ 65536) ⌝ }
-    requires { ⌜ (length (now word) ≡ bits) × (length (now floats) ≡ bits) × (start (lent 8 (now words)) 512 checks ≤ 65536) × (1 ≤ rounds) ⌝ }
-    requires { ⌜ Inner (lent 8 (now words)) bits checks ⌝ }
+    requires { ⌜ (length (now word) ≡ bits) × (length (now floats) ≡ bits) × Within (lent 8 (now words)) checks × (1 ≤ rounds) ⌝ }
+    requires { ⌜ Inner (lent 8 (now words)) bits ⌝ }
     requires { ⌜ Sounds bits (messageAt (now word) (now floats)) ⌝ }
     ensures { λ r. ⌜ Holding bits (resultAfter (lent 8 (now (words .entry))) 512 checks (messageAt (now (word .entry)) (now (floats .entry))) rounds) (now (word .exit)) (now (floats .exit)) ⌝ }
 {
@@ -103,8 +103,8 @@ fn results(
     values: &mut [f32],
 )
     requires { ⌜ (length (now words) ≡ 4096) × (checks ≤ 512) × (bits ≤ 512) × (length (now tags) ≡ 65536) × (length (now values) ≡ 65536) ⌝ }
-    requires { ⌜ (length (now word) ≡ bits) × (length (now floats) ≡ bits) × (start (lent 8 (now words)) 512 checks ≤ 65536) × (1 ≤ rounds) ⌝ }
-    requires { ⌜ Inner (lent 8 (now words)) bits checks ⌝ }
+    requires { ⌜ (length (now word) ≡ bits) × (length (now floats) ≡ bits) × Within (lent 8 (now words)) checks × (1 ≤ rounds) ⌝ }
+    requires { ⌜ Inner (lent 8 (now words)) bits ⌝ }
     requires { ⌜ Sounds bits (messageAt (now word) (now floats)) ⌝ }
     ensures { λ r. ⌜ Results bits (resultAfter (lent 8 (now (words .entry))) 512 checks (messageAt (now (word .entry)) (now (floats .entry))) rounds) (now (word .exit)) (now (floats .exit)) (now (tags .exit)) (now (values .exit)) ⌝ }
 {

@@ -10,7 +10,7 @@ ghost use lib.ListN.{length};
 ghost use Rattle.parity.specs.Matrix.{lent};
 ghost use Rattle.parity.specs.Soft.{messageAt, resultAfter};
 ghost use Rattle.soft.specs.Pass.{Holding, Sounds};
-ghost use Rattle.messages.specs.Memory.{start, across, held, SoundAll, Inner};
+ghost use Rattle.messages.specs.Memory.{across, held, SoundAll, Inner, Within};
 ghost use Rattle.messages.specs.Loops.{Sized, Round, Last};
 
 // One round: all checks, then all bits.
@@ -28,7 +28,7 @@ fn one_round(
     values: &mut [f32],
 )
     requires { ⌜ (length (now words) ≡ 4096) × (checks ≤ 512) × (bits ≤ 512) × (length (now tags) ≡ 65536) × (length (now values) ≡ 65536) ⌝ }
-    requires { ⌜ (length (now word) ≡ bits) × (length (now floats) ≡ bits) × (start (lent 8 (now words)) 512 checks ≤ 65536) ⌝ }
+    requires { ⌜ (length (now word) ≡ bits) × (length (now floats) ≡ bits) × Within (lent 8 (now words)) checks ⌝ }
     requires { ⌜ Sized (now at) (now «row_tags») (now «row_values») ⌝ }
     requires { ⌜ SoundAll (lent 8 (now words)) 512 checks (held (lent 8 (now words)) 512 (now tags) (now values)) ⌝ }
     requires { ⌜ (length (now cols) ≡ 4096) × (across (lent 8 (now cols)) ≡ lent 8 (now words)) ⌝ }
@@ -66,7 +66,7 @@ fn last_round(
     floats: &mut [f32],
 )
     requires { ⌜ (length (now words) ≡ 4096) × (checks ≤ 512) × (bits ≤ 512) × (length (now tags) ≡ 65536) × (length (now values) ≡ 65536) ⌝ }
-    requires { ⌜ (length (now word) ≡ bits) × (length (now floats) ≡ bits) × (start (lent 8 (now words)) 512 checks ≤ 65536) ⌝ }
+    requires { ⌜ (length (now word) ≡ bits) × (length (now floats) ≡ bits) × Within (lent 8 (now words)) checks ⌝ }
     requires { ⌜ Sized (now at) (now «row_tags») (now «row_values») ⌝ }
     requires { ⌜ SoundAll (lent 8 (now words)) 512 checks (held (lent 8 (now words)) 512 (now tags) (now values)) ⌝ }
     requires { ⌜ (length (now cols) ≡ 4096) × (across (lent 8 (now cols)) ≡ lent 8 (now words)) ⌝ }
@@ -104,15 +104,14 @@ pub fn run(
     floats: &mut [f32],
 )
     requires { ⌜ (length (now words) ≡ 4096) × (checks ≤ 512) × (bits ≤ 512) × (length (now tags) ≡ 65536) × (length (now values) ≡ 65536) ⌝ }
-    requires { ⌜ (length (now word) ≡ bits) × (length (now floats) ≡ bits) × (start (lent 8 (now words)) 512 checks ≤ 65536) × (1 ≤ rounds) ⌝ }
+    requires { ⌜ (length (now word) ≡ bits) × (length (now floats) ≡ bits) × Within (lent 8 (now words)) checks × (1 ≤ rounds) ⌝ }
     requires { ⌜ Sized (now at) (now «row_tags») (now «row_values») ⌝ }
-    requires { ⌜ Inner (lent 8 (now words)) bits checks ⌝ }
+    requires { ⌜ Inner (lent 8 (now words)) bits ⌝ }
     requires { ⌜ Sounds bits (messageAt (now word) (now floats)) ⌝ }
     requires { ⌜ (length (now cols) ≡ 4096) × (across (lent 8 (now cols)) ≡ lent 8 (now words)) ⌝ }
     ensures { λ r. ⌜ Holding bits (resultAfter (lent 8 (now (words .entry))) 512 checks (messageAt (now (word .entry)) (now (floats .entry))) rounds) (now (word .exit)) (now (floats .exit)) ⌝ }
 {
-    first_places(words, checks, at);
-    fill_all(cols, bits, checks, word, floats, at, tags, values);
+    fill_all(words, checks, word, floats, tags, values);
     let last = rounds - 1;
     for r in 0..last {
         one_round(

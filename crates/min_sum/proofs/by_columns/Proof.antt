@@ -58,7 +58,7 @@ run-requires c κs =
       values = ap length (c .before .before .before .before .before .before .before .before .no-floats .ensures) ∙ length-replicate {A = Float} 512 positiveZero;
     } in (
       s .pre .0,
-      (s .pre .1 .0, (sized, (s .pre .1 .1 .0, (s .pre .1 .1 .1, (long, across-is h _ (s .args .bits) (s .args .checks) (s .pre .1 .1 .0) (C .ensures)))))),
+      (s .pre .1 .0, (sized, (s .pre .1 .1 .0, (s .pre .1 .1 .1, (long, across-is h _ (s .args .checks) (s .pre .1 .0 .2) (C .ensures)))))),
     )
 
 same-length : tie.Need-same-length

@@ -1,7 +1,7 @@
 -- `min_sum` meets its contract. Assumes nothing.
 use Rattle.parity.proofs.Soft.Outcomes.{fine}
 use Rattle.min_sum.proofs.Outcome.{reply-after, leaves, answers, after-reply}
-use Rattle.min_sum.proofs.Fitting.{inner, room-all}
+use Rattle.min_sum.proofs.Fitting.{inner, within}
 use Rattle.matrix.specs.Answers.{acceptingReply}
 use Rattle.word.specs.Answers.{admissionReply}
 use Rattle.parity.proofs.Causes.Refused.{accepted-words, refused-same, refused-number}
@@ -61,7 +61,7 @@ results-requires c κs =
     let F = fine _ _ _ _ _ _ (ap admissionReply (sym (c .before .before .before .before .enum-told2 .given .1)) ∙ c .before .before .before .before .before .before .judge .ensures) in
     let h = lent 8 (s .args .words .now) in (
       (A .words, omega (arith, A .sound .m120, A .sound .k392), omega (arith, A .sound .n120, A .sound .k392), F .l-bytes, F .l-values),
-      ((F .l-word, F .l-floats, room-all h (s .args .n) (s .args .m) (s .args .k) (A .sound), F .one), (inner h (s .args .n) (s .args .m) (s .args .k) (A .sound), record { at = F .sounds })),
+      ((F .l-word, F .l-floats, within h (s .args .n) (s .args .m) (s .args .k) (A .sound), F .one), (inner h (s .args .n) (s .args .m) (s .args .k) (A .sound), record { at = F .sounds })),
     )
 
 returns : tie.Need-returns

@@ -33,7 +33,7 @@ add-a : tie.Need-add-a Inv-loop μ-loop
 add-a c = let l = c .before .before .loop in
     let s = c .before .before .before .before .before in
     let h = lent 8 (s .args .words .now) in
-    omega (arith, l .inv .1, c .weight .ensures, start-suc h 512 (l .c), start-mono h 512 (suc (l .c)) (s .args .checks) (omega arith), s .pre .3)
+    omega (arith, l .inv .1, c .weight .ensures, start-suc h 512 (l .c), start-mono h 512 (suc (l .c)) 512 (omega arith), s .pre .3 .room)
 
 add-c : tie.Need-add-c Inv-loop μ-loop
 add-c c = omega arith
@@ -53,7 +53,7 @@ same-length c = c .before .loop .inv .2 .size ∙ sym (c .before .before .before
 returns : tie.Need-returns Inv-loop μ-loop
 returns c = let l = c .before .loop in
     let e : l .c ≡ c .before .before .before .before .args .checks = omega arith in
-    begun-all _ _ _ _ (rw e at (l .inv .2))
+    begun-all _ _ _ _ (c .before .before .before .before .pre .3) (rw e at (l .inv .2))
 
 pub first-places-spec : {M : Type 1} → statement M
 first-places-spec =

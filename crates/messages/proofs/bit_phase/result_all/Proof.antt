@@ -14,7 +14,7 @@ use Rattle.messages.proofs.bit_phase.result_all.Tie as tie
 
 abbrev Inv-loop : tie.InvT-loop
 Inv-loop cols bits checks at₀ row-tags₀ row-values₀ tags values word₀ floats₀ b₀ at row-tags row-values word floats b =
-    (b ≤ bits) × Moved (across (lent 8 cols)) checks b at row-tags row-values
+    (b ≤ bits) × Moved (across (lent 8 cols)) b at row-tags row-values
     × Partly bits b (resultOf (across (lent 8 cols)) 512 checks (messageAt word₀ floats₀) tags values) (messageAt word₀ floats₀) word floats
 
 abbrev μ-loop : tie.MeasureT-loop

@@ -12,7 +12,7 @@ use Rattle.messages.proofs.bit_phase.send_all.Tie as tie
 
 abbrev Inv-loop : tie.InvT-loop
 Inv-loop cols bits checks word floats at₀ row-tags₀ row-values₀ tags₀ values₀ b₀ at row-tags row-values tags values b =
-    (b ≤ bits) × Moved (across (lent 8 cols)) checks b at row-tags row-values
+    (b ≤ bits) × Moved (across (lent 8 cols)) b at row-tags row-values
     × SentAll (across (lent 8 cols)) checks b (messageAt word floats) (held (across (lent 8 cols)) 512 tags₀ values₀) tags values
 
 abbrev μ-loop : tie.MeasureT-loop

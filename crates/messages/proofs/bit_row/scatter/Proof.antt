@@ -1,174 +1,52 @@
 -- `scatter` meets its contract. Assumes nothing.
-use Rattle.messages.proofs.Cursor.{At, at-first, at-next, count-first, count-next, spread-first, spread-next, spread-end, place-before, message-is}
-use Rattle.messages.specs.Memory.{across, column, place, Spread}
-use Rattle.parity.specs.Soft.{messageAt}
-use Rattle.parity.proofs.Finite.Sums.{count-bound}
+use Rattle.messages.proofs.Cursor.{none-counted, spread-none, spread-more, spread-end}
+use Rattle.messages.specs.Memory.{across, column, Spread}
 use Rattle.parity.specs.Finite.{count}
 use Rattle.parity.specs.Matrix.{lent}
-use lib.ListN.{getD}
-use borrow.Author.Needs.{needs}
+use Rattle.parity.specs.Soft.{messageAt}
 use native.Mathlib.Omega.{arith}
-use Prim.Native.Nat.{_-_}
-use mathlib.Core.Path.{_≡_, sym}
+use Prim.Native.Nat.{_+_, _*_, _-_, _≤_}
+use mathlib.Core.Path.{_≡_, _∙_}
 use Rattle.messages.proofs.bit_row.scatter.Statement.{statement}
 use Rattle.messages.proofs.bit_row.scatter.Tie as tie
 
 abbrev Inv-loop : tie.InvT-loop
-Inv-loop cols checks b at row-tags row-values tags₀ values₀ d₀ c₀ tags values d c =
-    At (across (lent 8 cols)) checks b c × (d ≡ count c (column (across (lent 8 cols)) b))
-    × Spread (across (lent 8 cols)) 512 checks b c (messageAt row-tags row-values) tags₀ values₀ tags values
+Inv-loop cols checks b at row-tags row-values tags₀ values₀ d₀ i₀ tags values d i =
+    (i ≤ 8) × (d ≡ count (i * 64) (column (across (lent 8 cols)) b))
+    × Spread (across (lent 8 cols)) 512 b 0 (i * 64) (messageAt row-tags row-values) tags₀ values₀ tags values
 
 abbrev μ-loop : tie.MeasureT-loop
-μ-loop cols checks b at row-tags row-values tags₀ values₀ d₀ c₀ tags values d c = 512 - c
-
-next-one-requires : tie.Need-next-one-requires Inv-loop μ-loop
-next-one-requires c κs = let s = c .before .before .before .before .before .before in (omega (arith, s .pre .0 .0, s .pre .0 .2), search needs, search needs)
+μ-loop cols checks b at row-tags row-values tags₀ values₀ d₀ i₀ tags values d i = 8 - i
 
 loop-holds : tie.Need-loop-holds Inv-loop μ-loop
-loop-holds c =
-    let s = c .before .before .before .before .before .before .before in
-    let h = across (lent 8 (s .args .cols .now)) in
-    let T = c .next-one .ensures in
-    (at-first h (s .args .checks) (s .args .b) _ T, count-first (column h (s .args .b)) _ T, spread-first h 512 (s .args .checks) (s .args .b) (s .pre .0 .2) _ _ _ _ T)
+loop-holds c = (omega arith, none-counted _, spread-none _ _ _ _ _ _ _)
 
-mul-p : tie.Need-mul-p Inv-loop μ-loop
-mul-p c =
-    let i = c in
-    let l = i .before .loop in
-    let s = i .before .before .before .before .before .before .before .before .before in
-    let t = i .loop-test .taken in
-    omega (arith, t, s .pre .0 .1, s .pre .1 .1 .size)
+mul-loop : tie.Need-mul-loop Inv-loop μ-loop
+mul-loop c = omega arith
 
-shared-slice-read-p : tie.Need-shared-slice-read-p Inv-loop μ-loop
-shared-slice-read-p c =
-    let i = c .before in
-    let l = i .before .loop in
-    let s = i .before .before .before .before .before .before .before .before .before in
-    let t = i .loop-test .taken in
-    omega (arith, t, s .pre .0 .1, s .pre .1 .1 .size)
+scatter-word-requires : tie.Need-scatter-word-requires Inv-loop μ-loop
+scatter-word-requires c κs =
+    let l = c .before .before .before .loop in
+    let s = c .before .before .before .before .before .before .before .before .before .before in (
+      (s .pre .0 .0, s .pre .0 .2, omega (arith, c .before .before .loop-test .taken, s .pre .0 .1), l .inv .2 .tags ∙ s .pre .0 .3, l .inv .2 .values ∙ s .pre .0 .4),
+      ((s .pre .1 .0 .0, s .pre .1 .0 .1, s .pre .1 .0 .2 .room), (s .pre .1 .1, l .inv .1)),
+    )
 
-sub-p : tie.Need-sub-p Inv-loop μ-loop
-sub-p c =
-    let i = c .before in
-    let l = i .before .loop in
-    let s = i .before .before .before .before .before .before .before .before .before in
-    let t = i .loop-test .taken in
-    let h = across (lent 8 (s .args .cols .now)) in
-    let B = place-before h 512 (s .args .checks) (s .args .b) (l .c) (s .args .at .now) (s .pre .1 .1) t (s .pre .0 .2) (l .inv .0 .here (omega (arith, t, s .pre .0 .1))) (s .pre .1 .0 .2) in
-    omega (arith, B .0)
-
-shared-slice-read-tags : tie.Need-shared-slice-read-tags Inv-loop μ-loop
-shared-slice-read-tags c =
-    let i = c .before .before in
-    let l = i .before .loop in
-    let s = i .before .before .before .before .before .before .before .before .before in
-    let t = i .loop-test .taken in
-    let h = across (lent 8 (s .args .cols .now)) in
-    let p = column h (s .args .b) in
-    omega (arith, t, s .pre .0 .1, l .inv .1, count-bound (l .c) p, s .pre .1 .0 .0)
-
-slice-write-tags : tie.Need-slice-write-tags Inv-loop μ-loop
-slice-write-tags c =
-    let i = c .before .before in
-    let l = i .before .loop in
-    let s = i .before .before .before .before .before .before .before .before .before in
-    let t = i .loop-test .taken in
-    let h = across (lent 8 (s .args .cols .now)) in
-    let B = place-before h 512 (s .args .checks) (s .args .b) (l .c) (s .args .at .now) (s .pre .1 .1) t (s .pre .0 .2) (l .inv .0 .here (omega (arith, t, s .pre .0 .1))) (s .pre .1 .0 .2) in
-    omega (arith, B .0, B .1, l .inv .2 .tags, s .pre .0 .3)
-
-mul-values : tie.Need-mul-values Inv-loop μ-loop
-mul-values c =
-    let i = c .before .before in
-    let l = i .before .loop in
-    let s = i .before .before .before .before .before .before .before .before .before in
-    let t = i .loop-test .taken in
-    let h = across (lent 8 (s .args .cols .now)) in
-    let p = column h (s .args .b) in
-    omega (arith, t, s .pre .0 .1, l .inv .1, count-bound (l .c) p, s .pre .1 .0 .1)
-
-shared-slice-read-values : tie.Need-shared-slice-read-values Inv-loop μ-loop
-shared-slice-read-values c =
-    let i = c .before .before .before in
-    let l = i .before .loop in
-    let s = i .before .before .before .before .before .before .before .before .before in
-    let t = i .loop-test .taken in
-    let h = across (lent 8 (s .args .cols .now)) in
-    let p = column h (s .args .b) in
-    omega (arith, t, s .pre .0 .1, l .inv .1, count-bound (l .c) p, s .pre .1 .0 .1)
-
-mul-values-2 : tie.Need-mul-values-2 Inv-loop μ-loop
-mul-values-2 c =
-    let i = c .before .before .before in
-    let l = i .before .loop in
-    let s = i .before .before .before .before .before .before .before .before .before in
-    let t = i .loop-test .taken in
-    let h = across (lent 8 (s .args .cols .now)) in
-    let B = place-before h 512 (s .args .checks) (s .args .b) (l .c) (s .args .at .now) (s .pre .1 .1) t (s .pre .0 .2) (l .inv .0 .here (omega (arith, t, s .pre .0 .1))) (s .pre .1 .0 .2) in
-    omega (arith, B .0, B .1, l .inv .2 .values, s .pre .0 .4)
-
-slice-write-values : tie.Need-slice-write-values Inv-loop μ-loop
-slice-write-values c =
-    let i = c .before .before .before in
-    let l = i .before .loop in
-    let s = i .before .before .before .before .before .before .before .before .before in
-    let t = i .loop-test .taken in
-    let h = across (lent 8 (s .args .cols .now)) in
-    let B = place-before h 512 (s .args .checks) (s .args .b) (l .c) (s .args .at .now) (s .pre .1 .1) t (s .pre .0 .2) (l .inv .0 .here (omega (arith, t, s .pre .0 .1))) (s .pre .1 .0 .2) in
-    omega (arith, B .0, B .1, l .inv .2 .values, s .pre .0 .4)
-
-add-d : tie.Need-add-d Inv-loop μ-loop
-add-d c =
-    let i = c .before .before .before in
-    let l = i .before .loop in
-    let s = i .before .before .before .before .before .before .before .before .before in
-    let t = i .loop-test .taken in
-    let h = across (lent 8 (s .args .cols .now)) in
-    let p = column h (s .args .b) in
-    omega (arith, t, s .pre .0 .1, l .inv .1, count-bound (l .c) p)
-
-add-next-one : tie.Need-add-next-one Inv-loop μ-loop
-add-next-one c =
-    let i = c .before .before .before in
-    let l = i .before .loop in
-    let s = i .before .before .before .before .before .before .before .before .before in
-    let t = i .loop-test .taken in
-    omega (arith, t, s .pre .0 .1)
-
-next-one-requires-2 : tie.Need-next-one-requires-2 Inv-loop μ-loop
-next-one-requires-2 c κs =
-    let i = c .before .before .before in
-    let l = i .before .loop in
-    let s = i .before .before .before .before .before .before .before .before .before in
-    let t = i .loop-test .taken in
-    (omega (arith, s .pre .0 .0, s .pre .0 .2), search needs, omega (arith, t, s .pre .0 .1))
+add-i : tie.Need-add-i Inv-loop μ-loop
+add-i c = omega (arith, c .before .before .before .before .before .before .before .before .loop .inv .0)
 
 loop-less : tie.Need-loop-less Inv-loop μ-loop
-loop-less c =
-    let i = c .before .before .before .before in
-    let l = i .before .loop in
-    let s = i .before .before .before .before .before .before .before .before .before in
-    let t = i .loop-test .taken in
-    omega (arith, t, s .pre .0 .1, c .next-one2 .ensures .least)
+loop-less c = omega (arith, c .before .before .before .before .before .before .before .loop-test .taken, c .before .before .before .before .before .before .before .before .before .before .before .before .before .before .before .pre .0 .1)
 
 loop-again : tie.Need-loop-again Inv-loop μ-loop
 loop-again c =
-    let i = c .before .before .before .before in
-    let l = i .before .loop in
-    let s = i .before .before .before .before .before .before .before .before .before in
-    let t = i .loop-test .taken in
-    let h = across (lent 8 (s .args .cols .now)) in
-    let p = column h (s .args .b) in
-    let B = place-before h 512 (s .args .checks) (s .args .b) (l .c) (s .args .at .now) (s .pre .1 .1) t (s .pre .0 .2) (l .inv .0 .here (omega (arith, t, s .pre .0 .1))) (s .pre .1 .0 .2) in
-    let T = c .next-one2 .ensures in
-    let e = l .inv .0 .here (omega (arith, t, s .pre .0 .1)) in
-    let q : getD (s .args .at .now) (l .c) 0 - 1 ≡ place h 512 (l .c) (s .args .b) = omega (arith, B .0) in (
-      at-next h (s .args .checks) (s .args .b) (l .c) _ t T,
-      rw (l .inv .1) (sym (count-next p (l .c) _ e T)),
-      rw (q, l .inv .1)
-          (spread-next h 512 (s .args .checks) (s .args .b) (s .pre .0 .2) _ _ _ (l .c) _ _ (l .inv .2) e
-          (omega (arith, B .1, l .inv .2 .tags, s .pre .0 .3)) (omega (arith, B .1, l .inv .2 .values, s .pre .0 .4))
-          _ _ (message-is (s .args .row-tags .now) (s .args .row-values .now) (count (l .c) p)) _ T),
+    let l = c .before .before .before .before .before .before .before .before .loop in
+    let s = c .before .before .before .before .before .before .before .before .before .before .before .before .before .before .before in
+    let E = c .before .before .before .before .scatter-word .ensures in
+    let e : l .i * 64 + 64 ≡ (l .i + 1) * 64 = omega arith in (
+      omega (arith, c .before .before .before .before .before .before .before .loop-test .taken, s .pre .0 .1),
+      rw e at (E .0),
+      rw e at (spread-more _ _ _ _ _ _ _ (l .i * 64) _ _ (l .inv .2) _ _ _ (s .pre .0 .2) (omega arith) (omega arith) (E .1)),
     )
 
 same-length : tie.Need-same-length Inv-loop μ-loop
@@ -180,8 +58,8 @@ same-length-2 c = c .before .loop .inv .2 .values
 returns : tie.Need-returns Inv-loop μ-loop
 returns c =
     let l = c .before .loop in
-    let s = c .before .before .before .before .before .before .before .before .before in
-    spread-end (across (lent 8 (s .args .cols .now))) 512 (s .args .checks) (s .args .b) (s .pre .0 .2) _ _ _ (l .c) _ _ (l .inv .2) (omega (arith, c .loop-test .left))
+    let s = c .before .before .before .before .before .before .before .before in
+    spread-end _ _ _ _ _ _ _ (l .i * 64) _ _ (l .inv .2) (s .args .checks) (s .pre .1 .0 .2) (omega (arith, c .loop-test .left))
 
 pub scatter-spec : {M : Type 1} → statement M
 scatter-spec =
@@ -189,20 +67,10 @@ scatter-spec =
     (tie.spec
     Inv-loop
     μ-loop
-    next-one-requires
     loop-holds
-    mul-p
-    shared-slice-read-p
-    sub-p
-    shared-slice-read-tags
-    slice-write-tags
-    mul-values
-    shared-slice-read-values
-    mul-values-2
-    slice-write-values
-    add-d
-    add-next-one
-    next-one-requires-2
+    mul-loop
+    scatter-word-requires
+    add-i
     loop-less
     loop-again
     same-length

@@ -32,7 +32,7 @@ check-at-requires c κs = let l = c .before .before .before .before .loop in
     let s = c .before .before .before .before .before .before .before .before in
     let h = lent 8 (s .args .words .now) in
     let W = c .before .before .weight .ensures in
-    let m = start-mono h 512 (suc (l .c)) (s .args .checks) (omega arith) in (
+    let m = start-mono h 512 (suc (l .c)) 512 (omega arith) in (
       (
         omega (arith, l .inv .2, l .inv .3),
         omega (arith, l .inv .1, l .inv .2, W, start-suc h 512 (l .c), m, s .pre .1 .0),
@@ -45,7 +45,7 @@ add-a : tie.Need-add-a Inv-loop μ-loop
 add-a c = let l = c .before .before .before .before .before .before .before .before .before .loop in
     let s = c .before .before .before .before .before .before .before .before .before .before .before .before .before in
     let h = lent 8 (s .args .words .now) in
-    omega (arith, l .inv .1, c .before .before .before .before .before .before .before .weight .ensures, start-suc h 512 (l .c), start-mono h 512 (suc (l .c)) (s .args .checks) (omega arith), s .pre .1 .0)
+    omega (arith, l .inv .1, c .before .before .before .before .before .before .before .weight .ensures, start-suc h 512 (l .c), start-mono h 512 (suc (l .c)) 512 (omega arith), s .pre .1 .0)
 
 add-c : tie.Need-add-c Inv-loop μ-loop
 add-c c = omega arith

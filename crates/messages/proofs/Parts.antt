@@ -77,11 +77,8 @@ module _ (a w : ℕ) (ts : List ℕ) (xs : List Float) (same : length ts ≡ len
   pub part-sounds : Sounds w (from a ts xs) → Sounds (length mt) (messageAt mt mx)
   part-sounds S = record { at = λ t k. let l : t < w = omega (arith, part-length) in rw (part-at t l) (S .at t l) }
 
-  answers-same : (t : ℕ) → checkAnswer w (messageAt mt mx) t ≡ checkAnswer w (from a ts xs) t
-  unfolding checkAnswer
-  answers-same t = check-cong w (but t) (but t) (messageAt mt mx) (from a ts xs) (λ i k. refl) part-at
-
-  module _ (us : List ℕ) (ys : List Float) (H : Holding (length mt) (checkAnswer (length mt) (messageAt mt mx)) us ys) where
+  -- other values in their place, as the part holds them
+  module _ (f g : ℕ → Channel) (agree : (t : ℕ) → t < w → f t ≡ g t) (us : List ℕ) (ys : List Float) (H : Holding (length mt) f us ys) where
     lu : length us ≡ w
     lu = H .tags ∙ part-length
 
@@ -98,47 +95,33 @@ module _ (a w : ℕ) (ts : List ℕ) (xs : List Float) (same : length ts ≡ len
     unfolding messageAt
     inside t k = rw (replaced-at a w ts fits 0 us lu t k, replaced-at a w xs fits' nan ys ly t k)
 
-    pub part-answers : Part a w (checkAnswer w (from a ts xs)) ts xs (replaced a w ts fits 0 us) (replaced a w xs fits' nan ys)
-    part-answers = record {
+    part-held : Part a w g ts xs (replaced a w ts fits 0 us) (replaced a w xs fits' nan ys)
+    part-held = record {
       tags = replaced-length a w ts fits 0 us lu;
       values = replaced-length a w xs fits' nan ys ly;
-      new = λ t k. inside t k ∙ holding-at (length mt) (checkAnswer (length mt) (messageAt mt mx)) us ys H t (omega (arith, part-length))
-          ∙ ap (λ n. checkAnswer n (messageAt mt mx) t) part-length ∙ answers-same t;
+      new = λ t k. inside t k ∙ holding-at (length mt) f us ys H t (omega (arith, part-length)) ∙ agree t k;
       before = λ i k. elsewhere i (replaced-before a w ts fits 0 us lu i k) (replaced-before a w xs fits' nan ys ly i k);
       after = λ i k. elsewhere i (replaced-after a w ts fits 0 us lu i k) (replaced-after a w xs fits' nan ys ly i k);
     }
 
-  -- the same for a bit
-  bit-same : (v : Channel) (t : ℕ) → bitAnswer v w (messageAt mt mx) t ≡ bitAnswer v w (from a ts xs) t
+  -- a check's answers
+  answers-same : (t : ℕ) → checkAnswer (length mt) (messageAt mt mx) t ≡ checkAnswer w (from a ts xs) t
+  unfolding checkAnswer
+  answers-same t = rw part-length (check-cong w (but t) (but t) (messageAt mt mx) (from a ts xs) (λ i k. refl) part-at)
+
+  pub part-answers : (us : List ℕ) (ys : List Float) → Holding (length mt) (checkAnswer (length mt) (messageAt mt mx)) us ys
+      → Part a w (checkAnswer w (from a ts xs)) ts xs (replaced a w ts fits 0 us) (replaced a w xs fits' nan ys)
+  part-answers = part-held _ _ (λ t k. answers-same t)
+
+  -- a bit's answers, and its result
+  sends-same : (v : Channel) (t : ℕ) → bitAnswer v (length mt) (messageAt mt mx) t ≡ bitAnswer v w (from a ts xs) t
   unfolding bitAnswer bitSends
-  bit-same v t = ap settled (gathered-cong v w (but t) (but t) (messageAt mt mx) (from a ts xs) (λ i k. refl) part-at)
+  sends-same v t = rw part-length (ap settled (gathered-cong v w (but t) (but t) (messageAt mt mx) (from a ts xs) (λ i k. refl) part-at))
+
+  pub part-sends : (v : Channel) (us : List ℕ) (ys : List Float) → Holding (length mt) (bitAnswer v (length mt) (messageAt mt mx)) us ys
+      → Part a w (bitAnswer v w (from a ts xs)) ts xs (replaced a w ts fits 0 us) (replaced a w xs fits' nan ys)
+  part-sends v = part-held _ _ (λ t k. sends-same v t)
 
   pub part-result : (v : Channel) → bitSends v (length mt) every (messageAt mt mx) ≡ bitSends v w every (from a ts xs)
   unfolding bitSends
   part-result v = rw part-length (ap settled (gathered-cong v w every every (messageAt mt mx) (from a ts xs) (λ i k. refl) part-at))
-
-  module _ (v : Channel) (us : List ℕ) (ys : List Float) (H : Holding (length mt) (bitAnswer v (length mt) (messageAt mt mx)) us ys) where
-    lu' : length us ≡ w
-    lu' = H .tags ∙ part-length
-
-    ly' : length ys ≡ w
-    ly' = H .values ∙ part-length
-
-    elsewhere' : (i : ℕ) → getD (replaced a w ts fits 0 us) i 0 ≡ getD ts i 0 → getD (replaced a w xs fits' nan ys) i nan ≡ getD xs i nan
-        → messageAt (replaced a w ts fits 0 us) (replaced a w xs fits' nan ys) i ≡ messageAt ts xs i
-    unfolding messageAt
-    elsewhere' i p q = rw (p, q)
-
-    inside' : (t : ℕ) → t < w → messageAt (replaced a w ts fits 0 us) (replaced a w xs fits' nan ys) (a + t) ≡ messageAt us ys t
-    unfolding messageAt
-    inside' t k = rw (replaced-at a w ts fits 0 us lu' t k, replaced-at a w xs fits' nan ys ly' t k)
-
-    pub part-sends : Part a w (bitAnswer v w (from a ts xs)) ts xs (replaced a w ts fits 0 us) (replaced a w xs fits' nan ys)
-    part-sends = record {
-      tags = replaced-length a w ts fits 0 us lu';
-      values = replaced-length a w xs fits' nan ys ly';
-      new = λ t k. inside' t k ∙ holding-at (length mt) (bitAnswer v (length mt) (messageAt mt mx)) us ys H t (omega (arith, part-length))
-          ∙ ap (λ n. bitAnswer v n (messageAt mt mx) t) part-length ∙ bit-same v t;
-      before = λ i k. elsewhere' i (replaced-before a w ts fits 0 us lu' i k) (replaced-before a w xs fits' nan ys ly' i k);
-      after = λ i k. elsewhere' i (replaced-after a w ts fits 0 us lu' i k) (replaced-after a w xs fits' nan ys ly' i k);
-    }

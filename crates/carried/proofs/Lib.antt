@@ -1,3 +1,4 @@
+pub mod Joining
 pub mod Performing
 pub mod Recovering
 pub mod Putting

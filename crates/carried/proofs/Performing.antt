@@ -31,7 +31,7 @@ abbrev carriedIn : ℕ → Pair
 carriedIn x = record { lower = x % 512; higher = x / 512 }
 
 -- the columns of two words count the shares over the given checks
-columns-share : (m : ℕ) (h g : Matrix) → Columns m h g → m ≤ 128 → (x y : ℕ) → together 2 g x y ≡ share h m x y
+pub columns-share : (m : ℕ) (h g : Matrix) → Columns m h g → m ≤ 128 → (x y : ℕ) → together 2 g x y ≡ share h m x y
 unfolding together share
 columns-share m h g C k x y =
     count-end m 128 (λ c. g x c && g y c) k (λ c l r. rw (C .at x c, le-ltb c m l))

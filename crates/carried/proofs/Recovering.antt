@@ -1,15 +1,14 @@
 -- Taking all splits back: the rule of the newest added check alone decides, at each step, whether splits made the matrix. Assumes nothing.
-use mathlib.Core.Path.{_≡_, refl, sym, ap, _∙_}
-use mathlib.Core.Bool.{Bool, true, false, _&&_, or-false, and-false, and-eq-true-iff, true≢false, false≢true}
-use mathlib.Core.List.{List}
-use Prim.Native.Nat.{ℕ, suc, _+_, _*_, _-_, _≤_, _<_}
+use mathlib.Core.Path.{_≡_, refl, sym, ap, _∙_, fun-ext}
+use mathlib.Core.Bool.{Bool, true, false, not, _&&_, _||_, or-false, and-true, and-false, and-comm, and-eq-true-iff, true≢false, false≢true}
+use Prim.Native.Nat.{ℕ, suc, _+_, _-_, _/_, _≤_, _<_}
 use native.Mathlib.Nat.{add-suc}
 use native.Mathlib.Omega.{arith}
 use native.Mathlib.Decide.{ℕ-discrete, decLt}
-use lib.Dec.{eqb, leb}
-use borrow.Author.Tests.{eq-eqb, ne-eqb, eqb-true, lt-ltb, le-ltb, le-leb, leb-true}
+use lib.Dec.{eqb}
+use borrow.Author.Tests.{eq-eqb, ne-eqb, eqb-true, lt-ltb, le-ltb, not-true, not-false}
 use Rattle.parity.specs.Finite.{count}
-use Rattle.parity.specs.Matrix.{Matrix, lent}
+use Rattle.parity.specs.Matrix.{Matrix}
 use Rattle.parity.specs.Cycles.{share, takenBack, others, lowerOf, higherOf}
 use Rattle.parity.specs.Splits.{allBack, notBuilt}
 use Rattle.parity.proofs.Finite.Sums.{is-true, is-false, is, count-cong, count-suc, count-mono, count-end, count-pos}
@@ -19,30 +18,68 @@ use Rattle.parity.proofs.Splits.Back.{back-at, back-bit, back-clean, split-othe
 use Rattle.parity.proofs.Splits.Undo.{Newest, newest, no-third, lower-at, higher-at, pair-lower, pair-higher, pair-own, back-split, back-share}
 use Rattle.parity.proofs.Lists.Built.{Built, given, more, good, undone}
 use Rattle.parity.proofs.Lists.Rebuilt.{all-sound, built-written, written-built}
-use Rattle.rows.specs.Rows.{Column, NextOne}
+use Rattle.rows.specs.Rows.{Columns, ColumnsOf, NextOne}
+use Rattle.choice.specs.Given.{together}
 use Rattle.exchange.specs.Back.{Newer}
 use Rattle.exchange.proofs.ReadPair.{first-one, second-one}
-use Rattle.carried.specs.Recover.{allApart, Raw, BackOne, AllBack}
+use Rattle.carried.specs.Join.{joined, Joined}
+use Rattle.carried.specs.Recover.{allApart, standing, Raw, BackOne, AllBack}
+use Rattle.carried.proofs.Performing.{columns-share}
 
--- the columns of two bits count their share
-pub column-share : (ws : List ℕ) (m u v : ℕ) (a b : List ℕ) → m ≤ 120 → Column ws m u a → Column ws m v b
-    → count (2 * 64) (λ c. lent 8 a 0 c && lent 8 b 0 c) ≡ share (lent 8 ws) m u v
-unfolding share
-column-share ws m u v a b l A B =
-    count-end m 128 (λ c. lent 8 a 0 c && lent 8 b 0 c) (omega arith) (λ c k r. rw (A .at c (omega arith), le-ltb c m k))
-    ∙ count-cong m {p = λ c. lent 8 a 0 c && lent 8 b 0 c} {q = λ c. lent 8 ws c u && lent 8 ws c v} (λ c k. rw (A .at c (omega arith), B .at c (omega arith), lt-ltb c m k))
-
-pub apart-yes : (h : Matrix) (m u v z : ℕ) (r : Bool) → share h m u v ≡ 0 → share h m u z ≡ 0 → r ≡ eqb (share h m v z) 0 → r ≡ allApart h m u v z
+-- what the code reads of the three columns
+pub apart-no : (g : Matrix) (u v z : ℕ) (r : Bool) → r ≡ not (eqb (together 2 g u v) 0) → r ≡ true → false ≡ allApart g u v z
 unfolding allApart
-apart-yes h m u v z r a b e = rw (eq-eqb (share h m u v) 0 a, eq-eqb (share h m u z) 0 b) e
+apart-no g u v z r e t = rw (not-true (eqb (together 2 g u v) 0) (sym e ∙ t))
 
-pub apart-no : (h : Matrix) (m u v z : ℕ) → 0 < share h m u v → false ≡ allApart h m u v z
+pub apart-no-too : (g : Matrix) (u v z : ℕ) (r : Bool) → r ≡ not (eqb (together 2 g u z) 0) → r ≡ true → false ≡ allApart g u v z
 unfolding allApart
-apart-no h m u v z l = rw (ne-eqb (share h m u v) 0 (λ q. omega arith))
+apart-no-too g u v z r e t = rw (not-true (eqb (together 2 g u z) 0) (sym e ∙ t), and-false)
 
-pub apart-no-too : (h : Matrix) (m u v z : ℕ) → 0 < share h m u z → false ≡ allApart h m u v z
+pub apart-last : (g : Matrix) (u v z : ℕ) (p q r : Bool) → p ≡ not (eqb (together 2 g u v) 0) → p ≡ false → q ≡ not (eqb (together 2 g u z) 0) → q ≡ false
+    → r ≡ not (eqb (together 2 g v z) 0) → not r ≡ allApart g u v z
 unfolding allApart
-apart-no-too h m u v z l = rw (ne-eqb (share h m u z) 0 (λ q. omega arith), and-false)
+apart-last g u v z p q r a x b y c =
+    rw (not-false (eqb (together 2 g u v) 0) (sym a ∙ x), not-false (eqb (together 2 g u z) 0) (sym b ∙ y), c) (go (eqb (together 2 g v z) 0))
+  where
+    go : (t : Bool) → not (not t) ≡ t
+    go true = refl
+    go false = refl
+
+-- the entries of the matrix that stands
+module _ (h g : Matrix) (m k : ℕ) where
+  pub standing-given : (c b : ℕ) → c < m → standing h g m k c b ≡ g b c
+  unfolding standing
+  standing-given c b l = rw (lt-ltb c m l)
+
+  pub standing-added : (c b : ℕ) → m ≤ c → c < m + k → standing h g m k c b ≡ h c b
+  unfolding standing
+  standing-added c b l r = rw (le-ltb c m l, lt-ltb c (m + k) r)
+
+  pub standing-none : (c b : ℕ) → m + k ≤ c → standing h g m k c b ≡ false
+  unfolding standing
+  standing-none c b l = rw (le-ltb c m (omega arith), le-ltb c (m + k) l)
+
+  -- its columns have no other place
+  pub standing-columns : ((b d : ℕ) → m ≤ d → g b d ≡ false) → Columns m (standing h g m k) g
+  standing-columns f = record {
+    at = λ b d. elim (decLt d m) [ yes l ↦ rw (lt-ltb d m l, standing-given d b l) | no l ↦ rw (le-ltb d m (omega arith)) (f b d (omega arith)) ];
+  }
+
+columns-end : (m : ℕ) (h g : Matrix) → Columns m h g → (b d : ℕ) → m ≤ d → g b d ≡ false
+columns-end m h g C b d l = C .at b d ∙ rw (le-ltb d m l)
+
+pub standing-same : (h g : Matrix) (m k j : ℕ) → Columns m (standing h g m k) g → Columns m (standing h g m j) g
+standing-same h g m k j C = standing-columns h g m j (columns-end m (standing h g m k) g C)
+
+pub standing-start : (h g : Matrix) (n m k : ℕ) → Clean h (n + k) (m + k) → Columns m h g → standing h g m k ≡ h
+standing-start h g n m k K C =
+    fun-ext (λ c. fun-ext (λ b. elim (decLt c m) [
+      | yes l ↦ standing-given h g m k c b l ∙ C .at b c ∙ rw (lt-ltb c m l)
+      | no l ↦ elim (decLt c (m + k)) [
+        | yes r ↦ standing-added h g m k c b (omega arith) r
+        | no r ↦ standing-none h g m k c b (omega arith) ∙ sym (K .checks c b (omega arith))
+      ]
+    ]))
 
 -- an added check of an accepted matrix contains no bit above its own
 above-own : (h : Matrix) (n m k i b : ℕ) → Sound h n m k → i < k → n + i < b → h (m + i) b ≡ false
@@ -144,50 +181,6 @@ module _ (g : Matrix) (n m j : ℕ) (R : Raw g n m (suc j)) where
         ]
       ]
 
-  -- the three bits share no given check: the newest check keeps rule A
-  module _ (t : allApart g m u v N ≡ true) where
-    none-given : (share g m u v ≡ 0) × (share g m u N ≡ 0) × (share g m v N ≡ 0)
-    unfolding allApart
-    none-given =
-        let (x, c) = and-eq-true-iff (eqb (share g m u v) 0 && eqb (share g m u N) 0) (eqb (share g m v N) 0) .0 t in
-        let (a, b) = and-eq-true-iff (eqb (share g m u v) 0) (eqb (share g m u N) 0) .0 x in
-        (eqb-true _ 0 a, eqb-true _ 0 b, eqb-true _ 0 c)
-
-    one-share : (a b : ℕ) → a < b → b < suc N → g M a ≡ true → g M b ≡ true → share g m a b ≡ 0
-    one-share a b ab bn p q =
-        let (x, y, z, w) = two-bits in
-        let (l, r, s) = none-given in
-        elim (ℕ-discrete a u) [
-          | yes i ↦ elim (ℕ-discrete b v) [
-            | yes k ↦ rw (i, k) l
-            | no k ↦ let e : b ≡ N = only-bits b q (λ o. omega arith) k in rw (i, e) r
-          ]
-          | no i ↦ elim (ℕ-discrete a v) [
-            | yes k ↦ let e : b ≡ N = only-bits b q (λ o. omega arith) (λ o. omega arith) in rw (k, e) s
-            | no k ↦ let e : a ≡ N = only-bits a p i k in absurd (omega arith)
-          ]
-        ]
-
-    pub keeps-rule : Newest g N M
-    keeps-rule = record {
-      clean = raw-clean;
-      own = rule-own;
-      two = rule-two;
-      alone = λ a b ab bn p q. share-own a b ab bn p q ∙ ap suc (one-share a b ab bn p q);
-    }
-
-  pub breaks-rule : allApart g m u v N ≡ false → Newest g N M → ⊥
-  unfolding allApart
-  breaks-rule t A =
-      let (x, y, z, w) = two-bits in
-      let none : (a b : ℕ) → a < b → b < suc N → g M a ≡ true → g M b ≡ true → share g m a b ≡ 0 =
-      λ a b ab bn p q. let e = share-own a b ab bn p q in let f = A .alone a b ab bn p q in omega arith in
-      true≢false (sym (rw (
-        eq-eqb (share g m u v) 0 (none u v x (omega arith) z w),
-        eq-eqb (share g m u N) 0 (none u N (omega arith) (omega arith) z rule-own),
-        eq-eqb (share g m v N) 0 (none v N y (omega arith) w rule-own),
-      )) ∙ t)
-
   -- what the code reads: the two lower bits
   pub reads-lower : (x : ℕ) → NextOne 512 (g M) 0 x → x ≡ u
   unfolding lowerOf higherOf
@@ -219,26 +212,6 @@ module _ (g : Matrix) (n m j : ℕ) (R : Raw g n m (suc j)) where
     alone = newest-alone;
   }
 
-  -- what one step answers, from the two bits x and y that it reads
-  pub one-stops : (x y : ℕ) (r : Bool) → x ≡ u → y ≡ v → r ≡ allApart g m x y N → r ≡ false → BackOne g g N M false
-  one-stops x y r a b e f = record {
-    newest = λ q. absurd (false≢true q);
-    two = λ q. absurd (false≢true q);
-    matrix = λ q. absurd (false≢true q);
-    stops = λ q A. absurd (breaks-rule (sym (rw (a, b) at e) ∙ f) A);
-  }
-
-  pub one-keeps : (x y : ℕ) (r : Bool) → x ≡ u → y ≡ v → r ≡ allApart g m x y N → r ≡ true → Newest g N M
-  one-keeps x y r a b e f = keeps-rule (sym (rw (a, b) at e) ∙ f)
-
-  pub one-made : Newest g N M → (g′ : Matrix) (s : ℕ) → g′ ≡ takenBack g N M → s ≡ others g N M → BackOne g g′ N M (leb 2 s)
-  one-made A g′ s e f = record {
-    newest = λ q. A;
-    two = λ q. rw (← f) (leb-true 2 s q);
-    matrix = λ q. e;
-    stops = λ q C. rw (← f) (elim (decLt s 2) [ yes l ↦ l | no l ↦ absurd (false≢true (sym q ∙ le-leb 2 s (omega arith))) ]);
-  }
-
   -- one split fewer
   pub raw-back : Raw (takenBack g N M) n m j
   raw-back = record {
@@ -252,6 +225,146 @@ module _ (g : Matrix) (n m j : ℕ) (R : Raw g n m (suc j)) where
       | no d ↦ back-at g N M (m + i) b (λ q. omega arith) d ∙ rw (newest-alone (m + i) (omega arith) (λ q. omega arith), or-false) (R .added i b (omega arith))
     ];
   }
+
+  -- q has the columns of the given checks
+  module _ (q : Matrix) (C : Columns m g q) where
+    abbrev counted : (x y : ℕ) → together 2 q x y ≡ share g m x y
+    counted x y = columns-share m g q C (omega (arith, R .sound .m120)) x y
+
+    -- the three bits share no given check: the newest check keeps rule A
+    module _ (t : allApart q u v N ≡ true) where
+      none-given : (share g m u v ≡ 0) × (share g m u N ≡ 0) × (share g m v N ≡ 0)
+      unfolding allApart
+      none-given =
+          let (x, c) = and-eq-true-iff (eqb (together 2 q u v) 0 && eqb (together 2 q u N) 0) (eqb (together 2 q v N) 0) .0 t in
+          let (a, b) = and-eq-true-iff (eqb (together 2 q u v) 0) (eqb (together 2 q u N) 0) .0 x in
+          (sym (counted u v) ∙ eqb-true _ 0 a, sym (counted u N) ∙ eqb-true _ 0 b, sym (counted v N) ∙ eqb-true _ 0 c)
+
+      one-share : (a b : ℕ) → a < b → b < suc N → g M a ≡ true → g M b ≡ true → share g m a b ≡ 0
+      one-share a b ab bn p q =
+          let (x, y, z, w) = two-bits in
+          let (l, r, s) = none-given in
+          elim (ℕ-discrete a u) [
+            | yes i ↦ elim (ℕ-discrete b v) [
+              | yes k ↦ rw (i, k) l
+              | no k ↦ let e : b ≡ N = only-bits b q (λ o. omega arith) k in rw (i, e) r
+            ]
+            | no i ↦ elim (ℕ-discrete a v) [
+              | yes k ↦ let e : b ≡ N = only-bits b q (λ o. omega arith) (λ o. omega arith) in rw (k, e) s
+              | no k ↦ let e : a ≡ N = only-bits a p i k in absurd (omega arith)
+            ]
+          ]
+
+      keeps-rule : Newest g N M
+      keeps-rule = record {
+        clean = raw-clean;
+        own = rule-own;
+        two = rule-two;
+        alone = λ a b ab bn p q. share-own a b ab bn p q ∙ ap suc (one-share a b ab bn p q);
+      }
+
+    breaks-rule : allApart q u v N ≡ false → Newest g N M → ⊥
+    unfolding allApart
+    breaks-rule t A =
+        let (x, y, z, w) = two-bits in
+        let none : (a b : ℕ) → a < b → b < suc N → g M a ≡ true → g M b ≡ true → together 2 q a b ≡ 0 =
+        λ a b ab bn p q. let e = share-own a b ab bn p q in let f = A .alone a b ab bn p q in omega (arith, counted a b) in
+        true≢false (sym (rw (
+          eq-eqb (together 2 q u v) 0 (none u v x (omega arith) z w),
+          eq-eqb (together 2 q u N) 0 (none u N (omega arith) (omega arith) z rule-own),
+          eq-eqb (together 2 q v N) 0 (none v N y (omega arith) w rule-own),
+        )) ∙ t)
+
+    -- the other checks that contain the newest bit are those of its column
+    others-weight : (s : ℕ) → s ≡ count 128 (q N) → others g N M ≡ s
+    unfolding others
+    others-weight s e =
+        let a = count-end m M (λ c. g c N) (omega arith) (λ c l t. newest-alone c l (λ i. omega arith)) in
+        let b = count-end m 128 (q N) (omega (arith, R .sound .m120)) (λ c l t. columns-end m g q C N c l) in
+        a ∙ count-cong m {p = λ c. g c N} {q = q N} (λ c l. sym (C .at N c ∙ rw (lt-ltb c m l))) ∙ sym (e ∙ b)
+
+    -- what one step answers, from the two bits x and y that it reads
+    module _ (x y : ℕ) (r : Bool) (a : x ≡ u) (b : y ≡ v) (e : r ≡ allApart q x y N) where
+      pub one-stops : r ≡ false → (g′ : Matrix) → BackOne g g′ N M false
+      one-stops f g′ = record {
+        newest = λ q. absurd (false≢true q);
+        two = λ q. absurd (false≢true q);
+        matrix = λ q. absurd (false≢true q);
+        stops = λ q A. absurd (breaks-rule (sym (rw (a, b) at e) ∙ f) A);
+      }
+
+      pub one-keeps : r ≡ true → Newest g N M
+      one-keeps f = keeps-rule (sym (rw (a, b) at e) ∙ f)
+
+    pub one-few : (s : ℕ) → s ≡ count 128 (q N) → s < 2 → (g′ : Matrix) → BackOne g g′ N M false
+    one-few s e l g′ = record {
+      newest = λ q. absurd (false≢true q);
+      two = λ q. absurd (false≢true q);
+      matrix = λ q. absurd (false≢true q);
+      stops = λ q A. rw (others-weight s e) l;
+    }
+
+    pub one-made : Newest g N M → (s : ℕ) → s ≡ count 128 (q N) → 2 ≤ s → (g′ : Matrix) → g′ ≡ takenBack g N M → BackOne g g′ N M true
+    one-made A s e l g′ t = record {
+      newest = λ q. A;
+      two = λ q. rw (others-weight s e) l;
+      matrix = λ q. t;
+      stops = λ q A. absurd (true≢false q);
+    }
+
+-- one step on the columns q of the given checks: the added checks are those of h
+module _ (h q : Matrix) (n m j : ℕ) (R : Raw (standing h q m (suc j)) n m (suc j)) where
+  abbrev stood : Matrix
+  stood = standing h q m (suc j)
+
+  newest-row : stood (m + j) ≡ h (m + j)
+  newest-row = fun-ext (λ b. standing-added h q m (suc j) (m + j) b (omega arith) (omega arith))
+
+  pub standing-lower : (x : ℕ) → NextOne 512 (h (m + j)) 0 x → x ≡ lowerOf stood (n + j) (m + j)
+  standing-lower x F = reads-lower stood n m j R x (rw newest-row F)
+
+  pub standing-higher : (x y : ℕ) → x ≡ lowerOf stood (n + j) (m + j) → NextOne 512 (h (m + j)) (x + 1) y → y ≡ higherOf stood (n + j) (m + j)
+  standing-higher x y e F = reads-higher stood n m j R x y e (rw newest-row F)
+
+  -- taken back
+  module _ (q′ : Matrix) (u v : ℕ) (a : u ≡ lowerOf stood (n + j) (m + j)) (b : v ≡ higherOf stood (n + j) (m + j)) (A : Newest stood (n + j) (m + j)) (J : Joined q q′ u v (n + j)) where
+    W : Newer stood m (n + j) (m + j) u v
+    W = rw (a, b) (newer stood n m j R A)
+
+    joined-at : (c b : ℕ) → standing h q′ m j c b ≡ takenBack stood (n + j) (m + j) c b
+    unfolding joined
+    joined-at c b =
+        elim (decLt c m) [
+          | yes l ↦ standing-given h q′ m j c b l ∙ J .at b c ∙ elim (ℕ-discrete b (n + j)) [
+            | yes e ↦ rw (e, eq-eqb (n + j) (n + j) refl) (sym (back-bit stood (n + j) (m + j) c))
+            | no d ↦ rw (ne-eqb b (n + j) d) (sym (back-at stood (n + j) (m + j) c b (λ i. omega arith) d ∙ rw (
+              standing-given h q m (suc j) c b l,
+              standing-given h q m (suc j) c (n + j) l,
+              W .own b,
+              ne-eqb b (n + j) d,
+              or-false (eqb b u || eqb b v),
+              and-comm (q (n + j) c) (eqb b u || eqb b v),
+            )))
+          ]
+          | no l ↦ elim (decLt c (m + j)) [
+            | yes r ↦
+                let e = W .alone c (omega arith) (λ i. omega arith) in
+                standing-added h q′ m j c b (omega arith) r ∙ sym (standing-added h q m (suc j) c b (omega arith) (omega arith)) ∙ elim (ℕ-discrete b (n + j)) [
+                  | yes i ↦ rw i (e ∙ sym (back-bit stood (n + j) (m + j) c))
+                  | no d ↦ sym (back-at stood (n + j) (m + j) c b (λ i. omega arith) d ∙ rw (e, or-false))
+                ]
+            | no r ↦ standing-none h q′ m j c b (omega arith) ∙ sym (back-clean stood (n + j) (m + j) (raw-clean stood n m j R) .checks c b (omega arith))
+          ]
+        ]
+
+    pub joined-back : standing h q′ m j ≡ takenBack stood (n + j) (m + j)
+    joined-back = fun-ext (λ c. fun-ext (λ b. joined-at c b))
+
+    pub joined-columns : Columns m stood q → Columns m (standing h q′ m j) q′
+    unfolding joined
+    joined-columns C =
+        standing-columns h q′ m j (λ b d l. J .at b d ∙ rw (columns-end m stood q C b d l, columns-end m stood q C (n + j) d l, and-false)
+        (elim (ℕ-discrete b (n + j)) [ yes e ↦ rw (eq-eqb b (n + j) e) | no d ↦ rw (ne-eqb b (n + j) d) ]))
 
 -- With j splits left in g, of k in h: g is built exactly if h is.
 pub record Taking (h g : Matrix) (n m k j : ℕ) : Type 0 where
@@ -319,3 +432,22 @@ taking-ends h g n m k j z S T =
     let U : (t : ℕ) → Built g n m g 0 t → (s : ℕ) × Built g n m h k s = rw (e, z) at (T .up) in
     let (s, B) = U 0 given in
     record { decides = built-written g n m (rw e at (all-sound n m k h S)) B; matrix = λ q. sym e }
+
+pub rows-left : (h g r : Matrix) (n m k : ℕ) (t : Bool) → AllBack h g n m k t → t ≡ false → AllBack h r n m k false
+rows-left h g r n m k t A f = record { decides = A .decides ∙ ap not f; matrix = λ q. absurd (false≢true q) }
+
+-- The rows of the bits below n, from the columns, are the checks before the splits.
+pub rows-made : (h g r : Matrix) (n m k : ℕ) → Sound h n m k → Columns m (standing h g m 0) g → ColumnsOf 2 n g r → (t : Bool)
+    → AllBack h (standing h g m 0) n m k t → t ≡ true → AllBack h r n m k true
+rows-made h g r n m k S C F t A f =
+    let e = A .matrix f in
+    let K : Clean (standing h g m 0) (n + 0) (m + 0) = rw e (all-sound n m k h S .clean) in
+    let same : (c b : ℕ) → r c b ≡ standing h g m 0 c b =
+    λ c b. F .at c b ∙ elim (decLt b n) [
+      | no l ↦ rw (le-ltb b n (omega arith)) (sym (K .bits c b (omega arith)))
+      | yes l ↦ rw (lt-ltb b n l) (elim (decLt c m) [
+        | yes t ↦ rw (lt-ltb (c / 64) 2 (omega (arith, S .m120))) (sym (standing-given h g m 0 c b t))
+        | no t ↦ rw (columns-end m (standing h g m 0) g C b c (omega arith), and-false) (sym (K .checks c b (omega arith)))
+      ])
+    ] in
+    record { decides = A .decides ∙ ap not f; matrix = λ q. fun-ext (λ c. fun-ext (λ b. same c b)) ∙ e }

@@ -1,2 +1,3 @@
+pub mod Join
 pub mod Perform
 pub mod Recover

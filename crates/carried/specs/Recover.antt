@@ -1,18 +1,23 @@
 -- What taking all splits back comes to. Assumes nothing.
 use mathlib.Core.Path.{_≡_}
-use mathlib.Core.Bool.{Bool, true, false, not, _&&_}
+use mathlib.Core.Bool.{Bool, true, false, not, cond, _&&_}
 use Prim.Native.Nat.{ℕ, _+_, _≤_, _<_}
-use lib.Dec.{eqb}
+use lib.Dec.{eqb, ltb}
 use Rattle.parity.specs.Matrix.{Matrix}
-use Rattle.parity.specs.Cycles.{share, takenBack, others}
+use Rattle.parity.specs.Cycles.{takenBack, others}
 use Rattle.parity.specs.Splits.{allBack, notBuilt}
 use Rattle.parity.proofs.Matrix.Clean.{Clean}
 use Rattle.parity.proofs.Matrix.Sound.{Sound}
 use Rattle.parity.proofs.Splits.Undo.{Newest}
+use Rattle.choice.specs.Given.{together}
 
--- no two of three bits share one of the first m checks
-unfoldable pub allApart : Matrix → ℕ → ℕ → ℕ → ℕ → Bool
-allApart h m u v z = eqb (share h m u v) 0 && eqb (share h m u z) 0 && eqb (share h m v z) 0
+-- no two of three columns have a place in common
+unfoldable pub allApart : Matrix → ℕ → ℕ → ℕ → Bool
+allApart g u v z = eqb (together 2 g u v) 0 && eqb (together 2 g u z) 0 && eqb (together 2 g v z) 0
+
+-- the matrix with m given checks, which have the columns g, and with the k added ones of h
+unfoldable pub standing : Matrix → Matrix → ℕ → ℕ → Matrix
+standing h g m k c b = cond (ltb c m) (g b c) (ltb c (m + k) && h c b)
 
 -- Some splits of an accepted matrix are taken back, and k are left in g: the added checks that are left are as they were. Whether the newest of
 -- them keeps rule A is not known.

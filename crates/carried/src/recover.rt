@@ -1,60 +1,81 @@
-// Taking all splits back, on words of an accepted matrix, as far as the splits made it.
-use exchange::back::back_pair;
+// Taking all splits of an accepted matrix back, on the columns of its given checks, as far as the splits made it.
+use crate::columns::join;
+use crate::columns::put_columns;
+use choice::given::columns;
 use parity::Bit;
 use parity::Check;
-use rows::columns::column;
-use rows::common;
 use rows::ones::next_one;
+use rows::touches;
+use rows::weight;
 ghost use mathlib.Core.Path.{_≡_};
-ghost use Prim.Native.Nat.{_+_, _≤_, _<_};
+ghost use Prim.Native.Nat.{_+_, _<_};
 ghost use lib.ListN.{length};
 ghost use Rattle.parity.specs.Matrix.{lent};
 ghost use Rattle.parity.proofs.Matrix.Sound.{Sound};
-ghost use Rattle.carried.specs.Recover.{allApart, Raw, BackOne, AllBack};
+ghost use Rattle.rows.specs.Rows.{Columns, Empty};
+ghost use Rattle.carried.specs.Recover.{allApart, standing, Raw, BackOne, AllBack};
 
-// Whether none of the first `m` checks contains two of the bits `u`, `v` and `z`.
-fn apart(words: &[u64], m: usize, u: Bit, v: Bit, z: Bit) -> bool
-    requires { ⌜ (length (now words) ≡ 4096) × (m ≤ 120) × (u .0 < 512) × (v .0 < 512) × (z .0 < 512) ⌝ }
-    ensures { λ r. ⌜ r ≡ allApart (lent 8 (now (words .entry))) m (u .0) (v .0) (z .0) ⌝ }
+// Whether no two of the columns of `u`, `v` and `z` have a check in common.
+fn apart(cols: &[u64], u: Bit, v: Bit, z: Bit) -> bool
+    requires { ⌜ (length (now cols) ≡ 1024) × (u .0 < 512) × (v .0 < 512) × (z .0 < 512) ⌝ }
+    ensures { λ r. ⌜ r ≡ allApart (lent 2 (now (cols .entry))) (u .0) (v .0) (z .0) ⌝ }
 {
-    let of_u = column(words, m, u);
-    let of_v = column(words, m, v);
-    let of_z = column(words, m, z);
-    if 0 < common(&of_u, 0, &of_v, 0, 8, 2) {
+    if touches(cols, u.0, cols, v.0, 2) {
         return false;
     }
-    if 0 < common(&of_u, 0, &of_z, 0, 8, 2) {
+    if touches(cols, u.0, cols, z.0, 2) {
         return false;
     }
-    common(&of_v, 0, &of_z, 0, 8, 2) == 0
+    !touches(cols, v.0, cols, z.0, 2)
 }
 
 // Takes back the newest of `j + 1` splits, if its check keeps rule A and two or more other checks contain its bit; says whether it does.
-fn back_one(words: &mut [u64], n: usize, m: usize, j: usize) -> bool
-    requires { ⌜ (length (now words) ≡ 4096) × Raw (lent 8 (now words)) n m (j + 1) ⌝ }
-    ensures { λ r. ⌜ BackOne (lent 8 (now (words .entry))) (lent 8 (now (words .exit))) (n + j) (m + j) r ⌝ }
+fn back_one(words: &[u64], cols: &mut [u64], n: usize, m: usize, j: usize) -> bool
+    requires { ⌜ (length (now words) ≡ 4096) × (length (now cols) ≡ 1024) ⌝ }
+    requires { ⌜ Raw (standing (lent 8 (now words)) (lent 2 (now cols)) m (j + 1)) n m (j + 1) × Columns m (standing (lent 8 (now words)) (lent 2 (now cols)) m (j + 1)) (lent 2 (now cols)) ⌝ }
+    ensures { λ r. ⌜ BackOne (standing (lent 8 (now (words .entry))) (lent 2 (now (cols .entry))) m (j + 1)) (standing (lent 8 (now (words .entry))) (lent 2 (now (cols .exit))) m j) (n + j) (m + j) r ⌝ }
+    ensures { λ r. ⌜ Columns m (standing (lent 8 (now (words .entry))) (lent 2 (now (cols .exit))) m j) (lent 2 (now (cols .exit))) ⌝ }
 {
     let z = n + j;
     let c = m + j;
     let u = next_one(words, Check(c), 0);
     let v = next_one(words, Check(c), u + 1);
-    if !apart(words, m, Bit(u), Bit(v), Bit(z)) {
+    if !apart(cols, Bit(u), Bit(v), Bit(z)) {
         return false;
     }
-    2 <= back_pair(words, m, Check(c), Bit(u), Bit(v), Bit(z))
+    if weight(cols, 2, z) < 2 {
+        return false;
+    }
+    join(cols, Bit(u), Bit(v), Bit(z));
+    true
 }
 
-// Takes back all splits of an accepted matrix, the newest first; says whether splits made it.
-pub fn all_back(words: &mut [u64], n: usize, m: usize, k: usize) -> bool
-    requires { ⌜ (length (now words) ≡ 4096) × Sound (lent 8 (now words)) n m k ⌝ }
-    ensures { λ r. ⌜ AllBack (lent 8 (now (words .entry))) (lent 8 (now (words .exit))) n m k r ⌝ }
+// Takes back all splits, the newest first; says whether splits made the matrix.
+fn each_back(words: &[u64], cols: &mut [u64], n: usize, m: usize, k: usize) -> bool
+    requires { ⌜ (length (now words) ≡ 4096) × (length (now cols) ≡ 1024) ⌝ }
+    requires { ⌜ Sound (lent 8 (now words)) n m k × Columns m (lent 8 (now words)) (lent 2 (now cols)) ⌝ }
+    ensures { λ r. ⌜ AllBack (lent 8 (now (words .entry))) (standing (lent 8 (now (words .entry))) (lent 2 (now (cols .exit))) m 0) n m k r ⌝ }
+    ensures { λ r. ⌜ Columns m (standing (lent 8 (now (words .entry))) (lent 2 (now (cols .exit))) m 0) (lent 2 (now (cols .exit))) ⌝ }
 {
     let mut j = k;
     while j != 0 {
         j -= 1;
-        if !back_one(words, n, m, j) {
+        if !back_one(words, cols, n, m, j) {
             return false;
         }
     }
+    true
+}
+
+// Says whether splits made an accepted matrix, and puts its checks before them into rows of two words.
+pub fn all_back(words: &[u64], rows: &mut [u64], n: usize, m: usize, k: usize) -> bool
+    requires { ⌜ (length (now words) ≡ 4096) × (length (now rows) ≡ 256) × Empty (lent 2 (now rows)) × Sound (lent 8 (now words)) n m k ⌝ }
+    ensures { λ r. ⌜ AllBack (lent 8 (now (words .entry))) (lent 2 (now (rows .exit))) n m k r ⌝ }
+{
+    let mut cols = columns(words, m);
+    if !each_back(words, &mut cols, n, m, k) {
+        return false;
+    }
+    put_columns(&cols, rows, n);
     true
 }

@@ -1,7 +1,6 @@
-// Words of a matrix: an empty one, a copy, and one put into lent words.
+// Words of a matrix: an empty one, and one put into lent words.
 ghost use mathlib.Core.Path.{_≡_};
 ghost use lib.ListN.{length};
-ghost use Rattle.parity.specs.Matrix.{lent};
 
 // The words of an empty matrix.
 pub fn no_words() -> [u64; 4096]
@@ -18,14 +17,4 @@ pub fn put_words(from: &[u64], words: &mut [u64])
     for i in 0..words.len() {
         words[i] = from[i];
     }
-}
-
-// A copy of the words of a matrix.
-pub fn copied(words: &[u64]) -> [u64; 4096]
-    requires { ⌜ length (now words) ≡ 4096 ⌝ }
-    ensures { λ r. ⌜ (length r ≡ 4096) × (lent 8 r ≡ lent 8 (now (words .entry))) ⌝ }
-{
-    let mut copy = no_words();
-    put_words(words, &mut copy);
-    copy
 }

@@ -1,4 +1,4 @@
-// Writing the words of a record. No check has a one beyond its first `used` words.
+// Writing the words of a record. Its checks are rows of `width` words, none of which has a one beyond its first `used` words.
 use parity::Check;
 use parity::Form;
 use reading::words::head_kind;
@@ -22,22 +22,22 @@ fn narrow(x: usize) -> u32
     x as u32
 }
 
-// How many bits check `c` contains in its first `used` words: those that it has in common with itself.
-fn weight(words: &[u64], used: usize, c: usize) -> usize
-    requires { ⌜ (length (now words) ≡ 4096) × (used ≤ 8) × (c < 512) ⌝ }
-    ensures { λ r. ⌜ r ≡ count (used * 64) (lent 8 (now (words .entry)) c) ⌝ }
+// How many bits row `c` contains in its first `used` words: those that it has in common with itself.
+fn weight(rows: &[u64], width: usize, used: usize, c: usize) -> usize
+    requires { ⌜ (c * width + width ≤ length (now rows)) × (used ≤ width) × (width ≤ 8) ⌝ }
+    ensures { λ r. ⌜ r ≡ count (used * 64) (lent width (now (rows .entry)) c) ⌝ }
 {
-    common(words, c, words, c, 8, used)
+    common(rows, c, rows, c, width, used)
 }
 
 // How many words the record takes, of whichever form: the first and the last, and for each check one that opens it and its ones.
-pub fn needed(words: &[u64], used: usize, m: usize) -> usize
-    requires { ⌜ (length (now words) ≡ 4096) × (used ≤ 8) × (m ≤ 120) ⌝ }
-    ensures { λ r. ⌜ r ≡ sum m (λ c. 1 + count (used * 64) (lent 8 (now (words .entry)) c)) + 2 ⌝ }
+pub fn needed(rows: &[u64], width: usize, used: usize, m: usize) -> usize
+    requires { ⌜ (m * width ≤ length (now rows)) × (used ≤ width) × (width ≤ 8) × (m ≤ 120) ⌝ }
+    ensures { λ r. ⌜ r ≡ sum m (λ c. 1 + count (used * 64) (lent width (now (rows .entry)) c)) + 2 ⌝ }
 {
     let mut total: usize = 2;
     for c in 0..m {
-        total += 1 + weight(words, used, c);
+        total += 1 + weight(rows, width, used, c);
     }
     total
 }
@@ -85,31 +85,39 @@ fn opening_word(form: Form, c: Check, ones: usize) -> u32
 
 // Writes check `c` from place `p` on, and answers the place behind it.
 fn put_check(
-    words: &[u64],
+    rows: &[u64],
+    width: usize,
     used: usize,
     form: Form,
     c: Check,
     target: &mut [u32],
     p: usize,
 ) -> usize
-    requires { ⌜ (length (now words) ≡ 4096) × (used ≤ 8) × (c .0 < 512) ⌝ }
-    requires { ⌜ p + length (checkOf form (c .0) (lent 8 (now words) (c .0)) (used * 64)) ≤ length (now target) ⌝ }
-    ensures { λ r. ⌜ Wrote (now (target .entry)) (now (target .exit)) p (checkOf form (c .0) (lent 8 (now (words .entry)) (c .0)) (used * 64)) r ⌝ }
+    requires { ⌜ (c .0 * width + width ≤ length (now rows)) × (used ≤ width) × (width ≤ 8) × (c .0 < 512) ⌝ }
+    requires { ⌜ p + length (checkOf form (c .0) (lent width (now rows) (c .0)) (used * 64)) ≤ length (now target) ⌝ }
+    ensures { λ r. ⌜ Wrote (now (target .entry)) (now (target .exit)) p (checkOf form (c .0) (lent width (now (rows .entry)) (c .0)) (used * 64)) r ⌝ }
 {
     let at = c.0;
-    target[p] = opening_word(form, c, weight(words, used, at));
-    put_row(words, 8, used, at, target, p + 1)
+    target[p] = opening_word(form, c, weight(rows, width, used, at));
+    put_row(rows, width, used, at, target, p + 1)
 }
 
 // Writes `m` checks from place 1 on, and answers the place behind them.
-fn put_checks(words: &[u64], used: usize, form: Form, m: usize, target: &mut [u32]) -> usize
-    requires { ⌜ (length (now words) ≡ 4096) × (used ≤ 8) × (m ≤ 120) ⌝ }
-    requires { ⌜ 1 + length (checkWords form (lent 8 (now words)) (used * 64) m) ≤ length (now target) ⌝ }
-    ensures { λ r. ⌜ Wrote (now (target .entry)) (now (target .exit)) 1 (checkWords form (lent 8 (now (words .entry))) (used * 64) m) r ⌝ }
+fn put_checks(
+    rows: &[u64],
+    width: usize,
+    used: usize,
+    form: Form,
+    m: usize,
+    target: &mut [u32],
+) -> usize
+    requires { ⌜ (m * width ≤ length (now rows)) × (used ≤ width) × (width ≤ 8) × (m ≤ 120) ⌝ }
+    requires { ⌜ 1 + length (checkWords form (lent width (now rows)) (used * 64) m) ≤ length (now target) ⌝ }
+    ensures { λ r. ⌜ Wrote (now (target .entry)) (now (target .exit)) 1 (checkWords form (lent width (now (rows .entry))) (used * 64) m) r ⌝ }
 {
     let mut p = 1;
     for c in 0..m {
-        p = put_check(words, used, form, Check(c), target, p);
+        p = put_check(rows, width, used, form, Check(c), target, p);
     }
     p
 }
@@ -144,9 +152,10 @@ fn put_splits(words: &[u64], n: usize, m: usize, k: usize, target: &mut [u32], p
     p + k
 }
 
-// Writes the record, of a form: the checks of `checks`, and the `k` splits of `words`. Answers how many words it took.
+// Writes the record, of a form: the checks that are rows of `checks`, and the `k` splits of `words`. Answers how many words it took.
 pub fn put_record(
     checks: &[u64],
+    width: usize,
     used: usize,
     words: &[u64],
     form: Form,
@@ -155,12 +164,12 @@ pub fn put_record(
     k: usize,
     target: &mut [u32],
 ) -> usize
-    requires { ⌜ (length (now checks) ≡ 4096) × (used ≤ 8) × (length (now words) ≡ 4096) × Sound (lent 8 (now words)) n m k ⌝ }
-    requires { ⌜ length (plainRecord form (lent 8 (now checks)) (used * 64) (lent 8 (now words)) n m k) ≤ length (now target) ⌝ }
-    ensures { λ r. ⌜ Wrote (now (target .entry)) (now (target .exit)) 0 (plainRecord form (lent 8 (now (checks .entry))) (used * 64) (lent 8 (now (words .entry))) n m k) r ⌝ }
+    requires { ⌜ (m * width ≤ length (now checks)) × (used ≤ width) × (width ≤ 8) × (length (now words) ≡ 4096) × Sound (lent 8 (now words)) n m k ⌝ }
+    requires { ⌜ length (plainRecord form (lent width (now checks)) (used * 64) (lent 8 (now words)) n m k) ≤ length (now target) ⌝ }
+    ensures { λ r. ⌜ Wrote (now (target .entry)) (now (target .exit)) 0 (plainRecord form (lent width (now (checks .entry))) (used * 64) (lent 8 (now (words .entry))) n m k) r ⌝ }
 {
     target[0] = head_word(form, n, m);
-    let behind = put_checks(checks, used, form, m, target);
+    let behind = put_checks(checks, width, used, form, m, target);
     let end = put_splits(words, n, m, k, target, behind);
     target[end] = 0xf000_0000;
     end + 1

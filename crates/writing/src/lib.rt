@@ -4,12 +4,12 @@ mod emit;
 use crate::emit::needed;
 use crate::emit::put_record;
 use carried::recover::all_back;
-use carried::words::copied;
 use parity::Form;
 use parity::Refusal;
 ghost use mathlib.Core.Path.{_≡_};
 ghost use mathlib.Core.Bool.{false};
-ghost use lib.ListN.{length};
+ghost use Prim.Native.Nat.{_*_, _≤_};
+ghost use lib.ListN.{length, replicate};
 ghost use Rattle.parity.specs.Matrix.{lent, cause};
 ghost use Rattle.parity.specs.Splits.{allBack, notBuilt};
 ghost use Rattle.parity.specs.Record.{formFor};
@@ -25,9 +25,10 @@ pub enum Writing {
     Refused(Refusal),
 }
 
-// Writes the record of an accepted matrix that splits made: `checks` are its checks before the splits.
+// Writes the record of an accepted matrix that splits made: rows of `width` words are its checks before the splits.
 fn write_checks(
     checks: &[u64],
+    width: usize,
     words: &[u64],
     form: Form,
     n: usize,
@@ -35,20 +36,28 @@ fn write_checks(
     k: usize,
     record: &mut [u32],
 ) -> Writing
-    requires { ⌜ (length (now checks) ≡ 4096) × (cause (now words) n m k ≡ 0) × (notBuilt (lent 8 (now words)) n m k ≡ false) ⌝ }
-    requires { ⌜ (lent 8 (now checks) ≡ allBack (lent 8 (now words)) n m k) × (form ≡ formFor k) ⌝ }
+    requires { ⌜ (m * width ≤ length (now checks)) × (2 ≤ width) × (width ≤ 8) ⌝ }
+    requires { ⌜ (cause (now words) n m k ≡ 0) × (notBuilt (lent 8 (now words)) n m k ≡ false) ⌝ }
+    requires { ⌜ (lent width (now checks) ≡ allBack (lent 8 (now words)) n m k) × (form ≡ formFor k) ⌝ }
     ensures { λ r. ⌜ writingReply r ≡ writeOutcome (now (words .entry)) n m k (now («record» .entry)) .reply ⌝ }
     ensures { λ r. ⌜ now («record» .exit) ≡ writeOutcome (now (words .entry)) n m k (now («record» .entry)) .after ⌝ }
 {
-    let used = needed(checks, IN_USE, m) + k;
+    let used = needed(checks, width, IN_USE, m) + k;
     if record.len() < used {
         return Writing::Refused(Refusal::RecordTooShort { needed: used });
     }
-    put_record(checks, IN_USE, words, form, n, m, k, record);
+    put_record(checks, width, IN_USE, words, form, n, m, k, record);
     Writing::Written { used }
 }
 
-// Writes an accepted matrix: all splits are taken back in a working copy, and without any the words have the checks themselves.
+// Empty rows.
+fn no_rows() -> [u64; 256]
+    ensures { λ r. ⌜ r ≡ replicate 256 0 ⌝ }
+{
+    [0u64; 256]
+}
+
+// Writes an accepted matrix: the checks before all splits are rows of their own, and without any split the words have the checks themselves.
 pub fn write_accepted(
     words: &[u64],
     form: Form,
@@ -62,11 +71,11 @@ pub fn write_accepted(
     ensures { λ r. ⌜ now («record» .exit) ≡ writeOutcome (now (words .entry)) n m k (now («record» .entry)) .after ⌝ }
 {
     if k == 0 {
-        return write_checks(words, words, form, n, m, k, record);
+        return write_checks(words, 8, words, form, n, m, k, record);
     }
-    let mut checks = copied(words);
-    if !all_back(&mut checks, n, m, k) {
+    let mut rows = no_rows();
+    if !all_back(words, &mut rows, n, m, k) {
         return Writing::Refused(Refusal::CannotTakeBack);
     }
-    write_checks(&checks, words, form, n, m, k, record)
+    write_checks(&rows, 2, words, form, n, m, k, record)
 }

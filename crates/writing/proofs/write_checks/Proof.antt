@@ -18,29 +18,29 @@ use Rattle.writing.proofs.write_checks.Tie as tie
 needed-requires : tie.Need-needed-requires
 needed-requires c κs =
     let s = c .before .before .before in
-    (s .pre .0 .0, omega arith, accepts _ _ _ _ .0 (s .pre .0 .1) .sound .m120)
+    (s .pre .0 .0, s .pre .0 .1, s .pre .0 .2, accepts _ _ _ _ .0 (s .pre .1 .0 .0) .sound .m120)
 
 add-used : tie.Need-add-used
 add-used c =
     let s = c .before .before .before .before in
-    let A = accepts _ _ _ _ .0 (s .pre .0 .1) in
-    omega (arith, needed-words _ _ _ _ _ _ (A .sound) (s .pre .0 .2) (s .pre .1 .0) (c .needed .ensures), written-size _ _ _ _ (A .sound))
+    let A = accepts _ _ _ _ .0 (s .pre .1 .0 .0) in
+    omega (arith, needed-words _ _ _ _ _ _ (A .sound) (s .pre .1 .0 .1) (s .pre .1 .1 .0) (c .needed .ensures), written-size _ _ _ _ (A .sound))
 
 returns : tie.Need-returns
 returns c =
     let s = c .before .before .before .before .before in
-    let A = accepts _ _ _ _ .0 (s .pre .0 .1) in
-    let u = needed-words _ _ _ _ _ _ (A .sound) (s .pre .0 .2) (s .pre .1 .0) (c .before .needed .ensures) in
-    let e = write-short _ _ _ _ (s .args .«record» .now) (s .pre .0 .1) (s .pre .0 .2) (omega (arith, u, c .if1 .taken)) in
+    let A = accepts _ _ _ _ .0 (s .pre .1 .0 .0) in
+    let u = needed-words _ _ _ _ _ _ (A .sound) (s .pre .1 .0 .1) (s .pre .1 .1 .0) (c .before .needed .ensures) in
+    let e = write-short _ _ _ _ (s .args .«record» .now) (s .pre .1 .0 .0) (s .pre .1 .0 .1) (omega (arith, u, c .if1 .taken)) in
     rw u (sym (ap (λ (o : Outcome). o .reply) e), sym (ap (λ (o : Outcome). o .after) e))
 
 put-record-requires : tie.Need-put-record-requires
 put-record-requires c κs =
     let s = c .before .before .before .before .before .before in
-    let A = accepts _ _ _ _ .0 (s .pre .0 .1) in
-    let u = needed-words _ _ _ _ _ _ (A .sound) (s .pre .0 .2) (s .pre .1 .0) (c .before .before .needed .ensures) in (
-      (s .pre .0 .0, omega arith, A .words, A .sound),
-      rw (s .pre .1 .1, plain-written (lent 8 (s .args .checks .now)) (lent 8 (s .args .words .now)) 128 (s .args .n) (s .args .m) (s .args .k) (omega (arith, A .sound .n120)) (A .sound) (s .pre .0 .2) (s .pre .1 .0)) (omega (arith, u, c .before .if1 .left)),
+    let A = accepts _ _ _ _ .0 (s .pre .1 .0 .0) in
+    let u = needed-words _ _ _ _ _ _ (A .sound) (s .pre .1 .0 .1) (s .pre .1 .1 .0) (c .before .before .needed .ensures) in (
+      (s .pre .0 .0, s .pre .0 .1, s .pre .0 .2, A .words, A .sound),
+      rw (s .pre .1 .1 .1, plain-written (lent (s .args .width) (s .args .checks .now)) (lent 8 (s .args .words .now)) 128 (s .args .n) (s .args .m) (s .args .k) (omega (arith, A .sound .n120)) (A .sound) (s .pre .1 .0 .1) (s .pre .1 .1 .0)) (omega (arith, u, c .before .if1 .left)),
     )
 
 same-length : tie.Need-same-length
@@ -49,11 +49,11 @@ same-length c = search needs
 returns-2 : tie.Need-returns-2
 returns-2 c =
     let s = c .before .before .before .before .before .before .before .before .before in
-    let A = accepts _ _ _ _ .0 (s .pre .0 .1) in
-    let u = needed-words _ _ _ _ _ _ (A .sound) (s .pre .0 .2) (s .pre .1 .0) (c .before .before .before .before .before .needed .ensures) in
+    let A = accepts _ _ _ _ .0 (s .pre .1 .0 .0) in
+    let u = needed-words _ _ _ _ _ _ (A .sound) (s .pre .1 .0 .1) (s .pre .1 .1 .0) (c .before .before .before .before .before .needed .ensures) in
     let k : length (written (lent 8 (s .args .words .now)) (s .args .n) (s .args .m) (s .args .k)) ≤ length (s .args .«record» .now) = rw (← u) (c .before .before .before .before .if1 .left) in
-    let e = write-made _ _ _ _ (s .args .«record» .now) (s .pre .0 .1) (s .pre .0 .2) k in
-    let W = rw (s .pre .1 .1, plain-written (lent 8 (s .args .checks .now)) (lent 8 (s .args .words .now)) 128 (s .args .n) (s .args .m) (s .args .k) (omega (arith, A .sound .n120)) (A .sound) (s .pre .0 .2) (s .pre .1 .0)) at (c .before .before .put-record .ensures) in
+    let e = write-made _ _ _ _ (s .args .«record» .now) (s .pre .1 .0 .0) (s .pre .1 .0 .1) k in
+    let W = rw (s .pre .1 .1 .1, plain-written (lent (s .args .width) (s .args .checks .now)) (lent 8 (s .args .words .now)) 128 (s .args .n) (s .args .m) (s .args .k) (omega (arith, A .sound .n120)) (A .sound) (s .pre .1 .0 .1) (s .pre .1 .1 .0)) at (c .before .before .put-record .ensures) in
     (ap (λ (x : ℕ). answer (x ∷ [])) u ∙ sym (ap (λ (o : Outcome). o .reply) e), wrote-first _ _ _ _ W k ∙ sym (ap (λ (o : Outcome). o .after) e))
 
 pub write-checks-spec : {M : Type 1} → statement M

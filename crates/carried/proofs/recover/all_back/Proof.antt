@@ -1,70 +1,48 @@
 -- `recover::all_back` meets its contract. Assumes nothing.
-use mathlib.Core.Path.{_≡_, sym, _∙_}
-use Prim.Native.Nat.{suc, _+_, _-_}
 use native.Mathlib.Omega.{arith}
-use lib.ListN.{length}
 use borrow.Author.Tests.{not-true, not-false}
-use Rattle.parity.specs.Matrix.{lent}
-use Rattle.carried.proofs.Recovering.{Taking, taking-start, taking-next, taking-stops, taking-ends}
+use borrow.Author.Needs.{needs}
+use Rattle.carried.proofs.Recovering.{rows-left, rows-made}
 use Rattle.carried.proofs.recover.all_back.Statement.{statement}
 use Rattle.carried.proofs.recover.all_back.Tie as tie
 
-abbrev Inv-loop : tie.InvT-loop
-Inv-loop words₀ n m k j₀ words j = (length words ≡ 4096) × Taking (lent 8 words₀) (lent 8 words) n m k j
+columns-requires : tie.Need-columns-requires
+columns-requires c κs = let s = c .before .before in (s .pre .0, omega (arith, s .pre .3 .m120))
 
-abbrev μ-loop : tie.MeasureT-loop
-μ-loop words₀ n m k j₀ words j = j
+slice-aggregate-each-back : tie.Need-slice-aggregate-each-back
+slice-aggregate-each-back c = search needs
 
-loop-holds : tie.Need-loop-holds Inv-loop μ-loop
-loop-holds c = (c .before .pre .0, taking-start _ _ _ _ (c .before .pre .1))
+each-back-requires : tie.Need-each-back-requires
+each-back-requires c κs = let s = c .before .before .before .before in ((s .pre .0, search needs), (s .pre .3, c .before .columns .ensures))
 
-sub-j : tie.Need-sub-j Inv-loop μ-loop
-sub-j c = omega arith
-
-back-one-requires : tie.Need-back-one-requires Inv-loop μ-loop
-back-one-requires c κs =
-    let l = c .before .before .loop in
-    let e : l .j - 1 + 1 ≡ l .j = omega arith in
-    (l .inv .0, rw e (l .inv .1 .raw))
-
-same-length : tie.Need-same-length Inv-loop μ-loop
-same-length c = c .before .before .before .back-one .kept .0 ∙ c .before .before .before .before .before .before .loop .inv .0 ∙ sym (c .before .before .before .before .before .before .before .before .pre .0)
-
-returns : tie.Need-returns Inv-loop μ-loop
+returns : tie.Need-returns
 returns c =
-    let E = c .before .before .before .back-one in
-    let l = c .before .before .before .before .before .before .loop in
-    let e : suc (l .j - 1) ≡ l .j = omega arith in
-    taking-stops _ _ _ _ _ (l .j - 1) (c .before .before .before .before .before .before .before .before .pre .1) (rw e (l .inv .1)) _ (E .result) (E .ensures) (not-true (E .result) (c .if1 .taken)) _
+    let E = c .before .before .each-back in
+    rows-left _ _ _ _ _ _ (E .result) (E .ensures .0) (not-true (E .result) (c .if1 .taken))
 
-loop-less : tie.Need-loop-less Inv-loop μ-loop
-loop-less c = omega arith
+slice-aggregate-put-columns : tie.Need-slice-aggregate-put-columns
+slice-aggregate-put-columns c = search needs
 
-loop-again : tie.Need-loop-again Inv-loop μ-loop
-loop-again c =
-    let E = c .before .before .before .back-one in
-    let l = c .before .before .before .before .before .before .loop in
-    let e : suc (l .j - 1) ≡ l .j = omega arith in
-    (E .kept .0 ∙ l .inv .0, taking-next _ _ _ _ _ (l .j - 1) (c .before .before .before .before .before .before .before .before .pre .1) (rw e (l .inv .1)) _ (E .result) (E .ensures) (not-false (E .result) (c .if1 .left)))
+put-columns-requires : tie.Need-put-columns-requires
+put-columns-requires c κs = let s = c .before .before .before .before .before .before .before .before .before in (search needs, s .pre .1, omega (arith, s .pre .3 .n120), s .pre .2)
 
-same-length-2 : tie.Need-same-length-2 Inv-loop μ-loop
-same-length-2 c = c .before .loop .inv .0 ∙ sym (c .before .before .before .pre .0)
+same-length : tie.Need-same-length
+same-length c = search needs
 
-returns-2 : tie.Need-returns-2 Inv-loop μ-loop
-returns-2 c = taking-ends _ _ _ _ _ _ (c .loop-test .left) (c .before .before .before .pre .1) (c .before .loop .inv .1)
+returns-2 : tie.Need-returns-2
+returns-2 c =
+    let E = c .before .before .before .before .before .before .before .each-back in
+    rows-made _ _ _ _ _ _ (c .before .before .before .before .before .before .before .before .before .before .before .before .pre .3) (E .ensures .1) (c .before .before .put-columns .ensures) (E .result) (E .ensures .0) (not-false (E .result) (c .before .before .before .before .before .if1 .left))
 
 pub all-back-spec : {M : Type 1} → statement M
 all-back-spec =
     tie.close
     (tie.spec
-    Inv-loop
-    μ-loop
-    loop-holds
-    sub-j
-    back-one-requires
-    same-length
+    columns-requires
+    slice-aggregate-each-back
+    each-back-requires
     returns
-    loop-less
-    loop-again
-    same-length-2
+    slice-aggregate-put-columns
+    put-columns-requires
+    same-length
     returns-2)

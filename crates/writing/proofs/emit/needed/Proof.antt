@@ -6,30 +6,33 @@ use native.Mathlib.Omega.{arith}
 use Rattle.parity.specs.Matrix.{lent}
 use Rattle.parity.specs.Finite.{sum, count}
 use Rattle.parity.proofs.Finite.Sums.{count-bound}
+use Rattle.parity.proofs.Matrix.Lent.{row-room}
 use Rattle.writing.proofs.emit.needed.Statement.{statement}
 use Rattle.writing.proofs.emit.needed.Tie as tie
 
 abbrev Inv-loop : tie.InvT-loop
-Inv-loop words used m total₀ c₀ total c = (c ≤ m) × (total ≤ 2 + 513 * c) × (total ≡ sum c (λ d. 1 + count (used * 64) (lent 8 words d)) + 2)
+Inv-loop rows width used m total₀ c₀ total c = (c ≤ m) × (total ≤ 2 + 513 * c) × (total ≡ sum c (λ d. 1 + count (used * 64) (lent width rows d)) + 2)
 
 abbrev μ-loop : tie.MeasureT-loop
-μ-loop words used m total₀ c₀ total c = m - c
+μ-loop rows width used m total₀ c₀ total c = m - c
 
 loop-holds : tie.Need-loop-holds Inv-loop μ-loop
 loop-holds c = unfold sum in (omega arith, omega arith, omega arith)
 
 weight-requires : tie.Need-weight-requires Inv-loop μ-loop
-weight-requires c κs = let s = c .before .before .before in (s .pre .0, s .pre .1, omega arith)
+weight-requires c κs =
+    let s = c .before .before .before in
+    (omega (arith, row-room (s .args .width) (c .before .loop .c) (s .args .m) (omega arith)), s .pre .1, s .pre .2)
 
 add-total : tie.Need-add-total Inv-loop μ-loop
 add-total c =
     let s = c .before .before .before .before in
-    omega (arith, c .weight .ensures, count-bound (s .args .used * 64) (lent 8 (s .args .words .now) (c .before .before .loop .c)))
+    omega (arith, c .weight .ensures, count-bound (s .args .used * 64) (lent (s .args .width) (s .args .rows .now) (c .before .before .loop .c)))
 
 add-total-2 : tie.Need-add-total-2 Inv-loop μ-loop
 add-total-2 c =
     let s = c .before .before .before .before in
-    omega (arith, c .weight .ensures, count-bound (s .args .used * 64) (lent 8 (s .args .words .now) (c .before .before .loop .c)))
+    omega (arith, c .weight .ensures, count-bound (s .args .used * 64) (lent (s .args .width) (s .args .rows .now) (c .before .before .loop .c)))
 
 add-c : tie.Need-add-c Inv-loop μ-loop
 add-c c = omega arith
@@ -41,7 +44,7 @@ loop-again : tie.Need-loop-again Inv-loop μ-loop
 loop-again c =
     let l = c .before .before .loop in
     let s = c .before .before .before .before in
-    let h = lent 8 (s .args .words .now) in (
+    let h = lent (s .args .width) (s .args .rows .now) in (
       omega arith,
       omega (arith, c .weight .ensures, count-bound (s .args .used * 64) (h (l .c))),
       rw (add-one (l .c)) (unfold sum in omega (arith, c .weight .ensures)),

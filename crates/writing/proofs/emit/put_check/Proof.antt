@@ -16,7 +16,7 @@ weight-requires c κs = search needs
 opening-word-requires : tie.Need-opening-word-requires
 opening-word-requires c κs =
     let s = c .before .before .before in
-    (s .pre .0 .2, omega (arith, s .pre .0, c .weight .ensures, count-bound (s .args .used * 64) (lent 8 (s .args .words .now) (s .args .c .0))))
+    (s .pre .0 .3, omega (arith, s .pre .0, c .weight .ensures, count-bound (s .args .used * 64) (lent (s .args .width) (s .args .rows .now) (s .args .c .0))))
 
 mul-target : tie.Need-mul-target
 mul-target c = search needs
@@ -24,7 +24,7 @@ mul-target c = search needs
 slice-write-target : tie.Need-slice-write-target
 slice-write-target c =
     let s = c .before .before .before .before in
-    omega (arith, s .pre .1, check-length (s .args .form) (s .args .c .0) (lent 8 (s .args .words .now) (s .args .c .0)) (s .args .used * 64))
+    omega (arith, s .pre .1, check-length (s .args .form) (s .args .c .0) (lent (s .args .width) (s .args .rows .now) (s .args .c .0)) (s .args .used * 64))
 
 add-put-row : tie.Need-add-put-row
 add-put-row c = search needs
@@ -32,8 +32,8 @@ add-put-row c = search needs
 put-row-requires : tie.Need-put-row-requires
 put-row-requires c κs =
     let s = c .before .before .before .before .before in (
-      (omega (arith, s .pre .0), s .pre .0 .1, omega arith),
-      omega (arith, s .pre .1, check-length (s .args .form) (s .args .c .0) (lent 8 (s .args .words .now) (s .args .c .0)) (s .args .used * 64), length-set (s .args .target .now) (s .args .p) (c .before .opening-word .result)),
+      (s .pre .0 .0, s .pre .0 .1, s .pre .0 .2),
+      omega (arith, s .pre .1, check-length (s .args .form) (s .args .c .0) (lent (s .args .width) (s .args .rows .now) (s .args .c .0)) (s .args .used * 64), length-set (s .args .target .now) (s .args .p) (c .before .opening-word .result)),
     )
 
 same-length : tie.Need-same-length

@@ -16,28 +16,28 @@ use Rattle.writing.proofs.emit.put_record.Statement.{statement}
 use Rattle.writing.proofs.emit.put_record.Tie as tie
 
 head-word-requires : tie.Need-head-word-requires
-head-word-requires c κs = let S = c .before .before .before .pre .0 .3 in (S .n120, S .m120)
+head-word-requires c κs = let S = c .before .before .before .pre .0 .4 in (S .n120, S .m120)
 
 slice-write-target : tie.Need-slice-write-target
 slice-write-target c =
     let s = c .before .before .before .before in
-    let k : 0 < length (s .args .target .now) = omega (arith, s .pre .1, plain-length (s .args .form) (lent 8 (s .args .checks .now)) (s .args .used * 64) (lent 8 (s .args .words .now)) (s .args .n) (s .args .m) (s .args .k)) in
+    let k : 0 < length (s .args .target .now) = omega (arith, s .pre .1, plain-length (s .args .form) (lent (s .args .width) (s .args .checks .now)) (s .args .used * 64) (lent 8 (s .args .words .now)) (s .args .n) (s .args .m) (s .args .k)) in
     k
 
 put-checks-requires : tie.Need-put-checks-requires
 put-checks-requires c κs =
     let s = c .before .before .before .before .before in (
-      (s .pre .0 .0, s .pre .0 .1, s .pre .0 .3 .m120),
-      omega (arith, s .pre .1, plain-length (s .args .form) (lent 8 (s .args .checks .now)) (s .args .used * 64) (lent 8 (s .args .words .now)) (s .args .n) (s .args .m) (s .args .k), length-set (s .args .target .now) 0 (c .before .head-word .result)),
+      (s .pre .0 .0, s .pre .0 .1, s .pre .0 .2, s .pre .0 .4 .m120),
+      omega (arith, s .pre .1, plain-length (s .args .form) (lent (s .args .width) (s .args .checks .now)) (s .args .used * 64) (lent 8 (s .args .words .now)) (s .args .n) (s .args .m) (s .args .k), length-set (s .args .target .now) 0 (c .before .head-word .result)),
     )
 
 put-splits-requires : tie.Need-put-splits-requires
 put-splits-requires c κs =
     let s = c .before .before .before .before .before .before .before .before .before in
     let o = c .before .before .before .put-checks .ensures in (
-      s .pre .0 .2,
       s .pre .0 .3,
-      omega (arith, s .pre .1, o .place, plain-length (s .args .form) (lent 8 (s .args .checks .now)) (s .args .used * 64) (lent 8 (s .args .words .now)) (s .args .n) (s .args .m) (s .args .k), wrote-length _ _ _ _ _ o, length-set (s .args .target .now) 0 (c .before .before .before .before .before .head-word .result)),
+      s .pre .0 .4,
+      omega (arith, s .pre .1, o .place, plain-length (s .args .form) (lent (s .args .width) (s .args .checks .now)) (s .args .used * 64) (lent 8 (s .args .words .now)) (s .args .n) (s .args .m) (s .args .k), wrote-length _ _ _ _ _ o, length-set (s .args .target .now) 0 (c .before .before .before .before .before .head-word .result)),
     )
 
 -- the end word has a place
@@ -48,7 +48,7 @@ room c =
     let s = c .before .before .before .before .before .before .before .before .before .before .before .before in
     let o = c .before .before .before .before .before .before .put-checks .ensures in
     let q = c .before .before .put-splits .ensures in (
-      omega (arith, s .pre .1, o .place, q .place, plain-length (s .args .form) (lent 8 (s .args .checks .now)) (s .args .used * 64) (lent 8 (s .args .words .now)) (s .args .n) (s .args .m) (s .args .k), length-listFrom 0 (s .args .k) (splitOfCheck (lent 8 (s .args .words .now)) (s .args .n) (s .args .m))),
+      omega (arith, s .pre .1, o .place, q .place, plain-length (s .args .form) (lent (s .args .width) (s .args .checks .now)) (s .args .used * 64) (lent 8 (s .args .words .now)) (s .args .n) (s .args .m) (s .args .k), length-listFrom 0 (s .args .k) (splitOfCheck (lent 8 (s .args .words .now)) (s .args .n) (s .args .m))),
       wrote-length _ _ _ _ _ q ∙ wrote-length _ _ _ _ _ o ∙ length-set (s .args .target .now) 0 (c .before .before .before .before .before .before .before .before .head-word .result),
     )
 

@@ -7,7 +7,7 @@ use rows::words_of;
 use steps::solving::settle;
 use word::Admission;
 use word::admit;
-use word::sets::set_of;
+use word::pairs::make_sets;
 ghost use mathlib.Core.Path.{_≡_};
 ghost use mathlib.Core.Bool.{false};
 ghost use mathlib.Core.List.{[], _∷_};
@@ -49,9 +49,10 @@ fn determine_word(words: &[u64], n: usize, k: usize, checks: usize, word: &mut [
     ensures { λ r. ⌜ determiningReply r ≡ wordOutcome (lent 8 (now (words .entry))) n k checks (now (word .entry)) .reply ⌝ }
     ensures { λ r. ⌜ now (word .exit) ≡ wordOutcome (lent 8 (now (words .entry))) n k checks (now (word .entry)) .after ⌝ }
 {
-    let lost = set_of(word, 2);
+    let mut lost = [0u64; 8];
+    let mut ones = [0u64; 8];
+    make_sets(word, &mut lost, &mut ones);
     let mut erased = lost;
-    let mut ones = set_of(word, 1);
     let before = sizes_of(&lost, n);
     let bits = n + k;
     settle(words, words_of(bits), checks, &mut erased, &mut ones);

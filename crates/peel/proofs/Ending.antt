@@ -106,6 +106,10 @@ module _ (W : ℕ) (h : Matrix) (n k M : ℕ) (w es os : List ℕ) (size : lengt
     pub settled-held : Held h (length w) M (byteOf w) e o
     settled-held = held-reached h (W * 64) (length w) M few (byteOf w) (lent W es 0) (lent W os 0) e o (S .reached) held-start
 
+    -- which have no bit of their number or above
+    pub settled-short : (N : ℕ) → length w ≤ N → Short N e × Short N o
+    settled-short N l = (record { none = λ b k. settled-held .short-e b (omega arith) }, record { none = λ b k. settled-held .short-o b (omega arith) })
+
     D : Ended h (n + k) M (byteOf w) (held e o)
     D = rw size at (held-ended h (W * 64) (length w) M few (byteOf w) e o settled-held (S .over))
 

@@ -9,7 +9,7 @@ use steps::result::finish;
 use steps::solving::settle;
 use word::Admission;
 use word::admit;
-use word::sets::set_of;
+use word::pairs::make_sets;
 ghost use mathlib.Core.Path.{_≡_};
 ghost use mathlib.Core.Bool.{false};
 ghost use mathlib.Core.List.{[], _∷_};
@@ -50,13 +50,14 @@ fn peel_word(words: &[u64], n: usize, k: usize, checks: usize, word: &mut [u8]) 
     ensures { λ r. ⌜ peelingReply r ≡ wordOutcome (lent 8 (now (words .entry))) n k checks (now (word .entry)) .reply ⌝ }
     ensures { λ r. ⌜ now (word .exit) ≡ wordOutcome (lent 8 (now (words .entry))) n k checks (now (word .entry)) .after ⌝ }
 {
-    let lost = set_of(word, 2);
+    let mut lost = [0u64; 8];
+    let mut ones = [0u64; 8];
+    make_sets(word, &mut lost, &mut ones);
     let mut erased = lost;
-    let mut ones = set_of(word, 1);
     let before = sizes_of(&lost, n);
     let used = words_of(n + k);
     settle(words, used, checks, &mut erased, &mut ones);
-    if !finish(words, checks, word, &lost, &erased, &ones) {
+    if !finish(words, used, checks, word, &lost, &erased, &ones) {
         return Peeling::Refused(Refusal::Contradiction);
     }
     let left = sizes_of(&erased, n);

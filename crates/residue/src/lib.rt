@@ -57,7 +57,7 @@ pub fn finish(
     requires { ⌜ Apart bits (lent 8 (now residue) 0) (lent 8 (now known) 0) ⌝ }
     ensures { λ r. ⌜ Finished (lent 8 (now (words .entry))) bits checks (lent 8 (now (lost .entry)) 0) (lent 8 (now (residue .entry)) 0) (lent 8 (now (known .entry)) 0) (now (word .entry)) r (lent 8 (now (left .exit)) 0) (lent 8 (now (values .exit)) 0) (now (word .exit)) ⌝ }
 {
-    if !agree(words, checks, residue, known) {
+    if !agree(words, words_of(bits), checks, residue, known) {
         return false;
     }
     if size(residue) == 0 {

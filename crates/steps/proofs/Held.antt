@@ -9,7 +9,7 @@ use borrow.Author.Tests.{eq-eqb, ne-eqb, lt-ltb, le-ltb}
 use Rattle.parity.specs.Finite.{one, count}
 use Rattle.parity.specs.Matrix.{Matrix, put}
 use Rattle.parity.specs.Words.{erased, isOne, inside, odd, solved, agrees}
-use Rattle.parity.proofs.Finite.Sums.{sum-point, count-end}
+use Rattle.parity.proofs.Finite.Sums.{sum-point, count-end, count-at, count-pos}
 use Rattle.parity.proofs.Matrix.Lent.{put-here, put-place}
 use Rattle.parity.proofs.Words.Steps.{Stage, step, Ended, ended}
 use Rattle.parity.proofs.Finite.Firsts.{all-cong}
@@ -87,6 +87,20 @@ pub next-wider : (h : Matrix) (N B M from : ℕ) (e : ℕ → Bool) (r : Single)
 next-wider h N B M from e (Found c b) l f L =
     record { check = L .check; bit = omega (arith, L .bit); has = L .has; gone = L .gone; only = inside-short h B N (c .0) e l (f .none) ∙ L .only }
 next-wider h N B M from e Nothing l f S = record { none = λ c i k q. S .none c i k (sym (inside-short h B N c e l (f .none)) ∙ q) }
+
+-- sets of the first N bits agree by these bits
+pub agreeing-wider : (h : Matrix) (N B M : ℕ) (e o : ℕ → Bool) → N ≤ B → Short N e → Short N o → agreeing h N M e o ≡ agreeing h B M e o
+unfolding agreeing
+agreeing-wider h N B M e o l f g = all-cong M (λ c k. rw (inside-short h B N c e l (f .none), inside-short h B N c o l (g .none)))
+
+-- where nothing is erased, no check has an erased bit
+pub none-erased : (h : Matrix) (N M : ℕ) (e : ℕ → Bool) → count N (λ t. e t && e t) ≡ 0 → NoSingle h N M 0 e
+none-erased h N M e z = record {
+  none = λ c i k q.
+      let (b, l, p) = count-at N (λ t. h c t && e t) (unfold inside in omega (arith, q)) in
+      let f = and-eq-true-iff (h c b) (e b) .0 p .1 in
+      omega (arith, z, count-pos N (λ t. e t && e t) b l (rw f));
+}
 
 -- a solving step leaves such a set short
 pub short-solved : (h : Matrix) (N B c b : ℕ) (e o e' o' : ℕ → Bool) → Short N e → Solved h B c b e o e' o' → Short N e'

@@ -3,7 +3,7 @@ use parity::Check;
 use rows::contains;
 use rows::wide;
 use word::sets::is_odd;
-use word::sets::touches;
+use word::sets::meets;
 ghost use mathlib.Core.Path.{_≡_};
 ghost use Prim.Native.Nat.{_*_, _<_, _≤_};
 ghost use lib.ListN.{length};
@@ -12,19 +12,38 @@ ghost use Rattle.parity.specs.Matrix.{lent};
 ghost use Rattle.parity.specs.Calls.{byteOf};
 ghost use Rattle.steps.specs.Steps.{agreeing, filled, Short, Reaching, WordWritten, Finished};
 
-// Whether each of the first `checks` checks without an erased bit is even. Where nothing is erased, no check is odd but for a contradiction, and so this is asked first.
-pub fn agree(words: &[u64], checks: usize, erased: &[u64], ones: &[u64]) -> bool
-    requires { ⌜ (length (now words) ≡ 4096) × (checks ≤ 512) × (length (now erased) ≡ 8) × (length (now ones) ≡ 8) ⌝ }
-    ensures { λ r. ⌜ r ≡ agreeing (lent 8 (now (words .entry))) 512 checks (lent 8 (now (erased .entry)) 0) (lent 8 (now (ones .entry)) 0) ⌝ }
+// Whether each of the first `checks` checks without an erased bit is even, by their first `used` words. Where nothing is erased, no check is odd but for a
+// contradiction, and so this is asked first.
+fn agree_in(words: &[u64], used: usize, checks: usize, erased: &[u64], ones: &[u64]) -> bool
+    requires { ⌜ (length (now words) ≡ 4096) × (checks ≤ 512) × (length (now erased) ≡ 8) × (length (now ones) ≡ 8) × (used ≤ 8) ⌝ }
+    ensures { λ r. ⌜ r ≡ agreeing (lent 8 (now (words .entry))) (used * 64) checks (lent 8 (now (erased .entry)) 0) (lent 8 (now (ones .entry)) 0) ⌝ }
 {
     for c in 0..checks {
-        if is_odd(words, Check(c), ones) {
-            if !touches(words, Check(c), erased) {
+        if is_odd(words, used, Check(c), ones) {
+            if !meets(words, used, Check(c), erased) {
                 return false;
             }
         }
     }
     true
+}
+
+// The same of sets whose bits are in the first `used` words. Where these are one, two or all, their number is known beforehand.
+pub fn agree(words: &[u64], used: usize, checks: usize, erased: &[u64], ones: &[u64]) -> bool
+    requires { ⌜ (length (now words) ≡ 4096) × (checks ≤ 512) × (length (now erased) ≡ 8) × (length (now ones) ≡ 8) × (used ≤ 8) ⌝ }
+    requires { ⌜ Short (used * 64) (lent 8 (now erased) 0) × Short (used * 64) (lent 8 (now ones) 0) ⌝ }
+    ensures { λ r. ⌜ r ≡ agreeing (lent 8 (now (words .entry))) 512 checks (lent 8 (now (erased .entry)) 0) (lent 8 (now (ones .entry)) 0) ⌝ }
+{
+    if used == 1 {
+        return agree_in(words, 1, checks, erased, ones);
+    }
+    if used == 2 {
+        return agree_in(words, 2, checks, erased, ones);
+    }
+    if used == 8 {
+        return agree_in(words, 8, checks, erased, ones);
+    }
+    agree_in(words, used, checks, erased, ones)
 }
 
 // The byte of bit `b`, which is not erased.
@@ -62,19 +81,21 @@ pub fn write(word: &mut [u8], lost: &[u64], erased: &[u64], ones: &[u64], width:
 }
 
 // Each bit that was lost and is not erased gets its byte if each check without an erased bit is even, and else the word stays. Whether they
-// are.
+// are. The sets have their bits in the first `used` words.
 pub fn finish(
     words: &[u64],
+    used: usize,
     checks: usize,
     word: &mut [u8],
     lost: &[u64],
     erased: &[u64],
     ones: &[u64],
 ) -> bool
-    requires { ⌜ (length (now words) ≡ 4096) × (checks ≤ 512) × (length (now lost) ≡ 8) × (length (now erased) ≡ 8) × (length (now ones) ≡ 8) × Short (length (now word)) (lent 8 (now lost) 0) ⌝ }
+    requires { ⌜ (length (now words) ≡ 4096) × (checks ≤ 512) × (length (now lost) ≡ 8) × (length (now erased) ≡ 8) × (length (now ones) ≡ 8) × (used ≤ 8) × Short (length (now word)) (lent 8 (now lost) 0) ⌝ }
+    requires { ⌜ Short (used * 64) (lent 8 (now erased) 0) × Short (used * 64) (lent 8 (now ones) 0) ⌝ }
     ensures { λ r. ⌜ Finished (lent 8 (now (words .entry))) 512 checks (lent 8 (now (lost .entry)) 0) (lent 8 (now (erased .entry)) 0) (lent 8 (now (ones .entry)) 0) (now (word .entry)) r (now (word .exit)) ⌝ }
 {
-    let agreed = agree(words, checks, erased, ones);
+    let agreed = agree(words, used, checks, erased, ones);
     if agreed {
         write(word, lost, erased, ones, 8);
     }

@@ -5,6 +5,7 @@ use parity::Bit;
 use parity::Check;
 use rows::lower;
 use rows::raise;
+use rows::touches;
 use word::sets::is_odd;
 ghost use mathlib.Core.Path.{_≡_};
 ghost use Prim.Native.Nat.{_*_, _<_, _≤_};
@@ -18,7 +19,7 @@ fn solve(words: &[u64], c: Check, b: Bit, erased: &mut [u64], ones: &mut [u64])
     requires { ⌜ (length (now words) ≡ 4096) × (c .0 < 512) × (b .0 < 512) × (length (now erased) ≡ 8) × (length (now ones) ≡ 8) ⌝ }
     ensures { λ r. ⌜ Solved (lent 8 (now (words .entry))) 512 (c .0) (b .0) (lent 8 (now (erased .entry)) 0) (lent 8 (now (ones .entry)) 0) (lent 8 (now (erased .exit)) 0) (lent 8 (now (ones .exit)) 0) ⌝ }
 {
-    let odd = is_odd(words, c, ones);
+    let odd = is_odd(words, 8, c, ones);
     let at = b.0;
     lower(erased, 8, 0, at);
     if odd {
@@ -26,11 +27,17 @@ fn solve(words: &[u64], c: Check, b: Bit, erased: &mut [u64], ones: &mut [u64])
     }
 }
 
-// The next check to solve: where all words are in use, their number is known beforehand, and the search is quicker.
+// The next check to solve: where one, two or all words are in use, their number is known beforehand, and the search is quicker.
 fn next_in(words: &[u64], used: usize, checks: usize, from: Check, erased: &[u64]) -> Single
     requires { ⌜ (length (now words) ≡ 4096) × (checks ≤ 512) × (length (now erased) ≡ 8) × (used ≤ 8) ⌝ }
     ensures { λ r. ⌜ NextSingle (lent 8 (now (words .entry))) (used * 64) checks (from .0) (lent 8 (now (erased .entry)) 0) r ⌝ }
 {
+    if used == 1 {
+        return next_single(words, 8, 1, checks, from, erased);
+    }
+    if used == 2 {
+        return next_single(words, 8, 2, checks, from, erased);
+    }
     if used == 8 {
         return next_single(words, 8, 8, checks, from, erased);
     }
@@ -39,7 +46,7 @@ fn next_in(words: &[u64], used: usize, checks: usize, from: Check, erased: &[u64
 
 // Solves checks as long as one of the first `checks` has exactly one erased bit; these are in the first `used` words. The search resumes behind the check found, and ends after
 // a whole pass that found none.
-pub fn settle(words: &[u64], used: usize, checks: usize, erased: &mut [u64], ones: &mut [u64])
+fn solve_all(words: &[u64], used: usize, checks: usize, erased: &mut [u64], ones: &mut [u64])
     requires { ⌜ (length (now words) ≡ 4096) × (checks ≤ 512) × (length (now erased) ≡ 8) × (length (now ones) ≡ 8) × (used ≤ 8) × Short (used * 64) (lent 8 (now erased) 0) ⌝ }
     ensures { λ r. ⌜ Settled (lent 8 (now (words .entry))) 512 checks (lent 8 (now (erased .entry)) 0) (lent 8 (now (ones .entry)) 0) (lent 8 (now (erased .exit)) 0) (lent 8 (now (ones .exit)) 0) ⌝ }
 {
@@ -58,5 +65,15 @@ pub fn settle(words: &[u64], used: usize, checks: usize, erased: &mut [u64], one
                 from = Check(0);
             }
         }
+    }
+}
+
+// The same: nothing is searched where nothing is erased.
+pub fn settle(words: &[u64], used: usize, checks: usize, erased: &mut [u64], ones: &mut [u64])
+    requires { ⌜ (length (now words) ≡ 4096) × (checks ≤ 512) × (length (now erased) ≡ 8) × (length (now ones) ≡ 8) × (used ≤ 8) × Short (used * 64) (lent 8 (now erased) 0) ⌝ }
+    ensures { λ r. ⌜ Settled (lent 8 (now (words .entry))) 512 checks (lent 8 (now (erased .entry)) 0) (lent 8 (now (ones .entry)) 0) (lent 8 (now (erased .exit)) 0) (lent 8 (now (ones .exit)) 0) ⌝ }
+{
+    if touches(erased, 0, erased, 0, 8) {
+        solve_all(words, used, checks, erased, ones);
     }
 }

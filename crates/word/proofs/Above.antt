@@ -32,6 +32,11 @@ module _ (w : List ℕ) (top i : ℕ) (P : Passed w top i) where
   place-none e =
       rw e (sym (least-none (length w) (λ b. ltb top (byteOf w b)) (any-none (length w) (λ b. ltb top (byteOf w b)) (λ j m. le-ltb top (byteOf w j) (P .none j (omega arith))))))
 
+-- no byte is
+pub place-right : (w : List ℕ) (top : ℕ) → wrongByte top w ≡ false → length w ≡ wrongPlace top w
+unfolding wrongPlace wrongByte
+place-right w top e = sym (least-none (length w) (λ b. ltb top (byteOf w b)) e)
+
 module _ (w : List ℕ) (top place : ℕ) (e : place ≡ wrongPlace top w) where
   pub byte-wrong : place < length w → wrongByte top w ≡ true
   unfolding wrongPlace wrongByte

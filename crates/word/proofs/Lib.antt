@@ -1,5 +1,6 @@
 pub mod Above
 pub mod Making
+pub mod Eights
 pub mod Told
 pub mod Lower
 pub mod Outcome

@@ -1,29 +1,45 @@
 -- A set made of bytes, word by word, over the number W of words. Assumes nothing.
-use mathlib.Core.Path.{_≡_, _∙_}
-use mathlib.Core.Bool.{_&&_, and-false, or-true, or-false}
+use mathlib.Core.Path.{_≡_, sym, ap, _∙_}
+use mathlib.Core.Bool.{false, _&&_, and-false, or-true, or-false}
 use mathlib.Core.List.{List}
-use Prim.Native.Nat.{ℕ, _+_, _*_, _-_, _/_, _%_, _^_, _≤_, _<_, min, max}
-use native.Mathlib.Nat.{zero-add, zero-mul}
+use Prim.Native.Nat.{ℕ, suc, _+_, _*_, _-_, _/_, _%_, _^_, _≤_, _<_, min, max}
+use native.Mathlib.Nat.{zero-add, zero-mul, mul-assoc, mul-mod-left, pow-suc}
 use native.Mathlib.Omega.{arith}
 use native.Mathlib.Decide.{ℕ-discrete, decLt}
-use lib.Bits.{bitOr}
+use lib.Bits.{bitOr, or-zero-r}
 use lib.Dec.{eqb, ltb}
+use lib.Pow.{pow-add, shl-exact, shl-shr, shr-shr}
 use lib.ListN.{getD, length, set, length-set}
 use lib.Seq.{getD-set-same, getD-set-other}
 use borrow.Author.Tests.{eq-eqb, ne-eqb, lt-ltb, le-ltb}
+use Rattle.parity.specs.Finite.{one}
 use Rattle.parity.specs.Matrix.{bitOf}
 use Rattle.parity.specs.Calls.{byteOf}
 use Rattle.parity.proofs.Finite.Sums.{below-next}
-use Rattle.parity.proofs.Matrix.Digits.{bit-zero, bit-set}
+use Rattle.parity.proofs.Matrix.Clean.{no-bit}
+use Rattle.parity.proofs.Matrix.Digits.{one-shl, bit-zero, bit-set, bit-or}
 use Rattle.parity.proofs.Matrix.Lent.{lent-in, lent-out}
-use Rattle.word.specs.Sets.{WordOf, SetOf}
+use Rattle.word.specs.Sets.{WordOf, SetOf, Upto, Eight}
 
--- x has the bits of word i below bit b whose byte is v
-pub record Upto (w : List ℕ) (v i x b : ℕ) : Type 0 where
-  pub at : (j : ℕ) → j < 64 → bitOf x j ≡ (ltb (i * 64 + j) b && eqb (byteOf w (i * 64 + j)) v)
+-- the bits of a word that is shifted
+bit-under : (y s j : ℕ) → j < s → bitOf (y * 2 ^ s) j ≡ false
+unfolding bitOf
+bit-under y s j l =
+    let e : s ≡ suc (s - suc j) + j = omega arith in
+    let p : 2 ^ s ≡ 2 ^ (s - suc j) * 2 * 2 ^ j = ap (λ (n : ℕ). 2 ^ n) e ∙ pow-add 2 (suc (s - suc j)) j ∙ ap (_* 2 ^ j) (pow-suc 2 (s - suc j)) in
+    let f : y * 2 ^ s ≡ y * (2 ^ (s - suc j) * 2) * 2 ^ j = ap (y *_) p ∙ sym (mul-assoc y (2 ^ (s - suc j) * 2) (2 ^ j)) in
+    rw (f, shl-shr (y * (2 ^ (s - suc j) * 2)) j, ← mul-assoc y (2 ^ (s - suc j)) 2, mul-mod-left)
+
+bit-over : (y s t : ℕ) → bitOf (y * 2 ^ s) (s + t) ≡ bitOf y t
+unfolding bitOf
+bit-over y s t = rw (← shr-shr (y * 2 ^ s) s t, shl-shr y s)
 
 pub upto-none : (w : List ℕ) (v i : ℕ) → Upto w v i 0 (i * 64)
 upto-none w v i = record { at = λ j k. rw (le-ltb (i * 64 + j) (i * 64) (omega arith)) (bit-zero j) }
+
+-- a word behind the bytes
+pub word-none : (w : List ℕ) (v i : ℕ) → length w ≤ i * 64 → WordOf w v i 0
+word-none w v i l = record { at = λ j k. rw (le-ltb (i * 64 + j) (length w) (omega arith)) (bit-zero j) }
 
 module _ (w : List ℕ) (v i x b : ℕ) (U : Upto w v i x b) where
   pub upto-in : i * 64 ≤ b → byteOf w b ≡ v → Upto w v i (bitOr x (2 ^ (b - i * 64))) (b + 1)
@@ -39,6 +55,37 @@ module _ (w : List ℕ) (v i x b : ℕ) (U : Upto w v i x b) where
     at = λ j k. rw (U .at j k) (elim (ℕ-discrete (i * 64 + j) b) [
       | yes q ↦ rw (q, ne-eqb (byteOf w b) v n, and-false, and-false)
       | no d ↦ rw (below-next (i * 64 + j) b d)
+    ]);
+  }
+
+  -- by the bit's value y, shifted to its place
+  pub upto-bit : (y : ℕ) → i * 64 ≤ b → b < i * 64 + 64 → y ≡ one (eqb (byteOf w b) v) → Upto w v i (bitOr x (y * 2 ^ (b - i * 64) % 2 ^ 64)) (b + 1)
+  upto-bit y l m e =
+      let k : b - i * 64 < 64 = omega arith in
+      elim (ℕ-discrete (byteOf w b) v) [
+        | yes q ↦
+            let f : y ≡ 1 = e ∙ ap one (eq-eqb (byteOf w b) v q) in
+            rw (f, one-shl (b - i * 64) k) (upto-in l q)
+        | no d ↦
+            let f : y ≡ 0 = e ∙ ap one (ne-eqb (byteOf w b) v d) in
+            rw (f, zero-mul (2 ^ (b - i * 64)), or-zero-r x) (upto-out d)
+      ]
+
+  -- by eight bits at once
+  pub upto-eight : (q y : ℕ) → b ≡ i * 64 + q * 8 → q < 8 → Eight w v b y → Upto w v i (bitOr x (y * 2 ^ (q * 8) % 2 ^ 64)) (i * 64 + (q + 1) * 8)
+  upto-eight q y e k E = record {
+    at = λ j l. bit-or x (y * 2 ^ (q * 8) % 2 ^ 64) j ∙ rw (U .at j l, shl-exact 8 (q * 8) 64 (E .few) (omega arith)) (elim (decLt j (q * 8)) [
+      | yes m ↦ rw (bit-under y (q * 8) j m, or-false, lt-ltb (i * 64 + j) b (omega arith), lt-ltb (i * 64 + j) (i * 64 + (q + 1) * 8) (omega arith))
+      | no m ↦
+          let t : ℕ = j - q * 8 in
+          let a : q * 8 + t ≡ j = omega arith in
+          let f : bitOf (y * 2 ^ (q * 8)) j ≡ bitOf y t = rw a at (bit-over y (q * 8) t) in
+          rw (f, le-ltb (i * 64 + j) b (omega arith)) (elim (decLt t 8) [
+            | yes n ↦
+                let g : b + t ≡ i * 64 + j = omega arith in
+                rw (lt-ltb (i * 64 + j) (i * 64 + (q + 1) * 8) (omega arith)) (rw g at (E .at t n))
+            | no n ↦ rw (le-ltb (i * 64 + j) (i * 64 + (q + 1) * 8) (omega arith)) (no-bit y 8 t (E .few) (omega arith))
+          ])
     ]);
   }
 

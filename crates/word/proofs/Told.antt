@@ -34,17 +34,20 @@ module _ (h : Matrix) (M : ℕ) (w : List ℕ) where
       let (b, k, p) = any-at (length w) (λ b. ltb 1 (byteOf w b)) e in
       rw (all-false (length w) (λ b. leb (byteOf w b) 1) b k (lt-leb (byteOf w b) 1 (ltb-true 1 (byteOf w b) p)))
 
-  module _ (W : ℕ) (r : List ℕ) (S : SetOf W w 1 r) (l : length w ≤ W * 64) where
-    pub codeword-is : wrongByte 1 w ≡ false → evenChecks h (W * 64) M (lent W r 0) ≡ codeword h (length w) M (byteOf w)
+  -- among so many bits that all bytes are
+  module _ (W : ℕ) (r : List ℕ) (S : SetOf W w 1 r) (N : ℕ) (l : length w ≤ N) where
+    ones-inside : (c : ℕ) → inside h N c (lent W r 0) ≡ inside h (length w) c (isOne (byteOf w))
+    ones-inside c = inside-below h N (length w) c (lent W r 0) (λ b. eqb (byteOf w b) 1) l (S .at)
+
+    pub codeword-is : wrongByte 1 w ≡ false → evenChecks h N M (lent W r 0) ≡ codeword h (length w) M (byteOf w)
     unfolding codeword evenChecks
     codeword-is e =
         rw (all-of (length w) (λ b. leb (byteOf w b) 1) (λ b k. le-leb (byteOf w b) 1 (right-bytes 1 w .0 e b k)))
-        (all-cong M (λ c k. ap (λ a. eqb (a % 2) 0) (set-inside W h c w 1 r S l)))
+        (all-cong M (λ c k. ap (λ a. eqb (a % 2) 0) (ones-inside c)))
 
-  -- among so many bits that all bytes are
-  pub stopping-is : (W : ℕ) (r : List ℕ) → SetOf W w 1 r → (N : ℕ) → length w ≤ N → stopping h N M (lent W r 0) ≡ stopping h (length w) M (isOne (byteOf w))
-  unfolding stopping
-  stopping-is W r S N l = all-cong M (λ c k. ap (λ a. not (eqb a 1)) (inside-below h N (length w) c (lent W r 0) (λ b. eqb (byteOf w b) 1) l (S .at)))
+    pub stopping-is : stopping h N M (lent W r 0) ≡ stopping h (length w) M (isOne (byteOf w))
+    unfolding stopping
+    stopping-is = all-cong M (λ c k. ap (λ a. not (eqb a 1)) (ones-inside c))
 
 module _ (ws : List ℕ) (n m k : ℕ) (w : List ℕ) (top : ℕ) where
   -- what causes 1 to 4, 10 and 11 leave

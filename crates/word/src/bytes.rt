@@ -3,10 +3,21 @@ ghost use mathlib.Core.Path.{_≡_};
 ghost use mathlib.Core.List.{_++_};
 ghost use Prim.Native.Nat.{_≤_};
 ghost use lib.ListN.{length, drop};
-ghost use Rattle.parity.specs.Calls.{wrongPlace};
+ghost use Rattle.parity.specs.Calls.{wrongByte, wrongPlace};
+
+// Whether some byte is above `top`. Each is looked at, so that the compiler takes many at once.
+fn any_above(bytes: &[u8], top: u8) -> bool
+    ensures { λ r. ⌜ r ≡ wrongByte top (now (bytes .entry)) ⌝ }
+{
+    let mut over = false;
+    for i in 0..bytes.len() {
+        over = over | (top < bytes[i]);
+    }
+    over
+}
 
 // The lowest place whose byte is above `top`, and the length if there is none.
-pub fn first_above(bytes: &[u8], top: u8) -> usize
+fn lowest_above(bytes: &[u8], top: u8) -> usize
     ensures { λ r. ⌜ r ≡ wrongPlace top (now (bytes .entry)) ⌝ }
 {
     let mut i: usize = 0;
@@ -17,6 +28,16 @@ pub fn first_above(bytes: &[u8], top: u8) -> usize
         i += 1;
     }
     i
+}
+
+// The same place: it is looked for only where there is one.
+pub fn first_above(bytes: &[u8], top: u8) -> usize
+    ensures { λ r. ⌜ r ≡ wrongPlace top (now (bytes .entry)) ⌝ }
+{
+    if any_above(bytes, top) {
+        return lowest_above(bytes, top);
+    }
+    bytes.len()
 }
 
 // Some bytes are copied to the front of others.

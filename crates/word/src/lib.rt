@@ -1,6 +1,7 @@
 // Words and sets of bits, one byte for each bit: verifying, extending, and testing stopping sets.
 mod added;
 pub mod bytes;
+pub mod pairs;
 pub mod sets;
 
 use crate::added::write_word;
@@ -67,17 +68,34 @@ pub fn admit(words: &[u64], n: usize, m: usize, k: usize, bytes: &[u8], top: u8)
     }
 }
 
-// Whether each of the first `checks` checks contains an even number of the set's bits.
-fn all_even(words: &[u64], checks: usize, set: &[u64]) -> bool
-    requires { ⌜ (length (now words) ≡ 4096) × (checks ≤ 512) × (length (now set) ≡ 8) ⌝ }
-    ensures { λ r. ⌜ r ≡ evenChecks (lent 8 (now (words .entry))) 512 checks (lent 8 (now (set .entry)) 0) ⌝ }
+// Whether each of the first `checks` checks contains an even number of the set's bits in its first `used` words.
+fn all_even(words: &[u64], used: usize, checks: usize, set: &[u64]) -> bool
+    requires { ⌜ (length (now words) ≡ 4096) × (checks ≤ 512) × (length (now set) ≡ 8) × (used ≤ 8) ⌝ }
+    ensures { λ r. ⌜ r ≡ evenChecks (lent 8 (now (words .entry))) (used * 64) checks (lent 8 (now (set .entry)) 0) ⌝ }
 {
     for c in 0..checks {
-        if is_odd(words, Check(c), set) {
+        if is_odd(words, used, Check(c), set) {
             return false;
         }
     }
     true
+}
+
+// The same of a set whose bits are in the first `used` words. Where these are one, two or all, their number is known beforehand.
+fn even_in(words: &[u64], used: usize, checks: usize, set: &[u64]) -> bool
+    requires { ⌜ (length (now words) ≡ 4096) × (checks ≤ 512) × (length (now set) ≡ 8) × (used ≤ 8) ⌝ }
+    ensures { λ r. ⌜ r ≡ evenChecks (lent 8 (now (words .entry))) (used * 64) checks (lent 8 (now (set .entry)) 0) ⌝ }
+{
+    if used == 1 {
+        return all_even(words, 1, checks, set);
+    }
+    if used == 2 {
+        return all_even(words, 2, checks, set);
+    }
+    if used == 8 {
+        return all_even(words, 8, checks, set);
+    }
+    all_even(words, used, checks, set)
 }
 
 // Whether the bytes are a codeword of the first `checks` checks.
@@ -89,7 +107,7 @@ fn is_codeword(words: &[u64], checks: usize, bytes: &[u8]) -> bool
         return false;
     }
     let ones = set_of(bytes, 1);
-    all_even(words, checks, &ones)
+    even_in(words, words_of(bytes.len()), checks, &ones)
 }
 
 // Verifies a word: yes exactly for codewords.

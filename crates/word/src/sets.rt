@@ -12,7 +12,7 @@ ghost use Rattle.parity.specs.Words.{inside, odd};
 ghost use Rattle.word.specs.Sets.{WordOf, SetOf};
 
 // The lesser of two numbers.
-fn lesser(a: usize, b: usize) -> usize
+pub fn lesser(a: usize, b: usize) -> usize
     ensures { λ r. ⌜ r ≡ min a b ⌝ }
 {
     if a < b {
@@ -65,12 +65,30 @@ pub fn is_in(set: &[u64], b: Bit) -> bool
     rows::contains(set, 8, 0, b.0)
 }
 
-// Whether check `c` contains an odd number of the set's bits.
-pub fn is_odd(words: &[u64], c: Check, set: &[u64]) -> bool
-    requires { ⌜ (length (now words) ≡ 4096) × (c .0 < 512) × (length (now set) ≡ 8) ⌝ }
-    ensures { λ r. ⌜ r ≡ odd (inside (lent 8 (now (words .entry))) 512 (c .0) (lent 8 (now (set .entry)) 0)) ⌝ }
+// Whether check `c` contains an odd number of the set's bits in its first `used` words.
+pub fn is_odd(words: &[u64], used: usize, c: Check, set: &[u64]) -> bool
+    requires { ⌜ (length (now words) ≡ 4096) × (c .0 < 512) × (length (now set) ≡ 8) × (used ≤ 8) ⌝ }
+    ensures { λ r. ⌜ r ≡ odd (inside (lent 8 (now (words .entry))) (used * 64) (c .0) (lent 8 (now (set .entry)) 0)) ⌝ }
 {
-    rows::is_odd(words, 8, c.0, set)
+    let d = c.0;
+    let mut acc: u64 = 0;
+    for i in 0..used {
+        acc = acc ^ (words[d * 8 + i] & set[i]);
+    }
+    u64::count_ones(acc) & 1 == 1
+}
+
+// Whether check `c` contains a bit of the set in its first `used` words.
+pub fn meets(words: &[u64], used: usize, c: Check, set: &[u64]) -> bool
+    requires { ⌜ (length (now words) ≡ 4096) × (c .0 < 512) × (length (now set) ≡ 8) × (used ≤ 8) ⌝ }
+    ensures { λ r. ⌜ r ≡ not (eqb (inside (lent 8 (now (words .entry))) (used * 64) (c .0) (lent 8 (now (set .entry)) 0)) 0) ⌝ }
+{
+    let d = c.0;
+    let mut acc: u64 = 0;
+    for i in 0..used {
+        acc = acc | (words[d * 8 + i] & set[i]);
+    }
+    acc != 0
 }
 
 // Whether check `c` contains a bit of the set.
@@ -78,7 +96,7 @@ pub fn touches(words: &[u64], c: Check, set: &[u64]) -> bool
     requires { ⌜ (length (now words) ≡ 4096) × (c .0 < 512) × (length (now set) ≡ 8) ⌝ }
     ensures { λ r. ⌜ r ≡ not (eqb (inside (lent 8 (now (words .entry))) 512 (c .0) (lent 8 (now (set .entry)) 0)) 0) ⌝ }
 {
-    rows::touches(words, c.0, set, 0, 8)
+    meets(words, 8, c, set)
 }
 
 // Whether check `c` contains exactly one of the set's bits in its first `used` words: which places of a word these bits take, and which of

@@ -10,11 +10,14 @@ use borrow.Author.Needs.{needs}
 use Rattle.determine.proofs.determine_word.Statement.{statement}
 use Rattle.determine.proofs.determine_word.Tie as tie
 
-set-of-requires : tie.Need-set-of-requires
-set-of-requires c κs = search needs
+slice-aggregate-make-sets : tie.Need-slice-aggregate-make-sets
+slice-aggregate-make-sets c = search needs
 
-set-of-requires-2 : tie.Need-set-of-requires-2
-set-of-requires-2 c κs = search needs
+slice-aggregate-make-sets-2 : tie.Need-slice-aggregate-make-sets-2
+slice-aggregate-make-sets-2 c = search needs
+
+make-sets-requires : tie.Need-make-sets-requires
+make-sets-requires c κs = search needs
 
 slice-aggregate-sizes-of : tie.Need-slice-aggregate-sizes-of
 slice-aggregate-sizes-of c = search needs
@@ -38,10 +41,11 @@ settle-requires : tie.Need-settle-requires
 settle-requires c κs =
     let u = c .before .before .words-of .ensures in
     let z = c .before .before .before in
-    let s = z .before .before .before .before .before .before .before .before in
-    let E = z .before .before .before .before .set-of .ensures in
+    let m = z .before .before .before .before in
+    let s = m .before .before .before .before .before .before in
+    let E = m .make-sets .ensures .0 in
     let S = set-short 8 (s .args .word .now) 2 _ E in
-    (s .pre .0, omega (arith, s .pre .1), E .size, z .before .before .set-of2 .ensures .size, omega (arith, u .1, s .pre .3), record { none = λ b l. S .none b (omega (arith, u .0, s .pre .2)) })
+    (s .pre .0, omega (arith, s .pre .1), E .size, m .make-sets .ensures .1 .size, omega (arith, u .1, s .pre .3), record { none = λ b l. S .none b (omega (arith, u .0, s .pre .2)) })
 
 slice-aggregate-finish : tie.Need-slice-aggregate-finish
 slice-aggregate-finish c = search needs
@@ -62,9 +66,10 @@ finish-requires : tie.Need-finish-requires
 finish-requires c κs =
     let t = c .before .before .before .before .before .before .before .before in
     let z = t .before .before .before .before in
-    let s = z .before .before .before .before .before .before .before .before in
-    let E = z .before .before .before .before .set-of .ensures in
-    let O = z .before .before .set-of2 .ensures in
+    let m = z .before .before .before .before in
+    let s = m .before .before .before .before .before .before in
+    let E = m .make-sets .ensures .0 in
+    let O = m .make-sets .ensures .1 in
     let e = t .settle .kept .1 .1 .1 .0 ∙ E .size in
     let o = t .settle .kept .1 .1 .1 .1 .0 ∙ O .size in
     ((s .pre .0, s .pre .3, s .pre .1, e, o, refl, refl, E .size, set-short 8 (s .args .word .now) 2 _ E), word-apart 8 (lent 8 (s .args .words .now)) (s .args .n) (s .args .k) (s .args .checks) (s .args .word .now) _ _ (s .pre .2) (omega (arith, s .pre .2, s .pre .3)) (s .pre .5) E O _ _ (t .settle .ensures))
@@ -77,9 +82,10 @@ returns c =
     let v = c .before .before .before .before .before in
     let t = v .before .before .before .before .before .before .before .before .before in
     let z = t .before .before .before .before in
-    let s = z .before .before .before .before .before .before .before .before in
-    let E = z .before .before .before .before .set-of .ensures in
-    let O = z .before .before .set-of2 .ensures in
+    let m = z .before .before .before .before in
+    let s = m .before .before .before .before .before .before in
+    let E = m .make-sets .ensures .0 in
+    let O = m .make-sets .ensures .1 in
     let f = not-true (v .finish .result) (c .if1 .taken) in
     let r = word-refused 8 (lent 8 (s .args .words .now)) (s .args .n) (s .args .k) (s .args .checks) (s .args .word .now) _ _ (s .pre .2) (omega (arith, s .pre .2, s .pre .3)) (s .pre .5) E O _ _ (t .settle .ensures) _ _ _ (v .finish .ensures .sets) f in
     (sym (ap (λ (o : Outcome). o .reply) r), (rw f at (v .finish .ensures .word)) ∙ sym (ap (λ (o : Outcome). o .after) r))
@@ -92,9 +98,10 @@ sizes-of-requires-2 c κs =
     let v = c .before .before .before .before .before .before in
     let t = v .before .before .before .before .before .before .before .before .before in
     let z = t .before .before .before .before in
-    let s = z .before .before .before .before .before .before .before .before in
-    let E = z .before .before .before .before .set-of .ensures in
-    let O = z .before .before .set-of2 .ensures in
+    let m = z .before .before .before .before in
+    let s = m .before .before .before .before .before .before in
+    let E = m .make-sets .ensures .0 in
+    let O = m .make-sets .ensures .1 in
     (v .finish .kept .1 .1 .1 .1 .1 .1 .1 .0 ∙ t .settle .kept .1 .1 .1 .0 ∙ E .size, s .pre .4)
 
 made-requires : tie.Need-made-requires
@@ -102,9 +109,10 @@ made-requires c κs =
     let v = c .before .before .before .before .before .before .before in
     let t = v .before .before .before .before .before .before .before .before .before in
     let z = t .before .before .before .before in
-    let s = z .before .before .before .before .before .before .before .before in
-    let E = z .before .before .before .before .set-of .ensures in
-    let O = z .before .before .set-of2 .ensures in
+    let m = z .before .before .before .before in
+    let s = m .before .before .before .before .before .before in
+    let E = m .make-sets .ensures .0 in
+    let O = m .make-sets .ensures .1 in
     let f = not-false (v .finish .result) (c .before .before .if1 .left) in
     word-fewer 8 (lent 8 (s .args .words .now)) (s .args .n) (s .args .k) (s .args .checks) (s .args .word .now) _ _ (s .pre .2) (omega (arith, s .pre .2, s .pre .3)) (s .pre .5) E O _ _ (t .settle .ensures) _ _ _ (v .finish .ensures .sets) f _ _ _ _ (z .sizes-of .ensures) (c .sizes-of2 .ensures)
 
@@ -116,9 +124,10 @@ returns-2 c =
     let v = c .before .before .before .before .before .before .before .before in
     let t = v .before .before .before .before .before .before .before .before .before in
     let z = t .before .before .before .before in
-    let s = z .before .before .before .before .before .before .before .before in
-    let E = z .before .before .before .before .set-of .ensures in
-    let O = z .before .before .set-of2 .ensures in
+    let m = z .before .before .before .before in
+    let s = m .before .before .before .before .before .before in
+    let E = m .make-sets .ensures .0 in
+    let O = m .make-sets .ensures .1 in
     let f = not-false (v .finish .result) (c .before .before .before .if1 .left) in
     let r = word-made 8 (lent 8 (s .args .words .now)) (s .args .n) (s .args .k) (s .args .checks) (s .args .word .now) _ _ (s .pre .2) (omega (arith, s .pre .2, s .pre .3)) (s .pre .5) E O _ _ (t .settle .ensures) _ _ _ (v .finish .ensures .sets) f _ _ _ _ (z .sizes-of .ensures) (c .before .sizes-of2 .ensures) in
     (c .made .ensures ∙ sym (ap (λ (o : Outcome). o .reply) r), (rw f at (v .finish .ensures .word)) ∙ sym (ap (λ (o : Outcome). o .after) r))
@@ -127,8 +136,9 @@ pub determine-word-spec : {M : Type 1} → statement M
 determine-word-spec =
     tie.close
     (tie.spec
-    set-of-requires
-    set-of-requires-2
+    slice-aggregate-make-sets
+    slice-aggregate-make-sets-2
+    make-sets-requires
     slice-aggregate-sizes-of
     sizes-of-requires
     add-bits

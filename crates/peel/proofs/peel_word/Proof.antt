@@ -1,19 +1,23 @@
 -- `peel_word` meets its contract. Assumes nothing.
 use mathlib.Core.Path.{sym, ap, _∙_}
+use Prim.Native.Nat.{_*_}
 use native.Mathlib.Omega.{arith}
 use borrow.Author.Tests.{not-true, not-false}
 use Rattle.parity.specs.Matrix.{lent}
 use Rattle.parity.specs.Causes.{Outcome}
-use Rattle.peel.proofs.Ending.{set-short, word-refused, word-fewer, word-made}
+use Rattle.peel.proofs.Ending.{set-short, settled-short, word-refused, word-fewer, word-made}
 use borrow.Author.Needs.{needs}
 use Rattle.peel.proofs.peel_word.Statement.{statement}
 use Rattle.peel.proofs.peel_word.Tie as tie
 
-set-of-requires : tie.Need-set-of-requires
-set-of-requires c κs = search needs
+slice-aggregate-make-sets : tie.Need-slice-aggregate-make-sets
+slice-aggregate-make-sets c = search needs
 
-set-of-requires-2 : tie.Need-set-of-requires-2
-set-of-requires-2 c κs = search needs
+slice-aggregate-make-sets-2 : tie.Need-slice-aggregate-make-sets-2
+slice-aggregate-make-sets-2 c = search needs
+
+make-sets-requires : tie.Need-make-sets-requires
+make-sets-requires c κs = search needs
 
 slice-aggregate-sizes-of : tie.Need-slice-aggregate-sizes-of
 slice-aggregate-sizes-of c = search needs
@@ -35,11 +39,12 @@ slice-aggregate-settle-2 c = search needs
 
 settle-requires : tie.Need-settle-requires
 settle-requires c κs =
-    let u = c .before .before .words-of .ensures in
-    let z = c .before .before .before in
-    let s = z .before .before .before .before .before .before .before .before in
-    let S = set-short 8 (s .args .word .now) 2 _ (z .before .before .before .before .set-of .ensures) in
-    (s .pre .0, omega (arith, s .pre .1), search needs, search needs, omega (arith, u .1, s .pre .3), record { none = λ b l. S .none b (omega (arith, u .0, s .pre .2)) })
+    let u = c .before .before in
+    let m = u .before .before .before .before .before in
+    let s = m .before .before .before .before .before .before in
+    let (E, O) = m .make-sets .ensures in
+    let S = set-short 8 (s .args .word .now) 2 _ E in
+    (s .pre .0, s .pre .1, E .size, O .size, omega (arith, u .words-of .ensures .1, s .pre .3), record { none = λ b l. S .none b (omega (arith, u .words-of .ensures .0, s .pre .2)) })
 
 slice-aggregate-finish : tie.Need-slice-aggregate-finish
 slice-aggregate-finish c = search needs
@@ -52,9 +57,14 @@ slice-aggregate-finish-3 c = search needs
 
 finish-requires : tie.Need-finish-requires
 finish-requires c κs =
-    let z = c .before .before .before .before .before .before .before .before .before .before in
-    let s = z .before .before .before .before .before .before .before .before in
-    (s .pre .0, s .pre .1, search needs, search needs, search needs, set-short 8 (s .args .word .now) 2 _ (z .before .before .before .before .set-of .ensures))
+    let t = c .before .before .before .before .before .before in
+    let u = t .before .before .before in
+    let m = u .before .before .before .before .before in
+    let s = m .before .before .before .before .before .before in
+    let (E, O) = m .make-sets .ensures in (
+      (s .pre .0, s .pre .1, E .size, t .settle .kept .1 .1 .1 .0 ∙ E .size, t .settle .kept .1 .1 .1 .1 .0 ∙ O .size, omega (arith, u .words-of .ensures .1, s .pre .3), set-short 8 (s .args .word .now) 2 _ E),
+      settled-short 8 (lent 8 (s .args .words .now)) (s .args .n) (s .args .k) (s .args .checks) (s .args .word .now) _ _ (s .pre .2) (omega (arith, s .pre .2, s .pre .3)) (s .pre .5) E O _ _ (t .settle .ensures) (u .words-of .result * 64) (omega (arith, u .words-of .ensures .0, s .pre .2)),
+    )
 
 same-length : tie.Need-same-length
 same-length c = search needs
@@ -63,10 +73,11 @@ returns : tie.Need-returns
 returns c =
     let g = c .before .before .before in
     let t = g .before .before .before .before .before .before .before in
-    let z = t .before .before .before .before in
-    let s = z .before .before .before .before .before .before .before .before in
+    let m = t .before .before .before .before .before .before .before .before in
+    let s = m .before .before .before .before .before .before in
+    let (E, O) = m .make-sets .ensures in
     let f = not-true (g .finish .result) (c .if1 .taken) in
-    let r = word-refused 8 (lent 8 (s .args .words .now)) (s .args .n) (s .args .k) (s .args .checks) (s .args .word .now) _ _ (s .pre .2) (omega (arith, s .pre .2, s .pre .3)) (s .pre .5) (z .before .before .before .before .set-of .ensures) (z .before .before .set-of2 .ensures) _ _ (t .settle .ensures) (sym (g .finish .ensures .told) ∙ f) in
+    let r = word-refused 8 (lent 8 (s .args .words .now)) (s .args .n) (s .args .k) (s .args .checks) (s .args .word .now) _ _ (s .pre .2) (omega (arith, s .pre .2, s .pre .3)) (s .pre .5) E O _ _ (t .settle .ensures) (sym (g .finish .ensures .told) ∙ f) in
     (sym (ap (λ (o : Outcome). o .reply) r), (rw f at (g .finish .ensures .word)) ∙ sym (ap (λ (o : Outcome). o .after) r))
 
 slice-aggregate-sizes-of-2 : tie.Need-slice-aggregate-sizes-of-2
@@ -80,8 +91,10 @@ made-requires c κs =
     let g = c .before .before .before .before .before in
     let t = g .before .before .before .before .before .before .before in
     let z = t .before .before .before .before in
-    let s = z .before .before .before .before .before .before .before .before in
-    word-fewer 8 (lent 8 (s .args .words .now)) (s .args .n) (s .args .k) (s .args .checks) (s .args .word .now) _ _ (s .pre .2) (omega (arith, s .pre .2, s .pre .3)) (s .pre .5) (z .before .before .before .before .set-of .ensures) (z .before .before .set-of2 .ensures) _ _ (t .settle .ensures) _ _ _ _ (z .sizes-of .ensures) (c .sizes-of2 .ensures)
+    let m = z .before .before .before .before in
+    let s = m .before .before .before .before .before .before in
+    let (E, O) = m .make-sets .ensures in
+    word-fewer 8 (lent 8 (s .args .words .now)) (s .args .n) (s .args .k) (s .args .checks) (s .args .word .now) _ _ (s .pre .2) (omega (arith, s .pre .2, s .pre .3)) (s .pre .5) E O _ _ (t .settle .ensures) _ _ _ _ (z .sizes-of .ensures) (c .sizes-of2 .ensures)
 
 same-length-2 : tie.Need-same-length-2
 same-length-2 c = search needs
@@ -91,17 +104,20 @@ returns-2 c =
     let g = c .before .before .before .before .before .before in
     let t = g .before .before .before .before .before .before .before in
     let z = t .before .before .before .before in
-    let s = z .before .before .before .before .before .before .before .before in
+    let m = z .before .before .before .before in
+    let s = m .before .before .before .before .before .before in
+    let (E, O) = m .make-sets .ensures in
     let f = not-false (g .finish .result) (c .before .before .before .if1 .left) in
-    let r = word-made 8 (lent 8 (s .args .words .now)) (s .args .n) (s .args .k) (s .args .checks) (s .args .word .now) _ _ (s .pre .2) (omega (arith, s .pre .2, s .pre .3)) (s .pre .5) (z .before .before .before .before .set-of .ensures) (z .before .before .set-of2 .ensures) _ _ (t .settle .ensures) _ _ _ _ (z .sizes-of .ensures) (c .before .sizes-of2 .ensures) (sym (g .finish .ensures .told) ∙ f) in
+    let r = word-made 8 (lent 8 (s .args .words .now)) (s .args .n) (s .args .k) (s .args .checks) (s .args .word .now) _ _ (s .pre .2) (omega (arith, s .pre .2, s .pre .3)) (s .pre .5) E O _ _ (t .settle .ensures) _ _ _ _ (z .sizes-of .ensures) (c .before .sizes-of2 .ensures) (sym (g .finish .ensures .told) ∙ f) in
     (c .made .ensures ∙ sym (ap (λ (o : Outcome). o .reply) r), (rw f at (g .finish .ensures .word)) ∙ sym (ap (λ (o : Outcome). o .after) r))
 
 pub peel-word-spec : {M : Type 1} → statement M
 peel-word-spec =
     tie.close
     (tie.spec
-    set-of-requires
-    set-of-requires-2
+    slice-aggregate-make-sets
+    slice-aggregate-make-sets-2
+    make-sets-requires
     slice-aggregate-sizes-of
     sizes-of-requires
     add-words-of

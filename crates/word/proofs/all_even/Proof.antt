@@ -1,7 +1,7 @@
 -- `all_even` meets its contract. Assumes nothing.
 use mathlib.Core.Path.{_≡_, refl, sym, _∙_}
 use mathlib.Core.Bool.{true}
-use Prim.Native.Nat.{_-_, _≤_}
+use Prim.Native.Nat.{_*_, _-_, _≤_}
 use native.Mathlib.Omega.{arith}
 use borrow.Author.Needs.{needs}
 use Rattle.parity.specs.Finite.{all}
@@ -13,10 +13,10 @@ use Rattle.word.proofs.all_even.Statement.{statement}
 use Rattle.word.proofs.all_even.Tie as tie
 
 abbrev Inv-loop : tie.InvT-loop
-Inv-loop words checks set c₀ c = (c ≤ checks) × (evenChecks (lent 8 words) 512 c (lent 8 set 0) ≡ true)
+Inv-loop words used checks set c₀ c = (c ≤ checks) × (evenChecks (lent 8 words) (used * 64) c (lent 8 set 0) ≡ true)
 
 abbrev μ-loop : tie.MeasureT-loop
-μ-loop words checks set c₀ c = checks - c
+μ-loop words used checks set c₀ c = checks - c
 
 loop-holds : tie.Need-loop-holds Inv-loop μ-loop
 unfolding evenChecks all

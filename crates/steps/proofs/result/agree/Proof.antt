@@ -1,72 +1,52 @@
 -- `result::agree` meets its contract. Assumes nothing.
-use mathlib.Core.Bool.{or-true}
-use mathlib.Core.Path.{_≡_, refl, sym, _∙_}
-use mathlib.Core.Bool.{true}
-use mathlib.Core.Logic.{⊎-elim}
-use Prim.Native.Nat.{_-_, _≤_}
+use mathlib.Core.Path.{_∙_}
 use native.Mathlib.Omega.{arith}
 use borrow.Author.Needs.{needs}
-use borrow.Author.Tests.{not-true, not-false}
-use Rattle.parity.specs.Finite.{all}
-use Rattle.parity.specs.Matrix.{lent}
-use Rattle.parity.proofs.Finite.Sums.{all-more, all-false}
-use Rattle.parity.proofs.Words.Sets.{odd-even, not-odd-even}
-use Rattle.steps.specs.Steps.{agreeing}
+use Rattle.steps.proofs.Held.{agreeing-wider}
 use Rattle.steps.proofs.result.agree.Statement.{statement}
 use Rattle.steps.proofs.result.agree.Tie as tie
 
-abbrev Inv-loop : tie.InvT-loop
-Inv-loop words checks erased ones c₀ c = (c ≤ checks) × (agreeing (lent 8 words) 512 c (lent 8 erased 0) (lent 8 ones 0) ≡ true)
+agree-in-requires : tie.Need-agree-in-requires
+agree-in-requires c κs = search needs
 
-abbrev μ-loop : tie.MeasureT-loop
-μ-loop words checks erased ones c₀ c = checks - c
+returns : tie.Need-returns
+returns c =
+    let s = c .before .before .before .before .before in
+    let f = rw (c .before .if1 .taken) at (s .pre .1) in
+    c .agree-in .ensures ∙ agreeing-wider _ _ _ _ _ _ (omega arith) (f .0) (f .1)
 
-loop-holds : tie.Need-loop-holds Inv-loop μ-loop
-unfolding agreeing all
-loop-holds c = (omega arith, refl)
+agree-in-requires-2 : tie.Need-agree-in-requires-2
+agree-in-requires-2 c κs = search needs
 
-is-odd-requires : tie.Need-is-odd-requires Inv-loop μ-loop
-is-odd-requires c κs = search needs
+returns-2 : tie.Need-returns-2
+returns-2 c =
+    let s = c .before .before .before .before .before .before in
+    let f = rw (c .before .if2 .taken) at (s .pre .1) in
+    c .agree-in2 .ensures ∙ agreeing-wider _ _ _ _ _ _ (omega arith) (f .0) (f .1)
 
-touches-requires : tie.Need-touches-requires Inv-loop μ-loop
-touches-requires c κs = search needs
+agree-in-requires-3 : tie.Need-agree-in-requires-3
+agree-in-requires-3 c κs = search needs
 
-returns : tie.Need-returns Inv-loop μ-loop
-unfolding agreeing
-returns c = let l = c .before .before .before .before .before .loop in
-    let s = c .before .before .before .before .before .before .before .before .before in
-    sym (all-false (s .args .checks) _ (l .c) (omega arith) (rw (sym (c .before .touches .ensures) ∙ not-true (c .before .touches .result) (c .if2 .taken)) (odd-even _ (sym (c .before .before .before .is-odd .ensures) ∙ c .before .before .if1 .taken))))
+returns-3 : tie.Need-returns-3
+returns-3 c = search needs
 
-add-c : tie.Need-add-c Inv-loop μ-loop
-add-c c = omega arith
+agree-in-requires-4 : tie.Need-agree-in-requires-4
+agree-in-requires-4 c κs = search needs
 
-loop-less : tie.Need-loop-less Inv-loop μ-loop
-loop-less c = omega arith
-
-loop-again : tie.Need-loop-again Inv-loop μ-loop
-unfolding agreeing
-loop-again c = let l = c .before .before .before .loop in (
-  omega arith,
-  all-more (l .c) _ (l .inv .1) (
-      ⊎-elim
-      (λ w. rw (sym (w .1 .ensures) ∙ not-false (w .1 .result) (w .2 .left)))
-      (λ w. rw (not-odd-even _ (sym (c .before .is-odd .ensures) ∙ w .left), or-true)) (c .if1 .came)),
-)
-
-returns-2 : tie.Need-returns-2 Inv-loop μ-loop
-returns-2 c = let e : c .before .loop .c ≡ c .before .before .before .before .before .args .checks = omega arith in sym (rw e at (c .before .loop .inv .1))
+returns-4 : tie.Need-returns-4
+returns-4 c =
+    let s = c .before .before .before .before .before .before .before in
+    c .agree-in4 .ensures ∙ agreeing-wider _ _ _ _ _ _ (omega (arith, s .pre .0 .4)) (s .pre .1 .0) (s .pre .1 .1)
 
 pub agree-spec : {M : Type 1} → statement M
 agree-spec =
     tie.close
     (tie.spec
-    Inv-loop
-    μ-loop
-    loop-holds
-    is-odd-requires
-    touches-requires
+    agree-in-requires
     returns
-    add-c
-    loop-less
-    loop-again
-    returns-2)
+    agree-in-requires-2
+    returns-2
+    agree-in-requires-3
+    returns-3
+    agree-in-requires-4
+    returns-4)

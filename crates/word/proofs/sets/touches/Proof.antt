@@ -1,15 +1,13 @@
--- `word::sets::touches` meets its contract. Assumes nothing.
+-- `sets::touches` meets its contract. Assumes nothing.
 use borrow.Author.Needs.{needs}
-use Rattle.parity.specs.Words.{inside}
 use Rattle.word.proofs.sets.touches.Statement.{statement}
 use Rattle.word.proofs.sets.touches.Tie as tie
 
-touches-requires : tie.Need-touches-requires
-touches-requires c κs = search needs
+meets-requires : tie.Need-meets-requires
+meets-requires c κs = search needs
 
 returns : tie.Need-returns
-unfolding inside
-returns c = c .touches .ensures
+returns c = c .meets .ensures
 
 pub touches-spec : {M : Type 1} → statement M
-touches-spec = tie.close (tie.spec touches-requires returns)
+touches-spec = tie.close (tie.spec meets-requires returns)

@@ -6,7 +6,8 @@ use native.Mathlib.Omega.{arith}
 use borrow.Author.Needs.{needs}
 use lib.ListN.{length}
 use Rattle.parity.proofs.Matrix.Digits.{one-shl}
-use Rattle.word.proofs.Making.{Upto, upto-none, upto-in, upto-out, upto-all}
+use Rattle.word.specs.Sets.{Upto}
+use Rattle.word.proofs.Making.{upto-none, upto-in, upto-out, upto-all}
 use Rattle.word.proofs.sets.word_of.Statement.{statement}
 use Rattle.word.proofs.sets.word_of.Tie as tie
 

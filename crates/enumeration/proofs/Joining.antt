@@ -123,8 +123,8 @@ module _ (cols p : List ℕ) (M n t T : ℕ) (f : T ≡ suc t) {w : Bool} {old n
 
 -- What is listed with the last member: the set where it completes the members, and else nothing.
 module _ (cols p x u : List ℕ) (S : Seen (across cols) p x u) (d : ℕ) (k : d < 128) (U : Under p d) (M : ℕ) (l : M ≤ 512) where
-  pub last-found : completing cols x u M d ≡ true → lastOf (across cols) M p d ≡ p ++ (d ∷ [])
-  last-found e = stopping-yes (across cols) M (p ++ (d ∷ [])) (sym (completes-law cols p x u S d k U M l) ∙ e)
+  pub last-found : {r : Bool} → r ≡ completing cols x u M d → r ≡ true → lastOf (across cols) M p d ≡ p ++ (d ∷ [])
+  last-found f e = stopping-yes (across cols) M (p ++ (d ∷ [])) (sym (completes-law cols p x u S d k U M l) ∙ sym f ∙ e)
 
-  pub last-none : completing cols x u M d ≡ false → lastOf (across cols) M p d ≡ []
-  last-none e = stopping-no (across cols) M (p ++ (d ∷ [])) (sym (completes-law cols p x u S d k U M l) ∙ e)
+  pub last-none : {r : Bool} → r ≡ completing cols x u M d → r ≡ false → lastOf (across cols) M p d ≡ []
+  last-none f e = stopping-no (across cols) M (p ++ (d ∷ [])) (sym (completes-law cols p x u S d k U M l) ∙ sym f ∙ e)

@@ -30,13 +30,21 @@ fn completes_further(cols: &[u64], once: &[u64], some: &[u64], used: usize, d: u
     true
 }
 
-// Whether no check of the first `used` words contains exactly one of the members and bit `d`. Most bits fail in the first word; where all eight are
-// in use, their number is known beforehand.
-fn completes(cols: &[u64], once: &[u64], some: &[u64], used: usize, d: usize) -> bool
-    requires { ⌜ (length (now cols) ≡ 1024) × (length (now once) ≡ 8) × (length (now some) ≡ 8) × (1 ≤ used) × (used ≤ 8) × (d < 128) ⌝ }
+// Whether no check of the first `used` words contains exactly one of the members and bit `d`. Most bits fail in the first word, of which `x` and `u` say
+// what is known of the members; where all eight are in use, their number is known beforehand.
+fn completes(
+    cols: &[u64],
+    once: &[u64],
+    some: &[u64],
+    x: u64,
+    u: u64,
+    used: usize,
+    d: usize,
+) -> bool
+    requires { ⌜ (length (now cols) ≡ 1024) × (length (now once) ≡ 8) × (length (now some) ≡ 8) × (1 ≤ used) × (used ≤ 8) × (d < 128) × (x ≡ getD (now once) 0 0) × (u ≡ getD (now some) 0 0) ⌝ }
     ensures { λ r. ⌜ r ≡ completing (now (cols .entry)) (now (once .entry)) (now (some .entry)) (used * 64) d ⌝ }
 {
-    if lone_word(once[0], some[0], cols[d * 8]) != 0 {
+    if lone_word(x, u, cols[d * 8]) != 0 {
         return false;
     }
     if used == 8 {
@@ -143,25 +151,28 @@ fn list_with(
     used: usize,
     once: &[u64],
     some: &[u64],
+    x: u64,
+    u: u64,
     first: &[u16],
     d: usize,
     sets: &mut [u16],
     at: usize,
     write: bool,
 ) -> usize
-    requires { ⌜ (length (now cols) ≡ 1024) × (length (now once) ≡ 8) × (length (now some) ≡ 8) × (1 ≤ used) × (used ≤ 8) × (d < 128) × (length (now first) < 4) ⌝ }
+    requires { ⌜ (length (now cols) ≡ 1024) × (length (now once) ≡ 8) × (length (now some) ≡ 8) × (1 ≤ used) × (used ≤ 8) × (d < 128) × (length (now first) < 4) × (x ≡ getD (now once) 0 0) × (u ≡ getD (now some) 0 0) ⌝ }
     requires { ⌜ Seen (across (now cols)) (now first) (now once) (now some) × Under (now first) d ⌝ }
     requires { ⌜ at + length (lastOf (across (now cols)) (used * 64) (now first) d) < 2 ^ 40 ⌝ }
     requires { ⌜ roomFor write (at + length (lastOf (across (now cols)) (used * 64) (now first) d)) ≤ length (now sets) ⌝ }
     ensures { λ r. ⌜ Put write (now (sets .entry)) (now (sets .exit)) at (lastOf (across (now (cols .entry))) (used * 64) (now (first .entry)) d) r ⌝ }
 {
-    if completes(cols, once, some, used, d) {
+    if completes(cols, once, some, x, u, used, d) {
         return take_in(first, d, sets, at, write);
     }
     at
 }
 
-// Lists the stopping sets of the members and one more bit, from `from` on, and answers the place behind them.
+// Lists the stopping sets of the members and one more bit, from `from` on, and answers the place behind them. The first words are read once, so that they
+// stay in registers while sets are written.
 fn list_last(
     cols: &[u64],
     n: usize,
@@ -180,9 +191,11 @@ fn list_last(
     requires { ⌜ roomFor write (at + length (listed (across (now cols)) (used * 64) n 1 (now first) from)) ≤ length (now sets) ⌝ }
     ensures { λ r. ⌜ Put write (now (sets .entry)) (now (sets .exit)) at (listed (across (now (cols .entry))) (used * 64) n 1 (now (first .entry)) from) r ⌝ }
 {
+    let x = once[0];
+    let u = some[0];
     let mut place = at;
     for d in from..n {
-        place = list_with(cols, used, once, some, first, d, sets, place, write);
+        place = list_with(cols, used, once, some, x, u, first, d, sets, place, write);
     }
     place
 }
@@ -213,7 +226,19 @@ fn list_pairs(
         let x = once_with(cols, once, some, d);
         let u = some_with(cols, some, d);
         let more = longer(first, d);
-        place = list_last(cols, n, used, &x, &u, &more[..len], d + 1, sets, place, write);
+        let next = d + 1;
+        place = list_last(
+            cols,
+            n,
+            used,
+            &x,
+            &u,
+            &more[..len],
+            next,
+            sets,
+            place,
+            write,
+        );
     }
     place
 }
@@ -281,7 +306,18 @@ pub fn list_all(
     let members = [0u16; 4];
     let len: usize = 0;
     if t == 1 {
-        return list_last(cols, n, used, &none, &none, &members[..len], 0, sets, 0, write);
+        return list_last(
+            cols,
+            n,
+            used,
+            &none,
+            &none,
+            &members[..len],
+            0,
+            sets,
+            0,
+            write,
+        );
     }
     list_from(
         cols,

@@ -1,4 +1,5 @@
 -- `list_last` meets its contract. Assumes nothing.
+use mathlib.Core.Path.{refl}
 use Prim.Native.Nat.{_*_, _-_, max}
 use native.Mathlib.Omega.{arith}
 use Rattle.enumeration.specs.Search.{across, lastOf}
@@ -9,21 +10,28 @@ use Rattle.enumeration.proofs.list_last.Statement.{statement}
 use Rattle.enumeration.proofs.list_last.Tie as tie
 
 abbrev Inv-loop : tie.InvT-loop
-Inv-loop cols n used once some first from sets₀ at write place₀ d₀ sets place d = Searched write sets₀ sets at from d n (lastOf (across cols) (used * 64) first) place
+Inv-loop cols n used once some first from sets₀ at write x u place₀ d₀ sets place d =
+    Searched write sets₀ sets at from d n (lastOf (across cols) (used * 64) first) place
 
 abbrev μ-loop : tie.MeasureT-loop
-μ-loop cols n used once some first from sets₀ at write place₀ d₀ sets place d = max from n - d
+μ-loop cols n used once some first from sets₀ at write x u place₀ d₀ sets place d = max from n - d
+
+shared-slice-read-x : tie.Need-shared-slice-read-x Inv-loop μ-loop
+shared-slice-read-x c = omega arith
+
+shared-slice-read-u : tie.Need-shared-slice-read-u Inv-loop μ-loop
+shared-slice-read-u c = omega arith
 
 loop-holds : tie.Need-loop-holds Inv-loop μ-loop
 loop-holds c = searched-none _ _ _ _ _ _
 
 list-with-requires : tie.Need-list-with-requires Inv-loop μ-loop
 list-with-requires c κs =
-    let s = c .before .before .before .before .before .before .before .before in
+    let s = c .before .before .before .before .before .before .before .before .before .before in
     let l = c .before .before .loop in
     let P = s .pre in
     let F = rw (listed-one (across (s .args .cols .now)) (s .args .used * 64) (s .args .n) (s .args .first .now) (s .args .from)) at (P .1 .1) in (
-      (P .0 .0, P .0 .1, P .0 .2, P .0 .3, P .0 .4, omega arith, P .0 .6),
+      (P .0 .0, P .0 .1, P .0 .2, P .0 .3, P .0 .4, omega arith, P .0 .6, refl, refl),
       (
         (P .1 .0 .0, under-later _ _ _ (P .1 .0 .1) (l .inv .from)),
         (searched-fits (s .args .write) (s .args .sets .now) (l .sets) (s .args .at) (s .args .from) (l .d) (s .args .n) (lastOf (across (s .args .cols .now)) (s .args .used * 64) (s .args .first .now)) (l .place) (l .inv) 1099511627776 (omega arith) (F .0), searched-room (s .args .write) (s .args .sets .now) (l .sets) (s .args .at) (s .args .from) (l .d) (s .args .n) (lastOf (across (s .args .cols .now)) (s .args .used * 64) (s .args .first .now)) (l .place) (l .inv) (omega arith) (F .1)),
@@ -38,7 +46,7 @@ loop-less c = omega arith
 
 loop-again : tie.Need-loop-again Inv-loop μ-loop
 loop-again c =
-    let s = c .before .before .before .before .before .before .before .before .before .before .before in
+    let s = c .before .before .before .before .before .before .before .before .before .before .before .before .before in
     let l = c .before .before .before .before .before .loop in
     searched-next (s .args .write) (s .args .sets .now) (l .sets) (s .args .at) (s .args .from) (l .d) (s .args .n) (lastOf (across (s .args .cols .now)) (s .args .used * 64) (s .args .first .now)) (l .place) (l .inv) _ _ (omega arith) (c .before .before .list-with .ensures)
 
@@ -47,7 +55,7 @@ same-length c = put-length _ _ _ _ _ _ (c .before .loop .inv .put)
 
 returns : tie.Need-returns Inv-loop μ-loop
 returns c =
-    let s = c .before .before .before .before .before .before .before in
+    let s = c .before .before .before .before .before .before .before .before .before in
     let l = c .before .loop in
     rw (listed-one (across (s .args .cols .now)) (s .args .used * 64) (s .args .n) (s .args .first .now) (s .args .from)) (searched-all (s .args .write) (s .args .sets .now) (l .sets) (s .args .at) (s .args .from) (l .d) (s .args .n) (lastOf (across (s .args .cols .now)) (s .args .used * 64) (s .args .first .now)) (l .place) (l .inv) (omega arith))
 
@@ -57,6 +65,8 @@ list-last-spec =
     (tie.spec
     Inv-loop
     μ-loop
+    shared-slice-read-x
+    shared-slice-read-u
     loop-holds
     list-with-requires
     add-d

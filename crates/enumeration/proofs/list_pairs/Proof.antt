@@ -34,6 +34,9 @@ some-with-requires c κs = search needs
 longer-requires : tie.Need-longer-requires Inv-loop μ-loop
 longer-requires c κs = search needs
 
+add-next : tie.Need-add-next Inv-loop μ-loop
+add-next c = omega arith
+
 slice-aggregate-list-last : tie.Need-slice-aggregate-list-last Inv-loop μ-loop
 slice-aggregate-list-last c = search needs
 
@@ -50,9 +53,6 @@ slice-aggregate-list-last-3 c =
     let s = c .before .before .before .before .before .before .before .before .before .before .before .before .before in
     let g = c .before .before .before .longer in
     sym (length-take-le (length (s .args .first .now) + 1) (g .result) (omega (arith, g .ensures .size, s .pre .0 .6)))
-
-add-list-last : tie.Need-add-list-last Inv-loop μ-loop
-add-list-last c = omega arith
 
 list-last-requires : tie.Need-list-last-requires Inv-loop μ-loop
 list-last-requires c κs =
@@ -98,11 +98,11 @@ list-pairs-spec =
     once-with-requires
     some-with-requires
     longer-requires
+    add-next
     slice-aggregate-list-last
     slice-aggregate-list-last-2
     array-share-prefix-more
     slice-aggregate-list-last-3
-    add-list-last
     list-last-requires
     add-d
     loop-less

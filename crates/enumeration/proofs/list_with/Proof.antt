@@ -1,5 +1,4 @@
 -- `list_with` meets its contract. Assumes nothing.
-use mathlib.Core.Path.{sym, _∙_}
 use mathlib.Core.List.{[], _∷_}
 use Prim.Native.Nat.{_*_}
 use native.Mathlib.Omega.{arith}
@@ -16,7 +15,7 @@ completes-requires c κs = search needs
 take-in-requires : tie.Need-take-in-requires
 take-in-requires c κs =
     let s = c .before .before .before .before .before .before .before .before in
-    let y = last-found _ _ _ _ (s .pre .1 .0 .0) (s .args .d) (omega arith) (s .pre .1 .0 .1) (s .args .used * 64) (omega arith) (sym (c .before .before .completes .ensures) ∙ c .before .if1 .taken) in
+    let y = last-found (s .args .cols .now) (s .args .first .now) (s .args .once .now) (s .args .some .now) (s .pre .1 .0 .0) (s .args .d) (omega arith) (s .pre .1 .0 .1) (s .args .used * 64) (omega arith) (c .before .before .completes .ensures) (c .before .if1 .taken) in
     let z = length-append (s .args .first .now) (s .args .d ∷ []) in (
       omega (arith, rw y at (s .pre .1 .1 .0)),
       room-less (s .args .write) _ _ _ (omega arith) (rw y at (s .pre .1 .1 .1)),
@@ -30,12 +29,12 @@ same-length c = search needs
 returns : tie.Need-returns
 returns c =
     let s = c .before .before .before .before .before .before .before .before .before .before .before in
-    rw (last-found _ _ _ _ (s .pre .1 .0 .0) (s .args .d) (omega arith) (s .pre .1 .0 .1) (s .args .used * 64) (omega arith) (sym (c .before .before .before .before .before .completes .ensures) ∙ c .before .before .before .before .if1 .taken)) (c .before .before .take-in .ensures)
+    rw (last-found (s .args .cols .now) (s .args .first .now) (s .args .once .now) (s .args .some .now) (s .pre .1 .0 .0) (s .args .d) (omega arith) (s .pre .1 .0 .1) (s .args .used * 64) (omega arith) (c .before .before .before .before .before .completes .ensures) (c .before .before .before .before .if1 .taken)) (c .before .before .take-in .ensures)
 
 returns-2 : tie.Need-returns-2
 returns-2 c =
     let s = c .before .before .before .before .before .before .before in
-    rw (last-none _ _ _ _ (s .pre .1 .0 .0) (s .args .d) (omega arith) (s .pre .1 .0 .1) (s .args .used * 64) (omega arith) (sym (c .before .completes .ensures) ∙ c .if1 .left)) (put-none (s .args .write) (s .args .sets .now) (s .args .at))
+    rw (last-none (s .args .cols .now) (s .args .first .now) (s .args .once .now) (s .args .some .now) (s .pre .1 .0 .0) (s .args .d) (omega arith) (s .pre .1 .0 .1) (s .args .used * 64) (omega arith) (c .before .completes .ensures) (c .if1 .left)) (put-none (s .args .write) (s .args .sets .now) (s .args .at))
 
 pub list-with-spec : {M : Type 1} → statement M
 list-with-spec =

@@ -20,13 +20,13 @@ fn apart(cols: &[u64], u: Bit, v: Bit, z: Bit) -> bool
     requires { ⌜ (length (now cols) ≡ 1024) × (u .0 < 512) × (v .0 < 512) × (z .0 < 512) ⌝ }
     ensures { λ r. ⌜ r ≡ allApart (lent 2 (now (cols .entry))) (u .0) (v .0) (z .0) ⌝ }
 {
-    if touches(cols, u.0, cols, v.0, 2) {
+    if touches(cols, u.0, cols, v.0, 2, 2) {
         return false;
     }
-    if touches(cols, u.0, cols, z.0, 2) {
+    if touches(cols, u.0, cols, z.0, 2, 2) {
         return false;
     }
-    !touches(cols, v.0, cols, z.0, 2)
+    !touches(cols, v.0, cols, z.0, 2, 2)
 }
 
 // Takes back the newest of `j + 1` splits, if its check keeps rule A and two or more other checks contain its bit; says whether it does.

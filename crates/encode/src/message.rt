@@ -67,7 +67,7 @@ fn fill_bit(rows: &[u64], c: usize, b: usize, ones: &mut [u64], word: &mut [u8])
         (one (odd (inside (lent 2 (now (rows .entry))) (length (now (word .entry))) c (isOne (byteOf (now (word .entry))))))) ⌝ }
     ensures { λ _. ⌜ SetOf 2 (now (word .exit)) 1 (now (ones .exit)) ⌝ }
 {
-    let sum = is_odd(rows, 2, c, ones);
+    let sum = is_odd(rows, 2, 2, c, ones);
     put_bit(ones, b, sum);
     word[b] = byte(sum);
 }

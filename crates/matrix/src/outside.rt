@@ -60,5 +60,5 @@ pub fn is_clean(words: &[u64], bits: usize, checks: usize) -> bool
     or_rows(&mut inner, words, 8, 0, checks);
     let mut rest = [0u64; 8];
     or_rows(&mut rest, words, 8, checks, 512);
-    (meet(&inner, 0, &outside, 0, 8) | meet(&rest, 0, &rest, 0, 8)) == 0
+    (meet(&inner, 0, &outside, 0, 8, 8) | meet(&rest, 0, &rest, 0, 8, 8)) == 0
 }

@@ -15,7 +15,7 @@ pub fn even_from(rows: &[u64], width: usize, first: usize, end: usize, set: &[u6
     ensures { λ r. ⌜ EvenFrom (lent width (now (rows .entry))) (width * 64) first end (lent width (now (set .entry)) 0) r ⌝ }
 {
     for c in first..end {
-        if is_odd(rows, width, c, set) {
+        if is_odd(rows, width, width, c, set) {
             return false;
         }
     }
@@ -39,7 +39,7 @@ fn write_pivot(
     if common(rows, c, residue, 0, width, width) != 1 {
         return;
     }
-    let odd = is_odd(rows, width, c, known);
+    let odd = is_odd(rows, width, width, c, known);
     lower(left, 8, 0, b);
     if odd {
         raise(values, 8, 0, b);

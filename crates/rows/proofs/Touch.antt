@@ -2,7 +2,7 @@
 use mathlib.Core.Path.{_≡_, refl, ap, _∙_}
 use mathlib.Core.Bool.{not, _&&_}
 use mathlib.Core.List.{List}
-use Prim.Native.Nat.{ℕ, _+_, _*_, _^_, _<_}
+use Prim.Native.Nat.{ℕ, _+_, _*_, _^_, _≤_, _<_}
 use native.Mathlib.Nat.{lt-of-le-of-lt}
 use native.Mathlib.Omega.{arith}
 use native.Mathlib.Decide.{ℕ-discrete}
@@ -30,19 +30,19 @@ ones-zero x l e =
           absurd (omega (arith, ones-count 64 x l, count-pos 64 (bitOf x) (trailingZeros 64 x) (L .short) (L .here)))
     ]
 
-module _ (W : ℕ) (a b : List ℕ) (i j : ℕ) (machine : (q : ℕ) → getD a q 0 < 2 ^ 64) where
+module _ (W U : ℕ) (few : U ≤ W) (a b : List ℕ) (i j : ℕ) (machine : (q : ℕ) → getD a q 0 < 2 ^ 64) where
   -- the bits in common, by words
-  in-words : count (W * 64) (λ t. lent W a i t && lent W b j t) ≡ sum W (λ p. onesOf (both W a i b j p))
+  in-words : count (U * 64) (λ t. lent W a i t && lent W b j t) ≡ sum U (λ p. onesOf (both W a i b j p))
   unfolding both
-  in-words = common-words W a b i j W (omega arith) machine
+  in-words = common-words W a b i j U few machine
 
   fits : (p : ℕ) → both W a i b j p < 2 ^ 64
   unfolding both
   fits p = lt-of-le-of-lt (and-le-l (getD a (i * W + p) 0) (getD b (j * W + p) 0)) (machine (i * W + p))
 
-  pub touch-law : (acc : ℕ) → Zeros 0 W (both W a i b j) acc → not (eqb acc 0) ≡ not (eqb (count (W * 64) (λ t. lent W a i t && lent W b j t)) 0)
+  pub touch-law : (acc : ℕ) → Zeros 0 U (both W a i b j) acc → not (eqb acc 0) ≡ not (eqb (count (U * 64) (λ t. lent W a i t && lent W b j t)) 0)
   touch-law acc Z =
-      ap not (same-test (eqb acc 0) (eqb (count (W * 64) (λ t. lent W a i t && lent W b j t)) 0)
-      (λ e. eq-eqb _ 0 (in-words ∙ sum-zero W (λ p k. rw (Z .none (eqb-true acc 0 e) p (omega arith) k) (unfold onesOf in refl))))
+      ap not (same-test (eqb acc 0) (eqb (count (U * 64) (λ t. lent W a i t && lent W b j t)) 0)
+      (λ e. eq-eqb _ 0 (in-words ∙ sum-zero U (λ p k. rw (Z .none (eqb-true acc 0 e) p (omega arith) k) (unfold onesOf in refl))))
       (λ e. eq-eqb acc 0 (Z .back (λ p l k.
-      ones-zero (both W a i b j p) (fits p) (omega (arith, sum-ge W (λ p. onesOf (both W a i b j p)) p k, in-words, eqb-true (count (W * 64) (λ t. lent W a i t && lent W b j t)) 0 e))))))
+      ones-zero (both W a i b j p) (fits p) (omega (arith, sum-ge U (λ p. onesOf (both W a i b j p)) p k, in-words, eqb-true (count (U * 64) (λ t. lent W a i t && lent W b j t)) 0 e))))))

@@ -111,36 +111,36 @@ pub fn weight_below(rows: &[u64], width: usize, c: usize, bits: usize) -> usize
     common(rows, c, rows, c, width, full) + ones_of(last)
 }
 
-// Whether row `c` contains an odd number of the set's bits.
-pub fn is_odd(rows: &[u64], width: usize, c: usize, set: &[u64]) -> bool
-    requires { ⌜ (c * width + width ≤ length (now rows)) × (width ≤ length (now set)) ⌝ }
-    ensures { λ r. ⌜ r ≡ odd (inside (lent width (now (rows .entry))) (width * 64) c (lent width (now (set .entry)) 0)) ⌝ }
+// Whether row `c` contains an odd number of the set's bits in its first `used` words.
+pub fn is_odd(rows: &[u64], width: usize, used: usize, c: usize, set: &[u64]) -> bool
+    requires { ⌜ (c * width + width ≤ length (now rows)) × (width ≤ length (now set)) × (used ≤ width) ⌝ }
+    ensures { λ r. ⌜ r ≡ odd (inside (lent width (now (rows .entry))) (used * 64) c (lent width (now (set .entry)) 0)) ⌝ }
 {
     let mut acc: u64 = 0;
-    for i in 0..width {
+    for i in 0..used {
         acc = acc ^ (rows[c * width + i] & set[i]);
     }
     u64::count_ones(acc) & 1 == 1
 }
 
-// The or of what each word of row `i` of `a` and the same word of row `j` of `b` have in common.
-pub fn meet(a: &[u64], i: usize, b: &[u64], j: usize, width: usize) -> u64
-    requires { ⌜ (i * width + width ≤ length (now a)) × (j * width + width ≤ length (now b)) ⌝ }
-    ensures { λ r. ⌜ Zeros 0 width (both width (now (a .entry)) i (now (b .entry)) j) r ⌝ }
+// The or of what each of the first `used` words of row `i` of `a` and the same word of row `j` of `b` have in common.
+pub fn meet(a: &[u64], i: usize, b: &[u64], j: usize, width: usize, used: usize) -> u64
+    requires { ⌜ (i * width + width ≤ length (now a)) × (j * width + width ≤ length (now b)) × (used ≤ width) ⌝ }
+    ensures { λ r. ⌜ Zeros 0 used (both width (now (a .entry)) i (now (b .entry)) j) r ⌝ }
 {
     let mut acc: u64 = 0;
-    for p in 0..width {
+    for p in 0..used {
         acc = acc | (a[i * width + p] & b[j * width + p]);
     }
     acc
 }
 
-// Whether row `i` of `a` and row `j` of `b` have a bit in common.
-pub fn touches(a: &[u64], i: usize, b: &[u64], j: usize, width: usize) -> bool
-    requires { ⌜ (i * width + width ≤ length (now a)) × (j * width + width ≤ length (now b)) ⌝ }
-    ensures { λ r. ⌜ r ≡ not (eqb (count (width * 64) (λ t. lent width (now (a .entry)) i t && lent width (now (b .entry)) j t)) 0) ⌝ }
+// Whether row `i` of `a` and row `j` of `b` have a bit in common in their first `used` words.
+pub fn touches(a: &[u64], i: usize, b: &[u64], j: usize, width: usize, used: usize) -> bool
+    requires { ⌜ (i * width + width ≤ length (now a)) × (j * width + width ≤ length (now b)) × (used ≤ width) ⌝ }
+    ensures { λ r. ⌜ r ≡ not (eqb (count (used * 64) (λ t. lent width (now (a .entry)) i t && lent width (now (b .entry)) j t)) 0) ⌝ }
 {
-    meet(a, i, b, j, width) != 0
+    meet(a, i, b, j, width, used) != 0
 }
 
 // The first bit of row `c` from word `from` on, and `width * 64` if there is none.

@@ -3,7 +3,7 @@ use parity::Check;
 use rows::contains;
 use rows::wide;
 use word::sets::is_odd;
-use word::sets::meets;
+use word::sets::touches;
 ghost use mathlib.Core.Path.{_≡_};
 ghost use Prim.Native.Nat.{_*_, _<_, _≤_};
 ghost use lib.ListN.{length};
@@ -20,7 +20,7 @@ fn agree_in(words: &[u64], used: usize, checks: usize, erased: &[u64], ones: &[u
 {
     for c in 0..checks {
         if is_odd(words, used, Check(c), ones) {
-            if !meets(words, used, Check(c), erased) {
+            if !touches(words, used, Check(c), erased) {
                 return false;
             }
         }

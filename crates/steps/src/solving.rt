@@ -73,7 +73,7 @@ pub fn settle(words: &[u64], used: usize, checks: usize, erased: &mut [u64], one
     requires { ⌜ (length (now words) ≡ 4096) × (checks ≤ 512) × (length (now erased) ≡ 8) × (length (now ones) ≡ 8) × (used ≤ 8) × Short (used * 64) (lent 8 (now erased) 0) ⌝ }
     ensures { λ r. ⌜ Settled (lent 8 (now (words .entry))) 512 checks (lent 8 (now (erased .entry)) 0) (lent 8 (now (ones .entry)) 0) (lent 8 (now (erased .exit)) 0) (lent 8 (now (ones .exit)) 0) ⌝ }
 {
-    if touches(erased, 0, erased, 0, 8) {
+    if touches(erased, 0, erased, 0, 8, 8) {
         solve_all(words, used, checks, erased, ones);
     }
 }

@@ -12,7 +12,6 @@ use borrow.Author.Tests.{eq-eqb, ne-eqb, eqb-true}
 use Rattle.parity.specs.Finite.{one, count}
 use Rattle.parity.specs.Matrix.{bitOf}
 use Rattle.parity.specs.Words.{inside}
-use Rattle.parity.proofs.Finite.Bools.{same-test}
 use Rattle.parity.proofs.Finite.Sums.{sum-cong, sum-at, count-cong, count-part}
 use Rattle.parity.proofs.Matrix.Digits.{bit-and}
 use Rattle.parity.proofs.Matrix.Lent.{ones-count}
@@ -54,28 +53,6 @@ no-ones x e = ap onesOf e ∙ unfold onesOf in refl
 
 or-none : (a b : ℕ) → bitOr a b ≡ 0 → (a ≡ 0) × (b ≡ 0)
 or-none a b e = (omega (arith, or-add-and a b, and-le-r a b), omega (arith, or-add-and a b, and-le-l a b))
-
--- Words have s bits: their or is 0 exactly if there is none.
-pub record Some (s acc : ℕ) : Type 0 where
-  pub none : acc ≡ 0 → s ≡ 0
-  pub back : s ≡ 0 → acc ≡ 0
-
-pub some-none : Some 0 0
-some-none = record { none = λ e. e; back = λ e. e }
-
-pub some-more : (s acc x : ℕ) → x < 2 ^ 64 → Some s acc → Some (s + onesOf x) (bitOr acc x)
-some-more s acc x l S = record {
-  none = λ e.
-      let (p, q) = or-none acc x e in
-      omega (arith, S .none p, no-ones x q);
-  back = λ e. elim (ℕ-discrete x 0) [
-    | yes q ↦ omega (arith, S .back (omega arith), or-add-and acc x)
-    | no d ↦ absurd (omega (arith, ones-rest x l d))
-  ];
-}
-
-pub some-told : (s acc : ℕ) → Some s acc → not (eqb acc 0) ≡ not (eqb s 0)
-some-told s acc S = ap not (same-test (eqb acc 0) (eqb s 0) (λ e. eq-eqb s 0 (S .none (eqb-true acc 0 e))) (λ e. eq-eqb acc 0 (S .back (eqb-true s 0 e))))
 
 -- Words have s bits: their places are taken, and some of these twice.
 pub record Seen (s taken twice : ℕ) : Type 0 where

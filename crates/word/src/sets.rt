@@ -70,33 +70,15 @@ pub fn is_odd(words: &[u64], used: usize, c: Check, set: &[u64]) -> bool
     requires { ⌜ (length (now words) ≡ 4096) × (c .0 < 512) × (length (now set) ≡ 8) × (used ≤ 8) ⌝ }
     ensures { λ r. ⌜ r ≡ odd (inside (lent 8 (now (words .entry))) (used * 64) (c .0) (lent 8 (now (set .entry)) 0)) ⌝ }
 {
-    let d = c.0;
-    let mut acc: u64 = 0;
-    for i in 0..used {
-        acc = acc ^ (words[d * 8 + i] & set[i]);
-    }
-    u64::count_ones(acc) & 1 == 1
+    rows::is_odd(words, 8, used, c.0, set)
 }
 
 // Whether check `c` contains a bit of the set in its first `used` words.
-pub fn meets(words: &[u64], used: usize, c: Check, set: &[u64]) -> bool
+pub fn touches(words: &[u64], used: usize, c: Check, set: &[u64]) -> bool
     requires { ⌜ (length (now words) ≡ 4096) × (c .0 < 512) × (length (now set) ≡ 8) × (used ≤ 8) ⌝ }
     ensures { λ r. ⌜ r ≡ not (eqb (inside (lent 8 (now (words .entry))) (used * 64) (c .0) (lent 8 (now (set .entry)) 0)) 0) ⌝ }
 {
-    let d = c.0;
-    let mut acc: u64 = 0;
-    for i in 0..used {
-        acc = acc | (words[d * 8 + i] & set[i]);
-    }
-    acc != 0
-}
-
-// Whether check `c` contains a bit of the set.
-pub fn touches(words: &[u64], c: Check, set: &[u64]) -> bool
-    requires { ⌜ (length (now words) ≡ 4096) × (c .0 < 512) × (length (now set) ≡ 8) ⌝ }
-    ensures { λ r. ⌜ r ≡ not (eqb (inside (lent 8 (now (words .entry))) 512 (c .0) (lent 8 (now (set .entry)) 0)) 0) ⌝ }
-{
-    meets(words, 8, c, set)
+    rows::touches(words, c.0, set, 0, 8, used)
 }
 
 // Whether check `c` contains exactly one of the set's bits in its first `used` words: which places of a word these bits take, and which of

@@ -16,10 +16,10 @@ use Rattle.rows.proofs.is_odd.Statement.{statement}
 use Rattle.rows.proofs.is_odd.Tie as tie
 
 abbrev Inv-loop : tie.InvT-loop
-Inv-loop rows width c set acc₀ i₀ acc i = (i ≤ width) × (acc < 2 ^ 64) × (onesOf acc % 2 ≡ inside (lent width rows) (i * 64) c (lent width set 0) % 2)
+Inv-loop rows width used c set acc₀ i₀ acc i = (i ≤ used) × (acc < 2 ^ 64) × (onesOf acc % 2 ≡ inside (lent width rows) (i * 64) c (lent width set 0) % 2)
 
 abbrev μ-loop : tie.MeasureT-loop
-μ-loop rows width c set acc₀ i₀ acc i = width - i
+μ-loop rows width used c set acc₀ i₀ acc i = used - i
 
 loop-holds : tie.Need-loop-holds Inv-loop μ-loop
 unfolding inside count sum onesOf
@@ -61,7 +61,7 @@ loop-again c =
 returns : tie.Need-returns Inv-loop μ-loop
 unfolding odd
 returns c =
-    let e : c .before .loop .i ≡ c .before .before .args .width = omega arith in
+    let e : c .before .loop .i ≡ c .before .before .args .used = omega arith in
     ap (λ a. eqb a 1) (and-mask _ 1 ∙ (rw e at (c .before .loop .inv .2)))
 
 pub is-odd-spec : {M : Type 1} → statement M

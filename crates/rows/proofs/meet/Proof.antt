@@ -8,10 +8,10 @@ use Rattle.rows.proofs.meet.Statement.{statement}
 use Rattle.rows.proofs.meet.Tie as tie
 
 abbrev Inv-loop : tie.InvT-loop
-Inv-loop a i b j width acc₀ p₀ acc p = Zeros 0 p (both width a i b j) acc × (p ≤ width)
+Inv-loop a i b j width used acc₀ p₀ acc p = Zeros 0 p (both width a i b j) acc × (p ≤ used)
 
 abbrev μ-loop : tie.MeasureT-loop
-μ-loop a i b j width acc₀ p₀ acc p = width - p
+μ-loop a i b j width used acc₀ p₀ acc p = used - p
 
 loop-holds : tie.Need-loop-holds Inv-loop μ-loop
 loop-holds c = (zeros-none _ _, omega arith)
@@ -50,7 +50,7 @@ loop-again : tie.Need-loop-again Inv-loop μ-loop
 loop-again c = (zeros-more _ _ _ _ _ (omega arith) (c .before .before .before .loop .inv .0) (unfold both in refl), omega arith)
 
 returns : tie.Need-returns Inv-loop μ-loop
-returns c = let e : c .before .loop .p ≡ c .before .before .args .width = omega arith in rw e at (c .before .loop .inv .0)
+returns c = let e : c .before .loop .p ≡ c .before .before .args .used = omega arith in rw e at (c .before .loop .inv .0)
 
 pub meet-spec : {M : Type 1} → statement M
 meet-spec =

@@ -10,7 +10,7 @@ meet-requires c κs = search needs
 returns : tie.Need-returns
 returns c =
     let s = c .before .before .before in
-    touch-law (s .args .width) (s .args .a .now) (s .args .b .now) (s .args .i) (s .args .j) (λ q. c .before .before .shared-slice-known .given q .fits) _ (c .meet .ensures)
+    touch-law (s .args .width) (s .args .used) (s .pre .2) (s .args .a .now) (s .args .b .now) (s .args .i) (s .args .j) (λ q. c .before .before .shared-slice-known .given q .fits) _ (c .meet .ensures)
 
 pub touches-spec : {M : Type 1} → statement M
 touches-spec = tie.close (tie.spec meet-requires returns)

@@ -28,14 +28,14 @@ loop-holds c = (omega arith, refl)
 is-odd-requires : tie.Need-is-odd-requires Inv-loop μ-loop
 is-odd-requires c κs = search needs
 
-meets-requires : tie.Need-meets-requires Inv-loop μ-loop
-meets-requires c κs = search needs
+touches-requires : tie.Need-touches-requires Inv-loop μ-loop
+touches-requires c κs = search needs
 
 returns : tie.Need-returns Inv-loop μ-loop
 unfolding agreeing
 returns c = let l = c .before .before .before .before .before .loop in
     let s = c .before .before .before .before .before .before .before .before .before in
-    sym (all-false (s .args .checks) _ (l .c) (omega arith) (rw (sym (c .before .meets .ensures) ∙ not-true (c .before .meets .result) (c .if2 .taken)) (odd-even _ (sym (c .before .before .before .is-odd .ensures) ∙ c .before .before .if1 .taken))))
+    sym (all-false (s .args .checks) _ (l .c) (omega arith) (rw (sym (c .before .touches .ensures) ∙ not-true (c .before .touches .result) (c .if2 .taken)) (odd-even _ (sym (c .before .before .before .is-odd .ensures) ∙ c .before .before .if1 .taken))))
 
 add-c : tie.Need-add-c Inv-loop μ-loop
 add-c c = omega arith
@@ -64,7 +64,7 @@ agree-in-spec =
     μ-loop
     loop-holds
     is-odd-requires
-    meets-requires
+    touches-requires
     returns
     add-c
     loop-less

@@ -18,7 +18,7 @@ fn lower_pivot(rows: &mut [u64], checks: usize, p: usize, r: usize, b: usize)
         add_check(rows, 2, p, r);
     }
     let row = row_of(rows, 2, r);
-    clear(rows, 2, r + 1, checks, &row, b);
+    clear(rows, 2, r + 1, checks, row, b);
 }
 
 // The step of bit `b`: it becomes the pivot of check `r` if one from `r` on contains it. The answer is the number of pivots afterwards.

@@ -22,8 +22,8 @@ fn make_pivot(rows: &mut [u64], width: usize, checks: usize, p: usize, r: usize,
         add_check(rows, width, p, r);
     }
     let row = row_of(rows, width, r);
-    clear(rows, width, 0, r, &row, b);
-    clear(rows, width, r + 1, checks, &row, b);
+    clear(rows, width, 0, r, row, b);
+    clear(rows, width, r + 1, checks, row, b);
 }
 
 // The turn of bit `b`: it becomes the pivot of check `r` if one from `r` on contains it. The answer is the number of pivots afterwards.

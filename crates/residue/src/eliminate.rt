@@ -100,8 +100,7 @@ fn eliminate_many(
     )
 }
 
-// The same: to clear the room of many checks takes longer than the elimination of few. `eliminate_many` is called at two places, so that the
-// compiler leaves it a function of its own: its room is then on the stack while it is used, and not while the matrix is accepted.
+// The same: to clear the room of many checks takes longer than the elimination of few.
 pub fn eliminate(
     words: &[u64],
     width: usize,
@@ -120,9 +119,6 @@ pub fn eliminate(
         if checks * width <= 512 {
             return eliminate_few(words, width, bits, checks, residue, known, left, values);
         }
-    }
-    if width == 8 {
-        return eliminate_many(words, 8, bits, checks, residue, known, left, values);
     }
     eliminate_many(words, width, bits, checks, residue, known, left, values)
 }

@@ -16,7 +16,8 @@ ghost use Rattle.parity.specs.Matrix.{lent};
 ghost use Rattle.steps.specs.Steps.{agreeing, Short};
 ghost use Rattle.residue.specs.Sets.{Apart, Finished};
 
-// Elimination in rows of as many words as the bits take, and writing.
+// Elimination in rows of as many words as the bits take, and writing. `eliminate` is called at two places, so that the compiler leaves it a
+// function of its own: its rows are then on the stack while they are used, and not while the matrix is accepted.
 fn finish_left(
     words: &[u64],
     bits: usize,
@@ -33,6 +34,13 @@ fn finish_left(
     ensures { λ r. ⌜ Finished (lent 8 (now (words .entry))) bits checks (lent 8 (now (lost .entry)) 0) (lent 8 (now (residue .entry)) 0) (lent 8 (now (known .entry)) 0) (now (word .entry)) r (lent 8 (now (left .exit)) 0) (lent 8 (now (values .exit)) 0) (now (word .exit)) ⌝ }
 {
     let width = words_of(bits);
+    if width == 8 {
+        if !eliminate(words, 8, bits, checks, residue, known, left, values) {
+            return false;
+        }
+        write(word, lost, left, values, 8);
+        return true;
+    }
     if !eliminate(words, width, bits, checks, residue, known, left, values) {
         return false;
     }

@@ -48,51 +48,45 @@ row-of-requires c κs =
     let j = joined (c .before) in
     (omega (arith, j .0, row-room (s .args .width) (s .args .r) (s .args .checks) (omega (arith, s .pre .1 .from))), s .pre .0 .1)
 
-slice-aggregate-clear : tie.Need-slice-aggregate-clear
-slice-aggregate-clear c = search needs
-
 clear-requires : tie.Need-clear-requires
 clear-requires c κs =
-    let s = c .before .before .before .before .before .before in
-    let j = joined (c .before .before .before .before) in (
+    let s = c .before .before .before .before .before in
+    let j = joined (c .before .before .before) in (
       omega arith,
       omega (arith, j .0, row-room (s .args .width) (s .args .r) (s .args .checks) (omega (arith, s .pre .1 .from))),
       s .pre .0 .1,
       s .pre .0 .2,
-      c .before .before .row-of .ensures .blank,
+      c .before .row-of .ensures .blank,
     )
 
 add-clear : tie.Need-add-clear
 add-clear c = search needs
 
-slice-aggregate-clear-2 : tie.Need-slice-aggregate-clear-2
-slice-aggregate-clear-2 c = search needs
-
 clear-requires-2 : tie.Need-clear-requires-2
 clear-requires-2 c κs =
-    let s = c .before .before .before .before .before .before .before .before .before .before .before in
-    let j = joined (c .before .before .before .before .before .before .before .before .before) in (
+    let s = c .before .before .before .before .before .before .before .before .before in
+    let j = joined (c .before .before .before .before .before .before .before) in (
       omega (arith, s .pre .1 .from),
-      omega (arith, j .0, c .before .before .before .before .clear .kept .0),
+      omega (arith, j .0, c .before .before .before .clear .kept .0),
       s .pre .0 .1,
       s .pre .0 .2,
-      c .before .before .before .before .before .before .before .row-of .ensures .blank,
+      c .before .before .before .before .before .row-of .ensures .blank,
     )
 
 same-length : tie.Need-same-length
 same-length c =
-    c .before .before .clear2 .kept .0 ∙ c .before .before .before .before .before .before .before .clear .kept .0
-    ∙ joined (c .before .before .before .before .before .before .before .before .before .before .before .before) .0
+    c .before .before .clear2 .kept .0 ∙ c .before .before .before .before .before .before .clear .kept .0
+    ∙ joined (c .before .before .before .before .before .before .before .before .before .before) .0
 
 returns : tie.Need-returns
 returns c =
-    let b = c .before .before .before .before .before .before .before .before .before .before .before .before in
+    let b = c .before .before .before .before .before .before .before .before .before .before in
     let s = b .before .before in
     let j = joined b in
     rw (
       c .before .before .clear2 .ensures,
-      c .before .before .before .before .before .before .before .clear .ensures,
-      c .before .before .before .before .before .before .before .before .before .before .row-of .ensures .bits,
+      c .before .before .before .before .before .before .clear .ensures,
+      c .before .before .before .before .before .before .before .before .row-of .ensures .bits,
     )
     (j .2 _ (around-pivoted _ _ _ _ (omega (arith, s .pre .0 .3, s .pre .1 .from)) (j .1)))
 
@@ -102,10 +96,8 @@ make-pivot-spec =
     (tie.spec
     add-check-requires
     row-of-requires
-    slice-aggregate-clear
     clear-requires
     add-clear
-    slice-aggregate-clear-2
     clear-requires-2
     same-length
     returns)

@@ -13,10 +13,9 @@ words-of-requires c κs = search needs
 
 eliminate-requires : tie.Need-eliminate-requires
 eliminate-requires c κs =
-    let w = c .before .before in
-    let s = w .before .before .before .before .before .before .before .before in
+    let s = c .before .before .before .before .before .before .before .before .before .before .before in
     let p = s .pre .0 in
-    ((p .0, p .1, p .2, p .3, p .4, p .5, p .6, width-few (s .args .bits) (w .words-of .result) (w .words-of .ensures .1) (p .1), w .words-of .ensures .0), s .pre .1)
+    ((p .0, p .1, p .2, p .3, p .4, p .5, p .6, omega arith, p .1), s .pre .1)
 
 same-length : tie.Need-same-length
 same-length c = search needs
@@ -27,12 +26,12 @@ same-length-2 c = search needs
 returns : tie.Need-returns
 returns c =
     let x = c .before .before .before .before .before in
-    record { sets = rw (not-true (x .eliminate .result) (c .if1 .taken)) at (x .eliminate .ensures); word = refl }
+    record { sets = rw (not-true (x .eliminate .result) (c .if2 .taken)) at (x .eliminate .ensures); word = refl }
 
 write-requires : tie.Need-write-requires
 write-requires c κs =
     let x = c .before .before .before .before .before .before .before .before in
-    let s = x .before .before .before .before .before .before .before .before .before .before .before in (
+    let s = x .before .before .before .before .before .before .before .before .before .before .before .before in (
       omega arith,
       s .pre .0 .7,
       x .eliminate .kept .1 .1 .1 .1 .1 .1 .0 ∙ ap length (s .pre .0 .5) ∙ s .pre .0 .3,
@@ -52,7 +51,50 @@ same-length-5 c = search needs
 returns-2 : tie.Need-returns-2
 returns-2 c =
     let x = c .before .before .before .before .before .before .before .before .before .before .before in
-    record { sets = rw (not-false (x .eliminate .result) (c .before .before .before .before .before .before .if1 .left)) at (x .eliminate .ensures); word = c .before .before .write .ensures }
+    record { sets = rw (not-false (x .eliminate .result) (c .before .before .before .before .before .before .if2 .left)) at (x .eliminate .ensures); word = c .before .before .write .ensures }
+
+eliminate-requires-2 : tie.Need-eliminate-requires-2
+eliminate-requires-2 c κs =
+    let w = c .before .before .before in
+    let s = w .before .before .before .before .before .before .before .before in
+    let p = s .pre .0 in
+    ((p .0, p .1, p .2, p .3, p .4, p .5, p .6, width-few (s .args .bits) (w .words-of .result) (w .words-of .ensures .1) (p .1), w .words-of .ensures .0), s .pre .1)
+
+same-length-6 : tie.Need-same-length-6
+same-length-6 c = search needs
+
+same-length-7 : tie.Need-same-length-7
+same-length-7 c = search needs
+
+returns-3 : tie.Need-returns-3
+returns-3 c =
+    let x = c .before .before .before .before .before in
+    record { sets = rw (not-true (x .eliminate2 .result) (c .if3 .taken)) at (x .eliminate2 .ensures); word = refl }
+
+write-requires-2 : tie.Need-write-requires-2
+write-requires-2 c κs =
+    let x = c .before .before .before .before .before .before .before .before in
+    let s = x .before .before .before .before .before .before .before .before .before .before .before .before in (
+      omega arith,
+      s .pre .0 .7,
+      x .eliminate2 .kept .1 .1 .1 .1 .1 .1 .0 ∙ ap length (s .pre .0 .5) ∙ s .pre .0 .3,
+      x .eliminate2 .kept .1 .1 .1 .1 .1 .1 .1 .0 ∙ ap length (s .pre .0 .6) ∙ s .pre .0 .4,
+      s .pre .0 .8,
+    )
+
+same-length-8 : tie.Need-same-length-8
+same-length-8 c = search needs
+
+same-length-9 : tie.Need-same-length-9
+same-length-9 c = search needs
+
+same-length-10 : tie.Need-same-length-10
+same-length-10 c = search needs
+
+returns-4 : tie.Need-returns-4
+returns-4 c =
+    let x = c .before .before .before .before .before .before .before .before .before .before .before in
+    record { sets = rw (not-false (x .eliminate2 .result) (c .before .before .before .before .before .before .if3 .left)) at (x .eliminate2 .ensures); word = c .before .before .write2 .ensures }
 
 pub finish-left-spec : {M : Type 1} → statement M
 finish-left-spec =
@@ -67,4 +109,13 @@ finish-left-spec =
     same-length-3
     same-length-4
     same-length-5
-    returns-2)
+    returns-2
+    eliminate-requires-2
+    same-length-6
+    same-length-7
+    returns-3
+    write-requires-2
+    same-length-8
+    same-length-9
+    same-length-10
+    returns-4)

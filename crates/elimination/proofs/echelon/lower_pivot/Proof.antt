@@ -44,24 +44,21 @@ row-of-requires c κs =
 add-clear : tie.Need-add-clear
 add-clear c = search needs
 
-slice-aggregate-clear : tie.Need-slice-aggregate-clear
-slice-aggregate-clear c = search needs
-
 clear-requires : tie.Need-clear-requires
 clear-requires c κs =
-    let s = c .before .before .before .before .before .before in
-    let j = joined (c .before .before .before .before) in
-    (omega (arith, s .pre .1 .from), omega (arith, j .0), omega arith, omega arith, c .before .before .row-of .ensures .blank)
+    let s = c .before .before .before .before .before in
+    let j = joined (c .before .before .before) in
+    (omega (arith, s .pre .1 .from), omega (arith, j .0), omega arith, omega arith, c .before .row-of .ensures .blank)
 
 same-length : tie.Need-same-length
-same-length c = c .before .before .clear .kept .0 ∙ joined (c .before .before .before .before .before .before .before) .0
+same-length c = c .before .before .clear .kept .0 ∙ joined (c .before .before .before .before .before .before) .0
 
 returns : tie.Need-returns
 returns c =
-    let b = c .before .before .before .before .before .before .before in
+    let b = c .before .before .before .before .before .before in
     let s = b .before .before in
     let j = joined b in
-    rw (c .before .before .clear .ensures, c .before .before .before .before .before .row-of .ensures .bits)
+    rw (c .before .before .clear .ensures, c .before .before .before .before .row-of .ensures .bits)
     (j .2 _ (under-lower _ _ _ _ (omega (arith, s .pre .0 .2, s .pre .1 .from)) (j .1)))
 
 pub lower-pivot-spec : {M : Type 1} → statement M
@@ -71,7 +68,6 @@ lower-pivot-spec =
     add-check-requires
     row-of-requires
     add-clear
-    slice-aggregate-clear
     clear-requires
     same-length
     returns)

@@ -34,18 +34,6 @@ same-length-4 c = search needs
 returns-2 : tie.Need-returns-2
 returns-2 c = search needs
 
-eliminate-many-requires-2 : tie.Need-eliminate-many-requires-2
-eliminate-many-requires-2 c κs = search needs
-
-same-length-5 : tie.Need-same-length-5
-same-length-5 c = search needs
-
-same-length-6 : tie.Need-same-length-6
-same-length-6 c = search needs
-
-returns-3 : tie.Need-returns-3
-returns-3 c = search needs
-
 pub eliminate-spec : {M : Type 1} → statement M
 eliminate-spec =
     tie.close
@@ -58,8 +46,4 @@ eliminate-spec =
     eliminate-many-requires
     same-length-3
     same-length-4
-    returns-2
-    eliminate-many-requires-2
-    same-length-5
-    same-length-6
-    returns-3)
+    returns-2)

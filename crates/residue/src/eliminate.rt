@@ -38,8 +38,39 @@ fn eliminate_in(
     true
 }
 
-// The same, with the room of few checks.
-fn eliminate_few(
+// The same, with the room of a matrix of few checks of one word.
+fn eliminate_small(
+    words: &[u64],
+    width: usize,
+    bits: usize,
+    checks: usize,
+    residue: &[u64],
+    known: &[u64],
+    left: &mut [u64],
+    values: &mut [u64],
+) -> bool
+    requires { ⌜ (length (now words) ≡ 4096) × (bits ≤ 512) × (checks ≤ 512) × (length (now residue) ≡ 8) × (length (now known) ≡ 8) × (now left ≡ now residue) × (now values ≡ now known) × (width ≤ 8) × (bits ≤ width * 64) × (checks ≤ 64) × (checks * width ≤ 64) ⌝ }
+    requires { ⌜ Apart bits (lent 8 (now residue) 0) (lent 8 (now known) 0) × (agreeing (lent 8 (now words)) 512 checks (lent 8 (now residue) 0) (lent 8 (now known) 0) ≡ true) ⌝ }
+    ensures { λ r. ⌜ Determined (lent 8 (now (words .entry))) bits checks (lent 8 (now (residue .entry)) 0) (lent 8 (now (known .entry)) 0) r (lent 8 (now (left .exit)) 0) (lent 8 (now (values .exit)) 0) ⌝ }
+{
+    let mut rows = [0u64; 64];
+    let mut pivots = [0usize; 64];
+    eliminate_in(
+        words,
+        width,
+        bits,
+        checks,
+        residue,
+        known,
+        left,
+        values,
+        &mut rows,
+        &mut pivots,
+    )
+}
+
+// The same, with the room of a matrix of two or three words.
+fn eliminate_medium(
     words: &[u64],
     width: usize,
     bits: usize,
@@ -69,8 +100,8 @@ fn eliminate_few(
     )
 }
 
-// The same, with the room of any checks.
-fn eliminate_many(
+// The same, with the room of any matrix.
+fn eliminate_large(
     words: &[u64],
     width: usize,
     bits: usize,
@@ -100,7 +131,7 @@ fn eliminate_many(
     )
 }
 
-// The same: to clear the room of many checks takes longer than the elimination of few.
+// The same: to clear the room of any matrix takes longer than the elimination of few checks.
 pub fn eliminate(
     words: &[u64],
     width: usize,
@@ -115,10 +146,15 @@ pub fn eliminate(
     requires { ⌜ Apart bits (lent 8 (now residue) 0) (lent 8 (now known) 0) × (agreeing (lent 8 (now words)) 512 checks (lent 8 (now residue) 0) (lent 8 (now known) 0) ≡ true) ⌝ }
     ensures { λ r. ⌜ Determined (lent 8 (now (words .entry))) bits checks (lent 8 (now (residue .entry)) 0) (lent 8 (now (known .entry)) 0) r (lent 8 (now (left .exit)) 0) (lent 8 (now (values .exit)) 0) ⌝ }
 {
-    if checks <= 128 {
-        if checks * width <= 512 {
-            return eliminate_few(words, width, bits, checks, residue, known, left, values);
+    if checks <= 64 {
+        if checks * width <= 64 {
+            return eliminate_small(words, width, bits, checks, residue, known, left, values);
         }
     }
-    eliminate_many(words, width, bits, checks, residue, known, left, values)
+    if checks <= 128 {
+        if checks * width <= 512 {
+            return eliminate_medium(words, width, bits, checks, residue, known, left, values);
+        }
+    }
+    eliminate_large(words, width, bits, checks, residue, known, left, values)
 }

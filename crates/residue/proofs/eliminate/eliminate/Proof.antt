@@ -10,8 +10,8 @@ mul-if2 c =
     let s = c .before .before .before .before .before .before in
     omega (arith, few-words (s .args .checks) (s .args .width) (s .pre .0 .2) (s .pre .0 .7))
 
-eliminate-few-requires : tie.Need-eliminate-few-requires
-eliminate-few-requires c κs = search needs
+eliminate-small-requires : tie.Need-eliminate-small-requires
+eliminate-small-requires c κs = search needs
 
 same-length : tie.Need-same-length
 same-length c = search needs
@@ -22,8 +22,13 @@ same-length-2 c = search needs
 returns : tie.Need-returns
 returns c = search needs
 
-eliminate-many-requires : tie.Need-eliminate-many-requires
-eliminate-many-requires c κs = search needs
+mul-if4 : tie.Need-mul-if4
+mul-if4 c =
+    let s = c .before .before .before .before .before .before .before in
+    omega (arith, few-words (s .args .checks) (s .args .width) (s .pre .0 .2) (s .pre .0 .7))
+
+eliminate-medium-requires : tie.Need-eliminate-medium-requires
+eliminate-medium-requires c κs = search needs
 
 same-length-3 : tie.Need-same-length-3
 same-length-3 c = search needs
@@ -34,16 +39,33 @@ same-length-4 c = search needs
 returns-2 : tie.Need-returns-2
 returns-2 c = search needs
 
+eliminate-large-requires : tie.Need-eliminate-large-requires
+eliminate-large-requires c κs = search needs
+
+same-length-5 : tie.Need-same-length-5
+same-length-5 c = search needs
+
+same-length-6 : tie.Need-same-length-6
+same-length-6 c = search needs
+
+returns-3 : tie.Need-returns-3
+returns-3 c = search needs
+
 pub eliminate-spec : {M : Type 1} → statement M
 eliminate-spec =
     tie.close
     (tie.spec
     mul-if2
-    eliminate-few-requires
+    eliminate-small-requires
     same-length
     same-length-2
     returns
-    eliminate-many-requires
+    mul-if4
+    eliminate-medium-requires
     same-length-3
     same-length-4
-    returns-2)
+    returns-2
+    eliminate-large-requires
+    same-length-5
+    same-length-6
+    returns-3)

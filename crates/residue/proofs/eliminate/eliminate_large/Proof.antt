@@ -1,8 +1,8 @@
--- `eliminate::eliminate_many` meets its contract. Assumes nothing.
+-- `eliminate::eliminate_large` meets its contract. Assumes nothing.
 use Rattle.residue.proofs.Solving.{few-words}
 use borrow.Author.Needs.{needs}
-use Rattle.residue.proofs.eliminate.eliminate_many.Statement.{statement}
-use Rattle.residue.proofs.eliminate.eliminate_many.Tie as tie
+use Rattle.residue.proofs.eliminate.eliminate_large.Statement.{statement}
+use Rattle.residue.proofs.eliminate.eliminate_large.Tie as tie
 
 slice-aggregate-eliminate-in : tie.Need-slice-aggregate-eliminate-in
 slice-aggregate-eliminate-in c = search needs
@@ -25,8 +25,8 @@ same-length-2 c = search needs
 returns : tie.Need-returns
 returns c = search needs
 
-pub eliminate-many-spec : {M : Type 1} → statement M
-eliminate-many-spec =
+pub eliminate-large-spec : {M : Type 1} → statement M
+eliminate-large-spec =
     tie.close
     (tie.spec
     slice-aggregate-eliminate-in

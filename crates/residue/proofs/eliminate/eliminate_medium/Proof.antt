@@ -1,7 +1,7 @@
--- `eliminate::eliminate_few` meets its contract. Assumes nothing.
+-- `eliminate::eliminate_medium` meets its contract. Assumes nothing.
 use borrow.Author.Needs.{needs}
-use Rattle.residue.proofs.eliminate.eliminate_few.Statement.{statement}
-use Rattle.residue.proofs.eliminate.eliminate_few.Tie as tie
+use Rattle.residue.proofs.eliminate.eliminate_medium.Statement.{statement}
+use Rattle.residue.proofs.eliminate.eliminate_medium.Tie as tie
 
 slice-aggregate-eliminate-in : tie.Need-slice-aggregate-eliminate-in
 slice-aggregate-eliminate-in c = search needs
@@ -24,8 +24,8 @@ same-length-2 c = search needs
 returns : tie.Need-returns
 returns c = search needs
 
-pub eliminate-few-spec : {M : Type 1} → statement M
-eliminate-few-spec =
+pub eliminate-medium-spec : {M : Type 1} → statement M
+eliminate-medium-spec =
     tie.close
     (tie.spec
     slice-aggregate-eliminate-in

@@ -1,15 +1,15 @@
 -- A set made of bytes, word by word, over the number W of words. Assumes nothing.
 use mathlib.Core.Path.{_≡_, sym, ap, _∙_}
-use mathlib.Core.Bool.{false, _&&_, and-false, or-true, or-false}
+use mathlib.Core.Bool.{false, and-false, or-true, or-false}
 use mathlib.Core.List.{List}
 use Prim.Native.Nat.{ℕ, suc, _+_, _*_, _-_, _/_, _%_, _^_, _≤_, _<_, min, max}
 use native.Mathlib.Nat.{zero-add, zero-mul, mul-assoc, mul-mod-left, pow-suc}
 use native.Mathlib.Omega.{arith}
 use native.Mathlib.Decide.{ℕ-discrete, decLt}
 use lib.Bits.{bitOr, or-zero-r}
-use lib.Dec.{eqb, ltb}
-use lib.Pow.{pow-add, shl-exact, shl-shr, shr-shr}
+use lib.Dec.{eqb}
 use lib.ListN.{getD, length, set, length-set}
+use lib.Pow.{pow-add, shl-exact, shl-shr, shr-shr}
 use lib.Seq.{getD-set-same, getD-set-other}
 use borrow.Author.Tests.{eq-eqb, ne-eqb, lt-ltb, le-ltb}
 use Rattle.parity.specs.Finite.{one}

@@ -16,7 +16,7 @@ fn any_above(bytes: &[u8], top: u8) -> bool
     over
 }
 
-// The lowest place whose byte is above `top`, and the length if there is none.
+// The lowest place whose byte is above `top`, and the length if there is none, by a search from the front.
 fn lowest_above(bytes: &[u8], top: u8) -> usize
     ensures { λ r. ⌜ r ≡ wrongPlace top (now (bytes .entry)) ⌝ }
 {
@@ -30,7 +30,7 @@ fn lowest_above(bytes: &[u8], top: u8) -> usize
     i
 }
 
-// The same place: it is looked for only where there is one.
+// The lowest place whose byte is above `top`, and the length if there is none: it is looked for only where there is one.
 pub fn first_above(bytes: &[u8], top: u8) -> usize
     ensures { λ r. ⌜ r ≡ wrongPlace top (now (bytes .entry)) ⌝ }
 {

@@ -81,7 +81,7 @@ fn all_even(words: &[u64], used: usize, checks: usize, set: &[u64]) -> bool
     true
 }
 
-// The same of a set whose bits are in the first `used` words. Where these are one, two or all, their number is known beforehand.
+// The same. Where these are one, two or all words, their number is known beforehand.
 fn even_in(words: &[u64], used: usize, checks: usize, set: &[u64]) -> bool
     requires { ⌜ (length (now words) ≡ 4096) × (checks ≤ 512) × (length (now set) ≡ 8) × (used ≤ 8) ⌝ }
     ensures { λ r. ⌜ r ≡ evenChecks (lent 8 (now (words .entry))) (used * 64) checks (lent 8 (now (set .entry)) 0) ⌝ }

@@ -3,7 +3,6 @@ use mathlib.Core.Path.{_≡_, refl}
 use Prim.Native.Nat.{_+_, _*_, _-_, _≤_, _<_}
 use native.Mathlib.Nat.{add-zero}
 use native.Mathlib.Omega.{arith}
-use borrow.Author.Needs.{needs}
 use Rattle.word.specs.Sets.{Upto}
 use Rattle.word.proofs.Making.{upto-none, upto-eight}
 use Rattle.word.proofs.pairs.eights.Statement.{statement}

@@ -1,19 +1,15 @@
 -- Checks gathered into rows, one after the other. Assumes nothing.
-use mathlib.Core.Path.{_≡_, sym, ap, _∙_}
-use mathlib.Core.Bool.{Bool, false, not, _&&_}
+use mathlib.Core.Path.{_≡_, sym, _∙_}
+use mathlib.Core.Bool.{Bool, false, not}
 use mathlib.Core.List.{List}
-use Prim.Native.Nat.{ℕ, _+_, _*_, _/_, _-_, _≤_, _<_}
-use native.Mathlib.Nat.{zero-mul, zero-add}
+use Prim.Native.Nat.{ℕ, _+_, _*_, _-_, _≤_, _<_}
+use native.Mathlib.Nat.{zero-mul}
 use native.Mathlib.Omega.{arith}
 use native.Mathlib.Decide.{ℕ-discrete}
 use lib.Dec.{eqb}
-use lib.ListN.{length, take, drop, length-drop}
-use lib.Seq.{take-all, getD-drop}
 use borrow.Author.Tests.{eqb-true, not-false}
-use Rattle.parity.specs.Finite.{count}
 use Rattle.parity.specs.Matrix.{Matrix, lent}
 use Rattle.parity.specs.Words.{inside}
-use Rattle.parity.proofs.Finite.Sums.{count-cong}
 use Rattle.parity.proofs.Matrix.Lent.{lent-in}
 use Rattle.residue.specs.Rows.{Gathered}
 
@@ -21,24 +17,9 @@ use Rattle.residue.specs.Rows.{Gathered}
 pub narrow : (W U : ℕ) → W ≤ U → (s : List ℕ) (b : ℕ) → b < W * 64 → lent W s 0 b ≡ lent U s 0 b
 narrow W U k s b l = rw (lent-in W s 0 b l, lent-in U s 0 b (omega arith), zero-mul W, zero-mul U)
 
--- the words from place a on
-rest : (a : ℕ) (ws : List ℕ) → take (length ws - a) (drop a ws) ≡ drop a ws
-rest a ws = take-all (length ws - a) (drop a ws) (omega (arith, length-drop a ws))
-
-pub rest-length : (a : ℕ) (ws : List ℕ) → length (take (length ws - a) (drop a ws)) ≡ length ws - a
-rest-length a ws = ap length (rest a ws) ∙ length-drop a ws
-
--- check c, by the first W of its U words
-first-words : (W U : ℕ) → W ≤ U → (ws : List ℕ) (c b : ℕ) → b < W * 64 → lent W (drop (c * U) ws) 0 b ≡ lent U ws c b
-first-words W U k ws c b l = rw (lent-in W (drop (c * U) ws) 0 b l, lent-in U ws c b (omega arith), zero-mul W, zero-add (b / 64), getD-drop (c * U) ws (b / 64) 0)
-
--- a check whose first W words do not touch a set
-pub not-touched : (W U : ℕ) → W ≤ U → (ws set : List ℕ) (c : ℕ) (r : Bool)
-    → r ≡ not (eqb (count (W * 64) (λ t. lent W (take (length ws - c * U) (drop (c * U) ws)) 0 t && lent W set 0 t)) 0) → r ≡ false → inside (lent U ws) (W * 64) c (lent U set 0) ≡ 0
-unfolding inside
-not-touched W U k ws set c r e q =
-    count-cong (W * 64) (λ b l. rw (sym (first-words W U k ws c b l), sym (narrow W U k set b l)))
-    ∙ eqb-true (count (W * 64) (λ t. lent W (drop (c * U) ws) 0 t && lent W set 0 t)) 0 (not-false _ (sym (rw (rest (c * U) ws) at e) ∙ q))
+-- a check that does not touch a set
+pub not-touched : (x : ℕ) (r : Bool) → r ≡ not (eqb x 0) → r ≡ false → x ≡ 0
+not-touched x r e q = eqb-true x 0 (not-false _ (sym e ∙ q))
 
 pub gathered-none : (h g : Matrix) (B : ℕ) (e : ℕ → Bool) → Gathered h g B 0 e 0
 gathered-none h g B e = record { few = omega arith; from = λ d l. absurd (omega arith); all = λ c l. absurd (omega arith) }

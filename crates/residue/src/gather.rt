@@ -1,6 +1,7 @@
 // The checks that touch a set of bits.
 use elimination::checks::copy_check;
-use rows::touches;
+use parity::Check;
+use word::sets::touches;
 ghost use mathlib.Core.Path.{_≡_};
 ghost use Prim.Native.Nat.{_*_, _≤_};
 ghost use lib.ListN.{length};
@@ -14,8 +15,7 @@ fn gather_in(words: &[u64], width: usize, checks: usize, set: &[u64], rows: &mut
 {
     let mut count: usize = 0;
     for c in 0..checks {
-        let first = c * 8;
-        if touches(&words[first..], 0, set, 0, width) {
+        if touches(words, width, Check(c), set) {
             copy_check(words, 8, width, c, rows, count);
             count += 1;
         }

@@ -2,14 +2,13 @@
 use Prim.Native.Nat.{_*_, _-_, _≤_}
 use mathlib.Core.Path.{_≡_, refl, _∙_}
 use mathlib.Core.Logic.{⊎-elim}
-use native.Mathlib.Nat.{zero-mul}
 use native.Mathlib.Omega.{arith}
 use lib.ListN.{length}
 use Rattle.parity.specs.Matrix.{lent}
 use Rattle.parity.proofs.Matrix.Lent.{row-room}
 use Rattle.elimination.proofs.Copying.{check-lent, check-kept}
 use Rattle.residue.specs.Rows.{Gathered}
-use Rattle.residue.proofs.Gathering.{rest-length, not-touched, gathered-none, gathered-past, gathered-more}
+use Rattle.residue.proofs.Gathering.{not-touched, gathered-none, gathered-past, gathered-more}
 use borrow.Author.Needs.{needs}
 use Rattle.residue.proofs.gather.gather_in.Statement.{statement}
 use Rattle.residue.proofs.gather.gather_in.Tie as tie
@@ -24,37 +23,19 @@ abbrev μ-loop : tie.MeasureT-loop
 loop-holds : tie.Need-loop-holds Inv-loop μ-loop
 loop-holds c = (omega arith, refl, gathered-none _ _ _ _)
 
-mul-first : tie.Need-mul-first Inv-loop μ-loop
-mul-first c = omega arith
-
-mul-touches : tie.Need-mul-touches Inv-loop μ-loop
-mul-touches c = omega arith
-
-sub-touches : tie.Need-sub-touches Inv-loop μ-loop
-sub-touches c = omega arith
-
-part-touches-start : tie.Need-part-touches-start Inv-loop μ-loop
-part-touches-start c = omega arith
-
-part-touches-end : tie.Need-part-touches-end Inv-loop μ-loop
-part-touches-end c = omega arith
-
 touches-requires : tie.Need-touches-requires Inv-loop μ-loop
-touches-requires c κs =
-    let l = c .before .before .loop in
-    let s = c .before .before .before .before .before .before in
-    (omega (arith, zero-mul (s .args .width), rest-length (l .c * 8) (s .args .words .now)), omega (arith, zero-mul (s .args .width)))
+touches-requires c κs = search needs
 
 copy-check-requires : tie.Need-copy-check-requires Inv-loop μ-loop
 copy-check-requires c κs =
-    let i = c .before .before .before .before in
+    let i = c .before .before .before in
     let l = i .before .loop in
     let s = i .before .before .before .before .before in
     (omega arith, omega (arith, l .inv .1, l .inv .2 .few, row-room (s .args .width) (l .count) (s .args .checks) (omega (arith, l .inv .2 .few))))
 
 add-count : tie.Need-add-count Inv-loop μ-loop
 add-count c =
-    let l = c .before .before .before .before .before .before .before .before .loop in
+    let l = c .before .before .before .before .before .before .before .loop in
     omega (arith, l .inv .2 .few)
 
 add-c : tie.Need-add-c Inv-loop μ-loop
@@ -65,8 +46,8 @@ loop-less c = search needs
 
 loop-again : tie.Need-loop-again Inv-loop μ-loop
 loop-again c =
-    let l = c .before .before .before .before .loop in
-    let s = c .before .before .before .before .before .before .before .before in
+    let l = c .before .before .before .loop in
+    let s = c .before .before .before .before .before .before .before in
     ⊎-elim
     (λ w. rw (w .5, w .6) (
       omega arith,
@@ -76,7 +57,7 @@ loop-again c =
     (λ w. rw (w .1, w .2) (
       omega arith,
       l .inv .1,
-      gathered-past _ _ _ _ _ _ (l .inv .2) (not-touched (s .args .width) 8 (s .pre .3) _ _ _ _ (c .before .touches .ensures) (w .0 .left)),
+      gathered-past _ _ _ _ _ _ (l .inv .2) (not-touched _ _ (c .before .touches .ensures) (w .0 .left)),
     ))
     (c .if1 .came)
 
@@ -96,11 +77,6 @@ gather-in-spec =
     Inv-loop
     μ-loop
     loop-holds
-    mul-first
-    mul-touches
-    sub-touches
-    part-touches-start
-    part-touches-end
     touches-requires
     copy-check-requires
     add-count

@@ -26,7 +26,7 @@ loop-holds c = (omega arith, λ i k l. absurd (omega arith))
 is-odd-requires : tie.Need-is-odd-requires Inv-loop μ-loop
 is-odd-requires c κs =
     let s = c .before .before .before .before in
-    (omega (arith, row-room (s .args .width) (c .before .loop .c) (s .args .end) (omega arith)), omega arith)
+    (omega (arith, row-room (s .args .width) (c .before .loop .c) (s .args .end) (omega arith)), omega arith, omega arith)
 
 returns : tie.Need-returns Inv-loop μ-loop
 returns c =

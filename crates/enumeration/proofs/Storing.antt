@@ -9,7 +9,7 @@ use native.Mathlib.Omega.{arith}
 use native.Mathlib.Decide.{ℕ-discrete, decLt}
 use lib.Dec.{ltb}
 use lib.ListN.{getD, length, set, take, drop, length-set, length-append}
-use lib.Seq.{sets, length-sets, sets-eq, take-suc, length-take-le, take-all, getD-set-same, getD-set-other, getD-take, ext-getD}
+use lib.Seq.{sets, length-sets, sets-eq, take-suc, length-take-le, take-all, getD-set-same, getD-set-other, getD-take, ext-getD, take-take, take-append-seam, take-set-le, take-suc-set}
 use borrow.Author.Tests.{lt-ltb, le-ltb}
 use Rattle.enumeration.specs.Search.{Longer, Put}
 
@@ -63,6 +63,24 @@ longer-law s d r k F =
       size = F .size;
       front = ext-getD 0 (take (length s + 1) r) (s ++ (d ∷ [])) (t ∙ sym e) (λ i l. getD-take (length s + 1) r i 0 (omega arith) ∙ F .at i (omega arith));
     }
+
+-- the array r begins with the members, and one more may be put behind them
+pub record Begun (s r : List ℕ) : Type 0 where
+  pub size : length r ≡ 4
+  pub front : take (length s) r ≡ s
+
+pub begun : (s : List ℕ) (d : ℕ) (r : List ℕ) → Longer s d r → Begun s r
+begun s d r L = record {
+  size = L .size;
+  front = sym (take-take (length s) (length s + 1) r (omega arith)) ∙ rw (L .front) (take-append-seam s (d ∷ []));
+}
+
+module _ (s r : List ℕ) (d : ℕ) (B : Begun s r) where
+  pub begun-set : Begun s (set r (length s) d)
+  begun-set = record { size = length-set r (length s) d ∙ B .size; front = take-set-le (length s) r (length s) d (omega arith) ∙ B .front }
+
+  pub begun-more : (e : ℕ) → d ≡ e → length s < 4 → take (length s + 1) (set r (length s) d) ≡ s ++ (e ∷ [])
+  begun-more e f k = rw (add-one (length s), ← f) (take-suc-set r (length s) d (omega (arith, B .size)) ∙ rw (B .front))
 
 pub put-copied : (old new : List ℕ) (p : ℕ) (s : List ℕ) (d i r : ℕ) → length s ≤ i → new ≡ sets old p (take i s) → r ≡ d
     → Put true old (set new (p + length s) r) p (s ++ (d ∷ [])) (p + length s + 1)

@@ -200,8 +200,8 @@ fn list_last(
     place
 }
 
-// Lists the stopping sets of the members and two more bits, from `from` on, and answers the place behind them. What is known of three members stays
-// in this function.
+// Lists the stopping sets of the members and two more bits, from `from` on, and answers the place behind them. The members are copied once, and the first of
+// the two bits is put behind them.
 fn list_pairs(
     cols: &[u64],
     n: usize,
@@ -220,12 +220,13 @@ fn list_pairs(
     requires { ⌜ roomFor write (at + length (listed (across (now cols)) (used * 64) n 2 (now first) from)) ≤ length (now sets) ⌝ }
     ensures { λ r. ⌜ Put write (now (sets .entry)) (now (sets .exit)) at (listed (across (now (cols .entry))) (used * 64) n 2 (now (first .entry)) from) r ⌝ }
 {
-    let len = first.len() + 1;
+    let len = first.len();
+    let mut more = longer(first, 0);
     let mut place = at;
     for d in from..n {
         let x = once_with(cols, once, some, d);
         let u = some_with(cols, some, d);
-        let more = longer(first, d);
+        more[len] = member(d);
         let next = d + 1;
         place = list_last(
             cols,
@@ -233,7 +234,7 @@ fn list_pairs(
             used,
             &x,
             &u,
-            &more[..len],
+            &more[..len + 1],
             next,
             sets,
             place,

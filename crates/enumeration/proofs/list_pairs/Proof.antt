@@ -4,26 +4,26 @@ use mathlib.Core.List.{[], _∷_}
 use Prim.Native.Nat.{_+_, _*_, _-_, max}
 use native.Mathlib.Omega.{arith}
 use borrow.Author.Needs.{needs}
-use lib.ListN.{length, length-append}
+use lib.ListN.{length, length-append, length-set}
 use lib.Seq.{length-take-le}
 use Rattle.enumeration.specs.Search.{across}
-use Rattle.enumeration.proofs.Storing.{put-length}
+use Rattle.enumeration.proofs.Storing.{put-length, Begun, begun, begun-set, begun-more}
 use Rattle.enumeration.proofs.Joining.{Searched, nextOf, searched-none, next-call, next-listed, next-all}
 use Rattle.enumeration.proofs.list_pairs.Statement.{statement}
 use Rattle.enumeration.proofs.list_pairs.Tie as tie
 
 abbrev Inv-loop : tie.InvT-loop
-Inv-loop cols n used once some first from sets₀ at write len place₀ d₀ sets place d =
-    (len ≡ length first + 1) × Searched write sets₀ sets at from d n (nextOf (across cols) (used * 64) n 1 first) place
+Inv-loop cols n used once some first from sets₀ at write len more₀ place₀ d₀ sets more place d =
+    (len ≡ length first) × Begun first more × Searched write sets₀ sets at from d n (nextOf (across cols) (used * 64) n 1 first) place
 
 abbrev μ-loop : tie.MeasureT-loop
-μ-loop cols n used once some first from sets₀ at write len place₀ d₀ sets place d = max from n - d
+μ-loop cols n used once some first from sets₀ at write len more₀ place₀ d₀ sets more place d = max from n - d
 
-add-len : tie.Need-add-len Inv-loop μ-loop
-add-len c = omega arith
+longer-requires : tie.Need-longer-requires Inv-loop μ-loop
+longer-requires c κs = (omega arith, omega arith)
 
 loop-holds : tie.Need-loop-holds Inv-loop μ-loop
-loop-holds c = (refl, searched-none _ _ _ _ _ _)
+loop-holds c = (refl, begun _ _ _ (c .longer .ensures), searched-none _ _ _ _ _ _)
 
 once-with-requires : tie.Need-once-with-requires Inv-loop μ-loop
 once-with-requires c κs = search needs
@@ -31,8 +31,14 @@ once-with-requires c κs = search needs
 some-with-requires : tie.Need-some-with-requires Inv-loop μ-loop
 some-with-requires c κs = search needs
 
-longer-requires : tie.Need-longer-requires Inv-loop μ-loop
-longer-requires c κs = search needs
+member-requires : tie.Need-member-requires Inv-loop μ-loop
+member-requires c κs = omega arith
+
+mul-more : tie.Need-mul-more Inv-loop μ-loop
+mul-more c = omega (arith, c .before .before .before .before .before .before .before .before .before .before .before .pre .0 .6)
+
+array-write-more : tie.Need-array-write-more Inv-loop μ-loop
+array-write-more c = omega (arith, c .before .before .before .before .before .before .before .before .before .before .before .pre .0 .6, c .before .before .before .before .loop .inv .1 .size)
 
 add-next : tie.Need-add-next Inv-loop μ-loop
 add-next c = omega arith
@@ -43,27 +49,32 @@ slice-aggregate-list-last c = search needs
 slice-aggregate-list-last-2 : tie.Need-slice-aggregate-list-last-2 Inv-loop μ-loop
 slice-aggregate-list-last-2 c = search needs
 
+add-more : tie.Need-add-more Inv-loop μ-loop
+add-more c = omega (arith, c .before .before .before .before .before .before .before .before .before .before .before .before .before .pre .0 .6)
+
 array-share-prefix-more : tie.Need-array-share-prefix-more Inv-loop μ-loop
 array-share-prefix-more c =
-    let s = c .before .before .before .before .before .before .before .before .before .before .before .before in
-    omega (arith, c .before .before .longer .ensures .size, s .pre .0 .6)
+    let l = c .before .before .before .before .before .before .loop in
+    let s = c .before .before .before .before .before .before .before .before .before .before .before .before .before in
+    omega (arith, length-set (l .more) (length (s .args .first .now)) (c .before .before .member .result), l .inv .1 .size, s .pre .0 .6)
 
 slice-aggregate-list-last-3 : tie.Need-slice-aggregate-list-last-3 Inv-loop μ-loop
 slice-aggregate-list-last-3 c =
-    let s = c .before .before .before .before .before .before .before .before .before .before .before .before .before in
-    let g = c .before .before .before .longer in
-    sym (length-take-le (length (s .args .first .now) + 1) (g .result) (omega (arith, g .ensures .size, s .pre .0 .6)))
+    let l = c .before .before .before .before .before .before .before .loop in
+    let s = c .before .before .before .before .before .before .before .before .before .before .before .before .before .before in
+    let z = length-set (l .more) (length (s .args .first .now)) (c .before .before .before .member .result) in
+    sym (length-take-le (length (s .args .first .now) + 1) _ (omega (arith, z, l .inv .1 .size, s .pre .0 .6)))
 
 list-last-requires : tie.Need-list-last-requires Inv-loop μ-loop
 list-last-requires c κs =
-    let s = c .before .before .before .before .before .before .before .before .before .before .before .before .before .before in
+    let s = c .before .before .before .before .before .before .before .before .before .before .before .before .before .before .before in
     let l = c .before .before .before .before .before .before .before .before .loop in
     let P = s .pre in
-    let g = c .before .before .before .before .longer .ensures .front in
+    let g = begun-more (s .args .first .now) (l .more) (c .before .before .before .before .member .result) (l .inv .1) (l .d) (c .before .before .before .before .member .ensures) (omega (arith, s .pre .0 .6)) in
     let X = c .before .before .before .before .before .before .once-with .ensures in
     let Y = c .before .before .before .before .before .some-with .ensures in (
       (P .0 .0, X .size, Y .size, P .0 .3, P .0 .4, P .0 .5, rw (g, length-append (s .args .first .now) (l .d ∷ [])) (omega (arith, P .0 .6))),
-      next-call (s .args .cols .now) (s .args .first .now) (s .args .used * 64) (s .args .n) 1 2 refl (l .inv .1) 1 refl g (omega arith) (P .1 .0 .0) (P .1 .0 .1) (P .0 .5) X Y 1099511627776 (P .1 .1),
+      next-call (s .args .cols .now) (s .args .first .now) (s .args .used * 64) (s .args .n) 1 2 refl (l .inv .2) 1 refl g (omega arith) (P .1 .0 .0) (P .1 .0 .1) (P .0 .5) X Y 1099511627776 (P .1 .1),
     )
 
 add-d : tie.Need-add-d Inv-loop μ-loop
@@ -74,18 +85,19 @@ loop-less c = omega arith
 
 loop-again : tie.Need-loop-again Inv-loop μ-loop
 loop-again c =
-    let s = c .before .before .before .before .before .before .before .before .before .before .before .before .before .before .before .before .before in
+    let s = c .before .before .before .before .before .before .before .before .before .before .before .before .before .before .before .before .before .before in
     let l = c .before .before .before .before .before .before .before .before .before .before .before .loop in
-    (refl, next-listed (s .args .cols .now) (s .args .first .now) (s .args .used * 64) (s .args .n) 1 2 refl (l .inv .1) 1 refl (c .before .before .before .before .before .before .before .longer .ensures .front) (omega (arith, c .before .before .before .before .before .before .before .before .before .before)) (c .before .before .list-last .ensures))
+    let g = begun-more (s .args .first .now) (l .more) (c .before .before .before .before .before .before .before .member .result) (l .inv .1) (l .d) (c .before .before .before .before .before .before .before .member .ensures) (omega (arith, s .pre .0 .6)) in
+    (refl, begun-set (s .args .first .now) (l .more) (c .before .before .before .before .before .before .before .member .result) (l .inv .1), next-listed (s .args .cols .now) (s .args .first .now) (s .args .used * 64) (s .args .n) 1 2 refl (l .inv .2) 1 refl g (omega (arith, c .before .before .before .before .before .before .before .before .before .before)) (c .before .before .list-last .ensures))
 
 same-length : tie.Need-same-length Inv-loop μ-loop
-same-length c = put-length _ _ _ _ _ _ (c .before .loop .inv .1 .put)
+same-length c = put-length _ _ _ _ _ _ (c .before .loop .inv .2 .put)
 
 returns : tie.Need-returns Inv-loop μ-loop
 returns c =
-    let s = c .before .before .before .before .before .before .before in
+    let s = c .before .before .before .before .before .before .before .before in
     let l = c .before .loop in
-    next-all (s .args .cols .now) (s .args .first .now) (s .args .used * 64) (s .args .n) 1 2 refl (l .inv .1) (omega arith)
+    next-all (s .args .cols .now) (s .args .first .now) (s .args .used * 64) (s .args .n) 1 2 refl (l .inv .2) (omega arith)
 
 pub list-pairs-spec : {M : Type 1} → statement M
 list-pairs-spec =
@@ -93,14 +105,17 @@ list-pairs-spec =
     (tie.spec
     Inv-loop
     μ-loop
-    add-len
+    longer-requires
     loop-holds
     once-with-requires
     some-with-requires
-    longer-requires
+    member-requires
+    mul-more
+    array-write-more
     add-next
     slice-aggregate-list-last
     slice-aggregate-list-last-2
+    add-more
     array-share-prefix-more
     slice-aggregate-list-last-3
     list-last-requires

@@ -3,8 +3,6 @@ use crate::bit_row::bit_at;
 use crate::bit_row::gather;
 use crate::bit_row::scatter;
 use parity::Channel;
-use parity::Check;
-use rows::ones::weight;
 use soft::store::message;
 use soft::store::put;
 ghost use mathlib.Core.Path.{_≡_};
@@ -15,18 +13,6 @@ ghost use Rattle.parity.specs.Soft.{messageAt, bitSends};
 ghost use Rattle.soft.specs.Pass.{Holding};
 ghost use Rattle.messages.specs.Memory.{across, column, Cursors, held, heldAt, BitSent, resultOf, Within};
 ghost use Rattle.messages.specs.Loops.{Moved, SentAll};
-
-// The cursors stand at each check's first message.
-pub fn first_places(words: &[u64], checks: usize, at: &mut [usize])
-    requires { ⌜ (length (now words) ≡ 4096) × (checks ≤ 512) × (length (now at) ≡ 512) × Within (lent 8 (now words)) checks ⌝ }
-    ensures { λ r. ⌜ Cursors (lent 8 (now (words .entry))) 512 0 (now (at .exit)) ⌝ }
-{
-    let mut a: usize = 0;
-    for c in 0..checks {
-        at[c] = a;
-        a += weight(words, Check(c));
-    }
-}
 
 // Bit `b` sends to its checks.
 fn bit_sends(

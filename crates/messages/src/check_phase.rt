@@ -7,7 +7,7 @@ ghost use Prim.Native.Nat.{_+_, _≤_, _<_};
 ghost use lib.ListN.{length};
 ghost use Rattle.parity.specs.Matrix.{lent};
 ghost use Rattle.soft.specs.Pass.{Sounds, checkAnswer};
-ghost use Rattle.messages.specs.Memory.{Part, from, start, held, SoundAll, Answering};
+ghost use Rattle.messages.specs.Memory.{Part, from, held, Cursors, SoundAll, Answering, Within};
 
 // The check with `w` messages from place `a` on answers.
 fn check_at(tags: &mut [u8], values: &mut [f32], a: usize, w: usize)
@@ -19,15 +19,23 @@ fn check_at(tags: &mut [u8], values: &mut [f32], a: usize, w: usize)
     check_answers(&mut tags[a..e], &mut values[a..e]);
 }
 
-// All checks answer.
-pub fn checks_send(words: &[u64], checks: usize, tags: &mut [u8], values: &mut [f32])
-    requires { ⌜ (length (now words) ≡ 4096) × (checks ≤ 512) × (length (now tags) ≡ 65536) × (length (now values) ≡ 65536) ⌝ }
-    requires { ⌜ start (lent 8 (now words)) 512 512 ≤ 65536 ⌝ }
+// All checks answer, and the cursors stand at each check's first message.
+pub fn checks_send(
+    words: &[u64],
+    checks: usize,
+    at: &mut [usize],
+    tags: &mut [u8],
+    values: &mut [f32],
+)
+    requires { ⌜ (length (now words) ≡ 4096) × (checks ≤ 512) × (length (now tags) ≡ 65536) × (length (now values) ≡ 65536) × (length (now at) ≡ 512) ⌝ }
+    requires { ⌜ Within (lent 8 (now words)) checks ⌝ }
     requires { ⌜ SoundAll (lent 8 (now words)) 512 checks (held (lent 8 (now words)) 512 (now tags) (now values)) ⌝ }
+    ensures { λ r. ⌜ Cursors (lent 8 (now (words .entry))) 512 0 (now (at .exit)) ⌝ }
     ensures { λ r. ⌜ Answering (lent 8 (now (words .entry))) 512 checks checks (held (lent 8 (now (words .entry))) 512 (now (tags .entry)) (now (values .entry))) (now (tags .exit)) (now (values .exit)) ⌝ }
 {
     let mut a: usize = 0;
     for c in 0..checks {
+        at[c] = a;
         let w = weight(words, Check(c));
         check_at(tags, values, a, w);
         a += w;

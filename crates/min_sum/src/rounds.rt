@@ -1,5 +1,4 @@
 // The rounds.
-use messages::bit_phase::first_places;
 use messages::bit_phase::result_all;
 use messages::bit_phase::send_all;
 use messages::check_phase::checks_send;
@@ -35,8 +34,7 @@ fn one_round(
     ensures { λ r. ⌜ Sized (now (at .exit)) (now («row_tags» .exit)) (now («row_values» .exit)) ⌝ }
     ensures { λ r. ⌜ Round (lent 8 (now (words .entry))) bits checks (messageAt (now (word .entry)) (now (floats .entry))) (now (tags .entry)) (now (values .entry)) (now (tags .exit)) (now (values .exit)) ⌝ }
 {
-    checks_send(words, checks, tags, values);
-    first_places(words, checks, at);
+    checks_send(words, checks, at, tags, values);
     send_all(
         cols,
         bits,
@@ -72,8 +70,7 @@ fn last_round(
     requires { ⌜ (length (now cols) ≡ 4096) × (across (lent 8 (now cols)) ≡ lent 8 (now words)) ⌝ }
     ensures { λ r. ⌜ Last (lent 8 (now (words .entry))) bits checks (messageAt (now (word .entry)) (now (floats .entry))) (now (tags .entry)) (now (values .entry)) (now (word .exit)) (now (floats .exit)) ⌝ }
 {
-    checks_send(words, checks, tags, values);
-    first_places(words, checks, at);
+    checks_send(words, checks, at, tags, values);
     result_all(
         cols,
         bits,

@@ -1,6 +1,6 @@
 -- Taking all splits back: the rule of the newest added check alone decides, at each step, whether splits made the matrix. Assumes nothing.
 use mathlib.Core.Path.{_≡_, refl, sym, ap, _∙_, fun-ext}
-use mathlib.Core.Bool.{Bool, true, false, not, _&&_, _||_, or-false, and-true, and-false, and-comm, and-eq-true-iff, true≢false, false≢true}
+use mathlib.Core.Bool.{Bool, true, false, not, Bool·not-not, _&&_, _||_, or-false, and-false, and-comm, and-eq-true-iff, true≢false, false≢true}
 use Prim.Native.Nat.{ℕ, suc, _+_, _-_, _/_, _≤_, _<_}
 use native.Mathlib.Nat.{add-suc}
 use native.Mathlib.Omega.{arith}
@@ -39,28 +39,24 @@ pub apart-last : (g : Matrix) (u v z : ℕ) (p q r : Bool) → p ≡ not (eqb (t
     → r ≡ not (eqb (together 2 g v z) 0) → not r ≡ allApart g u v z
 unfolding allApart
 apart-last g u v z p q r a x b y c =
-    rw (not-false (eqb (together 2 g u v) 0) (sym a ∙ x), not-false (eqb (together 2 g u z) 0) (sym b ∙ y), c) (go (eqb (together 2 g v z) 0))
-  where
-    go : (t : Bool) → not (not t) ≡ t
-    go true = refl
-    go false = refl
+    rw (not-false (eqb (together 2 g u v) 0) (sym a ∙ x), not-false (eqb (together 2 g u z) 0) (sym b ∙ y), c) (Bool·not-not (eqb (together 2 g v z) 0))
 
 -- the entries of the matrix that stands
 module _ (h g : Matrix) (m k : ℕ) where
-  pub standing-given : (c b : ℕ) → c < m → standing h g m k c b ≡ g b c
+  standing-given : (c b : ℕ) → c < m → standing h g m k c b ≡ g b c
   unfolding standing
   standing-given c b l = rw (lt-ltb c m l)
 
-  pub standing-added : (c b : ℕ) → m ≤ c → c < m + k → standing h g m k c b ≡ h c b
+  standing-added : (c b : ℕ) → m ≤ c → c < m + k → standing h g m k c b ≡ h c b
   unfolding standing
   standing-added c b l r = rw (le-ltb c m l, lt-ltb c (m + k) r)
 
-  pub standing-none : (c b : ℕ) → m + k ≤ c → standing h g m k c b ≡ false
+  standing-none : (c b : ℕ) → m + k ≤ c → standing h g m k c b ≡ false
   unfolding standing
   standing-none c b l = rw (le-ltb c m (omega arith), le-ltb c (m + k) l)
 
   -- its columns have no other place
-  pub standing-columns : ((b d : ℕ) → m ≤ d → g b d ≡ false) → Columns m (standing h g m k) g
+  standing-columns : ((b d : ℕ) → m ≤ d → g b d ≡ false) → Columns m (standing h g m k) g
   standing-columns f = record {
     at = λ b d. elim (decLt d m) [ yes l ↦ rw (lt-ltb d m l, standing-given d b l) | no l ↦ rw (le-ltb d m (omega arith)) (f b d (omega arith)) ];
   }
@@ -128,7 +124,7 @@ module _ (g : Matrix) (n m j : ℕ) (R : Raw g n m (suc j)) where
   rule-own : g M N ≡ true
   rule-own = R .added j N (omega arith) ∙ sound-rule h n m (R .size) j (R .sound) (omega (arith, R .less)) .own
 
-  pub rule-two : count N (g M) ≡ 2
+  rule-two : count N (g M) ≡ 2
   rule-two =
       count-cong N {p = g M} {q = h M} (λ b l. R .added j b (omega arith)) ∙ sound-rule h n m (R .size) j (R .sound) (omega (arith, R .less)) .two
 
@@ -182,11 +178,11 @@ module _ (g : Matrix) (n m j : ℕ) (R : Raw g n m (suc j)) where
       ]
 
   -- what the code reads: the two lower bits
-  pub reads-lower : (x : ℕ) → NextOne 512 (g M) 0 x → x ≡ u
+  reads-lower : (x : ℕ) → NextOne 512 (g M) 0 x → x ≡ u
   unfolding lowerOf higherOf
   reads-lower x F = first-one (g M) N rule-two raw-small x F
 
-  pub reads-higher : (x y : ℕ) → x ≡ u → NextOne 512 (g M) (x + 1) y → y ≡ v
+  reads-higher : (x y : ℕ) → x ≡ u → NextOne 512 (g M) (x + 1) y → y ≡ v
   unfolding lowerOf higherOf
   reads-higher x y e F = second-one (g M) N rule-two raw-small y (rw e at F)
 
@@ -194,7 +190,7 @@ module _ (g : Matrix) (n m j : ℕ) (R : Raw g n m (suc j)) where
   bits-below = let (x, y, z, w) = two-bits in (x, y)
 
   -- no other added check contains the newest bit
-  pub newest-alone : (c : ℕ) → m ≤ c → (c ≡ M → ⊥) → g c N ≡ false
+  newest-alone : (c : ℕ) → m ≤ c → (c ≡ M → ⊥) → g c N ≡ false
   newest-alone c l d =
       elim (decLt c M) [
         | no q ↦ raw-clean .checks c N (omega arith)
@@ -204,7 +200,7 @@ module _ (g : Matrix) (n m j : ℕ) (R : Raw g n m (suc j)) where
             rw e at (R .added (c - m) N (omega arith) ∙ above-own h n m (R .size) (c - m) N (R .sound) i (omega arith))
       ]
 
-  pub newer : Newest g N M → Newer g m N M u v
+  newer : Newest g N M → Newer g m N M u v
   newer A = record {
     behind = omega arith;
     below = (let (x, y) = bits-below in omega arith, bits-below .1);

@@ -1,5 +1,5 @@
 // Performing the splits of a record on the words of its checks.
-use choice::given::columns;
+use crate::columns::no_columns;
 use choice::given::part;
 use choice::given::shared;
 use exchange::merge::merge;
@@ -7,6 +7,7 @@ use parity::Bit;
 use parity::Check;
 use reading::words::Word;
 use reading::words::read;
+use rows::columns::fill;
 ghost use mathlib.Core.Path.{_≡_};
 ghost use Prim.Native.Nat.{_≤_};
 ghost use lib.ListN.{length};
@@ -54,7 +55,8 @@ pub fn perform(source: &[u32], words: &mut [u64], n: usize, m: usize, p: usize) 
     requires { ⌜ Sound (lent 8 (now words)) n m 0 ⌝ }
     ensures { λ r. ⌜ Performs (now (source .entry)) n m p (lent 8 (now (words .entry))) (lent 8 (now (words .exit))) r ⌝ }
 {
-    let mut cols = columns(words, m);
+    let mut cols = no_columns();
+    fill(words, &mut cols, 2, m);
     let mut k = 0;
     while p + k < source.len() {
         let Word::Split(x) = read(source[p + k]) else {

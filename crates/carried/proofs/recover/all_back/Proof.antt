@@ -1,19 +1,31 @@
 -- `recover::all_back` meets its contract. Assumes nothing.
+use Prim.Native.Nat.{ℕ}
 use native.Mathlib.Omega.{arith}
+use lib.ListN.{length-replicate}
 use borrow.Author.Tests.{not-true, not-false}
 use borrow.Author.Needs.{needs}
+use Rattle.rows.proofs.Fill.{empty}
 use Rattle.carried.proofs.Recovering.{rows-left, rows-made}
 use Rattle.carried.proofs.recover.all_back.Statement.{statement}
 use Rattle.carried.proofs.recover.all_back.Tie as tie
 
-columns-requires : tie.Need-columns-requires
-columns-requires c κs = let s = c .before .before in (s .pre .0, omega (arith, s .pre .3 .m120))
+no-columns-requires : tie.Need-no-columns-requires
+no-columns-requires c κs = search needs
+
+slice-aggregate-fill : tie.Need-slice-aggregate-fill
+slice-aggregate-fill c = search needs
+
+fill-requires : tie.Need-fill-requires
+fill-requires c κs =
+    let s = c .before .before .before .before in
+    let e = c .before .no-columns .ensures in
+    ((s .pre .0, rw e (length-replicate {A = ℕ} 1024 0), omega (arith, s .pre .3 .m120), omega (arith, s .pre .3 .m120)), empty 2 1024 _ e)
 
 slice-aggregate-each-back : tie.Need-slice-aggregate-each-back
 slice-aggregate-each-back c = search needs
 
 each-back-requires : tie.Need-each-back-requires
-each-back-requires c κs = let s = c .before .before .before .before in ((s .pre .0, search needs), (s .pre .3, c .before .columns .ensures))
+each-back-requires c κs = let s = c .before .before .before .before .before .before .before in ((s .pre .0, search needs), (s .pre .3, c .before .before .fill .ensures))
 
 returns : tie.Need-returns
 returns c =
@@ -24,7 +36,7 @@ slice-aggregate-put-columns : tie.Need-slice-aggregate-put-columns
 slice-aggregate-put-columns c = search needs
 
 put-columns-requires : tie.Need-put-columns-requires
-put-columns-requires c κs = let s = c .before .before .before .before .before .before .before .before .before in (search needs, s .pre .1, omega (arith, s .pre .3 .n120), s .pre .2)
+put-columns-requires c κs = let s = c .before .before .before .before .before .before .before .before .before .before .before .before in (search needs, s .pre .1, omega (arith, s .pre .3 .n120), s .pre .2)
 
 same-length : tie.Need-same-length
 same-length c = search needs
@@ -32,13 +44,15 @@ same-length c = search needs
 returns-2 : tie.Need-returns-2
 returns-2 c =
     let E = c .before .before .before .before .before .before .before .each-back in
-    rows-made _ _ _ _ _ _ (c .before .before .before .before .before .before .before .before .before .before .before .before .pre .3) (E .ensures .1) (c .before .before .put-columns .ensures) (E .result) (E .ensures .0) (not-false (E .result) (c .before .before .before .before .before .if1 .left))
+    rows-made _ _ _ _ _ _ (c .before .before .before .before .before .before .before .before .before .before .before .before .before .before .before .pre .3) (E .ensures .1) (c .before .before .put-columns .ensures) (E .result) (E .ensures .0) (not-false (E .result) (c .before .before .before .before .before .if1 .left))
 
 pub all-back-spec : {M : Type 1} → statement M
 all-back-spec =
     tie.close
     (tie.spec
-    columns-requires
+    no-columns-requires
+    slice-aggregate-fill
+    fill-requires
     slice-aggregate-each-back
     each-back-requires
     returns

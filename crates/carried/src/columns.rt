@@ -4,17 +4,10 @@ use rows::raise;
 use rows::wide;
 ghost use mathlib.Core.Path.{_≡_};
 ghost use Prim.Native.Nat.{_≤_, _<_};
-ghost use lib.ListN.{length, replicate};
+ghost use lib.ListN.{length};
 ghost use Rattle.parity.specs.Matrix.{lent};
 ghost use Rattle.rows.specs.Rows.{ColumnsOf, WordIn, CheckIn, Empty};
 ghost use Rattle.carried.specs.Join.{JoinedWord, Joined};
-
-// Empty columns.
-pub fn no_columns() -> [u64; 1024]
-    ensures { λ r. ⌜ r ≡ replicate 1024 0 ⌝ }
-{
-    [0u64; 1024]
-}
 
 // Word `i` of the column of `z` is put into those of `u` and `v`, and becomes 0.
 fn join_word(cols: &mut [u64], u: Bit, v: Bit, z: Bit, i: usize)

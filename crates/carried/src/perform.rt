@@ -1,5 +1,4 @@
 // Performing the splits of a record on the words of its checks.
-use crate::columns::no_columns;
 use choice::given::part;
 use choice::given::shared;
 use exchange::merge::merge;
@@ -8,6 +7,7 @@ use parity::Check;
 use reading::words::Word;
 use reading::words::read;
 use rows::columns::fill;
+use rows::columns::no_columns;
 ghost use mathlib.Core.Path.{_≡_};
 ghost use Prim.Native.Nat.{_≤_};
 ghost use lib.ListN.{length};

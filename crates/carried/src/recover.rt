@@ -1,10 +1,10 @@
 // Taking all splits of an accepted matrix back, on the columns of its given checks, as far as the splits made it.
 use crate::columns::join;
-use crate::columns::no_columns;
 use crate::columns::put_columns;
 use parity::Bit;
 use parity::Check;
 use rows::columns::fill;
+use rows::columns::no_columns;
 use rows::ones::next_one;
 use rows::touches;
 use rows::weight;

@@ -1,20 +1,14 @@
 // The columns of the given checks: `width` words for a bit, whose bit `c` says whether check `c` contains it.
 use parity::Bit;
 use rows::columns::fill;
+use rows::columns::no_columns;
 use rows::common;
 ghost use mathlib.Core.Path.{_≡_};
 ghost use Prim.Native.Nat.{_*_, _≤_, _<_};
-ghost use lib.ListN.{length, replicate};
+ghost use lib.ListN.{length};
 ghost use Rattle.parity.specs.Matrix.{lent};
 ghost use Rattle.rows.specs.Rows.{Columns};
 ghost use Rattle.choice.specs.Given.{shares, PartedWord, Parted};
-
-// Empty columns.
-fn no_columns() -> [u64; 1024]
-    ensures { λ r. ⌜ r ≡ replicate 1024 0 ⌝ }
-{
-    [0u64; 1024]
-}
 
 // The columns of all bits over the first `m` checks, of two words each.
 pub fn columns(words: &[u64], m: usize) -> [u64; 1024]

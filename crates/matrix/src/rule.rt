@@ -3,6 +3,7 @@ use parity::Bit;
 use parity::Check;
 use rows::bits::has;
 use rows::columns::fill;
+use rows::columns::no_columns;
 use rows::contains;
 use rows::ones::next_one;
 use rows::raise;
@@ -188,13 +189,6 @@ fn all_rules(
         }
     }
     true
-}
-
-// Empty columns of two words.
-fn no_columns() -> [u64; 1024]
-    ensures { λ r. ⌜ r ≡ replicate 1024 0 ⌝ }
-{
-    [0u64; 1024]
 }
 
 // An empty table of pairs of the first 256 bits.

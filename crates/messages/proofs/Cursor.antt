@@ -12,7 +12,7 @@ use lib.Seq.{getD-set-same, getD-set-other}
 use lib.Ieee.{Float, nan}
 use Rattle.parity.specs.Finite.{sum, count}
 use Rattle.parity.specs.Matrix.{Matrix}
-use Rattle.parity.proofs.Finite.Sums.{count-suc, count-bound, count-end}
+use Rattle.parity.proofs.Finite.Sums.{count-suc, count-bound}
 use Rattle.parity.specs.Soft.{channelOf, messageAt}
 use Rattle.messages.specs.Memory.{start, place, held, column, Cursors, Moving, heldAt, Collected, Gathering, Spread, Within}
 use Rattle.parity.specs.declared.Channel.{Channel}

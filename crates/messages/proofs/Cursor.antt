@@ -148,7 +148,7 @@ pub place-small : (h : Matrix) (N c b : ℕ) → start h N 512 ≤ 65536 → c <
 place-small h N c b m k l e = omega (arith, place-high h N c b l e, start-mono h N (suc c) 512 k)
 
 module _ (h : Matrix) (N b : ℕ) where
-  pub moving-none : (at : List ℕ) → Cursors h N b at → Moving h N b 0 at
+  moving-none : (at : List ℕ) → Cursors h N b at → Moving h N b 0 at
   moving-none at C = record { size = C .size; new = λ d a e k. absurd (omega arith); old = λ d a e k. C .is d a e }
 
   module _ (c : ℕ) (at : List ℕ) (S : Moving h N b c at) where

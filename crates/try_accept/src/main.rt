@@ -1,5 +1,7 @@
 // Acceptance on good and bad matrices: each line is a case and the number of its cause, 0 where it is accepted.
 use matrix::Accepting;
+use samples::say::end_line;
+use samples::say::field;
 ghost use Prim.Native.Nat.{_<_};
 
 // The number of the cause.
@@ -11,9 +13,8 @@ fn number(a: Accepting) -> u64 {
 }
 
 fn line(head: &[u8], words: &[u64], n: usize, m: usize, k: usize) {
-    io::write_all(1, head);
-    io::print_decimal(1, number(matrix::accept(words, n, m, k)));
-    io::write_all(1, b"\n");
+    field(head, number(matrix::accept(words, n, m, k)));
+    end_line();
 }
 
 fn lengths() {
@@ -106,13 +107,8 @@ fn rule_a() {
     with_checks(b"{0,1,4,5} {2,3,5}: ", 0b110011, 0b101100, 4, 0, 2);
 }
 
-// Case B.
 fn case_b() {
-    let mut words = [0u64; 4096];
-    words[0] = 0b10010001;
-    words[8] = 0b10100010;
-    words[16] = 0b1110100;
-    words[24] = 0b11001000;
+    let words = samples::cases::b();
     line(b"B, k = 1: ", &words, 7, 3, 1);
     line(b"B, k = 0: ", &words, 7, 3, 0);
     line(b"B, k = 2: ", &words, 7, 3, 2);

@@ -1,43 +1,10 @@
 // Mending blocks by each of the three stages, words that each of them refuses, and bad input. A line has the case, what the call answers (the last
 // stage to run, and how many bits the two peelings recovered together), and the word afterwards, with ? for erased and x for a byte above 2.
 use block::Mending;
-use parity::Refusal;
-
-fn end_line() {
-    io::write_all(1, b"\n");
-}
-
-fn refused(r: Refusal) {
-    io::write_all(1, b"REFUSED ");
-    io::print_decimal(1, parity::number(r));
-    match r {
-        Refusal::WrongByte { place: p } => {
-            io::write_all(1, b" at ");
-            io::print_decimal(1, p as u64);
-        }
-        _ => {}
-    }
-}
-
-fn symbol(x: u8) -> u8 {
-    match x {
-        0 => b'0',
-        1 => b'1',
-        2 => b'?',
-        _ => b'x',
-    }
-}
-
-fn show(word: &[u8]) {
-    io::write_all(1, b" ");
-    let mut i: usize = 0;
-    while i < word.len() {
-        let mut one = [0u8; 1];
-        one[0] = symbol(word[i]);
-        io::write_all(1, &one);
-        i += 1;
-    }
-}
+use samples::say::end_line;
+use samples::say::field;
+use samples::say::refused;
+use samples::say::show_word;
 
 fn mend_line(head: &[u8], words: &[u64], n: usize, m: usize, k: usize, word: &mut [u8]) {
     io::write_all(1, head);
@@ -48,14 +15,12 @@ fn mend_line(head: &[u8], words: &[u64], n: usize, m: usize, k: usize, word: &mu
             stage: s,
             recovered: b,
         } => {
-            io::write_all(1, b"stage ");
-            io::print_decimal(1, s);
-            io::write_all(1, b", recovered ");
-            io::print_decimal(1, b);
+            field(b"stage ", s);
+            field(b", recovered ", b);
         }
-        Mending::Refused(r) => refused(r),
+        Mending::Refused(r) => refused(b"REFUSED ", r),
     }
-    show(word);
+    show_word(word);
     end_line();
 }
 
@@ -75,30 +40,26 @@ fn c_stages(words: &[u64]) {
     mend_line(b"C, no codeword", words, 7, 3, 0, &mut odd);
 }
 
-fn case_c() {
-    let mut words = [0u64; 4096];
-    words[0] = 0b1111;
-    words[8] = 0b110011;
-    words[16] = 0b1000101;
-    c_stages(&words);
+fn c_refused(words: &[u64]) {
     let mut byte = [2, 2, 2, 3, 1, 1, 255];
-    mend_line(b"C, two wrong bytes", &words, 7, 3, 0, &mut byte);
+    mend_line(b"C, two wrong bytes", words, 7, 3, 0, &mut byte);
     let mut short = [2, 2, 2, 1, 1, 1];
-    mend_line(b"C, n - 1 bytes", &words, 7, 3, 0, &mut short);
-    mend_line(b"C, n = 121", &words, 121, 3, 0, &mut short);
-    mend_line(b"C, m = 2", &words, 7, 2, 0, &mut short);
-    mend_line(b"C, k = 1", &words, 7, 3, 1, &mut short);
+    mend_line(b"C, n - 1 bytes", words, 7, 3, 0, &mut short);
+    mend_line(b"C, n = 121", words, 121, 3, 0, &mut short);
+    mend_line(b"C, m = 2", words, 7, 2, 0, &mut short);
+    mend_line(b"C, k = 1", words, 7, 3, 1, &mut short);
     let few = [0u64; 4095];
     mend_line(b"4,095 words", &few, 7, 3, 0, &mut short);
 }
 
-// D, extended: {2,3,7} {4,5,7} {0,2,6} {0,1,7}.
+fn case_c() {
+    let words = samples::cases::c();
+    c_stages(&words);
+    c_refused(&words);
+}
+
 fn case_d() {
-    let mut words = [0u64; 4096];
-    words[0] = 0b10001100;
-    words[8] = 0b10110000;
-    words[16] = 0b1000101;
-    words[24] = 0b10000011;
+    let words = samples::cases::d();
     let mut w = [2, 2, 2, 1, 1, 1, 1, 2];
     mend_line(b"D, k = 1", &words, 7, 3, 1, &mut w);
     let mut byte = [9];
@@ -140,11 +101,9 @@ fn triangle() {
     mend_line(b"elimination recovers the last", &words, 4, 3, 0, &mut last);
 }
 
-// {0} {0,1}: what the first peeling refuses; and no checks at all.
+// I, which the first peeling refuses; and no checks at all.
 fn first() {
-    let mut words = [0u64; 4096];
-    words[0] = 0b1;
-    words[8] = 0b11;
+    let words = samples::cases::i();
     let mut none = [2, 1];
     mend_line(b"the first peeling refuses", &words, 2, 2, 0, &mut none);
     let free = [0u64; 4096];

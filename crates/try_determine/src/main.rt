@@ -1,54 +1,11 @@
 // Determining beside peeling, on document 01's cases, on longer gaps and on bad input. A line has the case, what the call answers (of the bits
 // recovered and left, how many are sent bits and how many added), and the word afterwards, with ? for erased and x for a byte above 2.
 use determine::Determining;
-use parity::Refusal;
 use peel::Peeling;
-ghost use mathlib.Core.Path.{_≡_};
-ghost use lib.ListN.{length};
-
-fn end_line() {
-    io::write_all(1, b"\n");
-}
-
-fn refused(r: Refusal) {
-    io::write_all(1, b"REFUSED ");
-    io::print_decimal(1, parity::number(r));
-    match r {
-        Refusal::WrongByte { place: p } => {
-            io::write_all(1, b" at ");
-            io::print_decimal(1, p as u64);
-        }
-        _ => {}
-    }
-}
-
-fn symbol(x: u8) -> u8 {
-    match x {
-        0 => b'0',
-        1 => b'1',
-        2 => b'?',
-        _ => b'x',
-    }
-}
-
-fn show(word: &[u8]) {
-    io::write_all(1, b" ");
-    let mut i: usize = 0;
-    while i < word.len() {
-        let mut one = [0u8; 1];
-        one[0] = symbol(word[i]);
-        io::write_all(1, &one);
-        i += 1;
-    }
-}
-
-// A number of sent bits, and one of added bits.
-fn sent_and_added(head: &[u8], sent: u64, added: u64) {
-    io::write_all(1, head);
-    io::print_decimal(1, sent);
-    io::write_all(1, b" ");
-    io::print_decimal(1, added);
-}
+use samples::say::end_line;
+use samples::say::recovered_and_left;
+use samples::say::refused;
+use samples::say::show_word;
 
 fn peel_line(head: &[u8], words: &[u64], n: usize, m: usize, k: usize, word: &mut [u8]) {
     io::write_all(1, head);
@@ -60,13 +17,10 @@ fn peel_line(head: &[u8], words: &[u64], n: usize, m: usize, k: usize, word: &mu
             recovered_added: b,
             left_sent: c,
             left_added: d,
-        } => {
-            sent_and_added(b"recovered ", a, b);
-            sent_and_added(b" left ", c, d);
-        }
-        Peeling::Refused(r) => refused(r),
+        } => recovered_and_left(a, b, c, d),
+        Peeling::Refused(r) => refused(b"REFUSED ", r),
     }
-    show(word);
+    show_word(word);
     end_line();
 }
 
@@ -80,13 +34,10 @@ fn determine_line(head: &[u8], words: &[u64], n: usize, m: usize, k: usize, word
             recovered_added: b,
             left_sent: c,
             left_added: d,
-        } => {
-            sent_and_added(b"recovered ", a, b);
-            sent_and_added(b" left ", c, d);
-        }
-        Determining::Refused(r) => refused(r),
+        } => recovered_and_left(a, b, c, d),
+        Determining::Refused(r) => refused(b"REFUSED ", r),
     }
-    show(word);
+    show_word(word);
     end_line();
 }
 
@@ -103,27 +54,23 @@ fn c_words(words: &[u64]) {
     determine_line(b"C, no codeword", words, 7, 3, 0, &mut odd);
 }
 
-fn case_c() {
-    let mut words = [0u64; 4096];
-    words[0] = 0b1111;
-    words[8] = 0b110011;
-    words[16] = 0b1000101;
-    c_words(&words);
+fn c_refused(words: &[u64]) {
     let mut byte = [2, 2, 2, 3, 1, 1, 255];
-    determine_line(b"C, two wrong bytes", &words, 7, 3, 0, &mut byte);
+    determine_line(b"C, two wrong bytes", words, 7, 3, 0, &mut byte);
     let mut short = [2, 2, 2, 1, 1, 1];
-    determine_line(b"C, n - 1 bytes", &words, 7, 3, 0, &mut short);
+    determine_line(b"C, n - 1 bytes", words, 7, 3, 0, &mut short);
     let few = [0u64; 4095];
     determine_line(b"4,095 words", &few, 7, 3, 0, &mut short);
 }
 
-// D, extended: {2,3,7} {4,5,7} {0,2,6} {0,1,7}.
+fn case_c() {
+    let words = samples::cases::c();
+    c_words(&words);
+    c_refused(&words);
+}
+
 fn case_d() {
-    let mut words = [0u64; 4096];
-    words[0] = 0b10001100;
-    words[8] = 0b10110000;
-    words[16] = 0b1000101;
-    words[24] = 0b10000011;
+    let words = samples::cases::d();
     let mut w = [2, 2, 2, 1, 1, 1, 1, 2];
     determine_line(b"D", &words, 7, 3, 1, &mut w);
     let mut all = [2, 2, 2, 2, 2, 2, 2, 2];
@@ -150,77 +97,28 @@ fn no_codeword() {
     determine_line(b"no checks", &free, 2, 0, 0, &mut f);
 }
 
-// L: check c contains bit (c + e) mod 23 for e in 0, 1, 2, 3, 4, 7, 10, 12.
-fn fill_l(words: &mut [u64])
-    requires { ⌜ length (now words) ≡ 4096 ⌝ }
-{
-    let mut x: u64 = 0b1010010011111;
-    for c in 0..23 {
-        words[c * 8] = x;
-        x = ((x << 1) | (x >> 22)) & 0x7fffff;
-    }
+// A codeword of L in which a gap of eleven bits is erased,
+fn l_eleven(words: &[u64]) {
+    let mut w =
+        *b"\x01\x00\x01\x01\x02\x02\x02\x02\x02\x02\x02\x02\x02\x02\x02\x00\x00\x00\x01\x00\x01\x01\x00";
+    peel_line(b"L, eleven", words, 23, 23, 0, &mut w);
+    determine_line(b"L, eleven", words, 23, 23, 0, &mut w);
 }
 
-// A codeword of L in which a gap of eleven bits is erased, and one of twelve.
+// and one of twelve.
+fn l_twelve(words: &[u64]) {
+    let mut w =
+        *b"\x01\x00\x01\x01\x02\x02\x02\x02\x02\x02\x02\x02\x02\x02\x02\x02\x00\x00\x01\x00\x01\x01\x00";
+    peel_line(b"L, twelve", words, 23, 23, 0, &mut w);
+    determine_line(b"L, twelve", words, 23, 23, 0, &mut w);
+    w[0] = 0;
+    determine_line(b"L, twelve and a false bit", words, 23, 23, 0, &mut w);
+}
+
 fn case_l() {
-    let mut words = [0u64; 4096];
-    fill_l(&mut words);
-    let mut eleven = [
-        1,
-        0,
-        1,
-        1,
-        2,
-        2,
-        2,
-        2,
-        2,
-        2,
-        2,
-        2,
-        2,
-        2,
-        2,
-        0,
-        0,
-        0,
-        1,
-        0,
-        1,
-        1,
-        0,
-    ];
-    peel_line(b"L, eleven", &words, 23, 23, 0, &mut eleven);
-    determine_line(b"L, eleven", &words, 23, 23, 0, &mut eleven);
-    let mut twelve = [
-        1,
-        0,
-        1,
-        1,
-        2,
-        2,
-        2,
-        2,
-        2,
-        2,
-        2,
-        2,
-        2,
-        2,
-        2,
-        2,
-        0,
-        0,
-        1,
-        0,
-        1,
-        1,
-        0,
-    ];
-    peel_line(b"L, twelve", &words, 23, 23, 0, &mut twelve);
-    determine_line(b"L, twelve", &words, 23, 23, 0, &mut twelve);
-    twelve[0] = 0;
-    determine_line(b"L, twelve and a false bit", &words, 23, 23, 0, &mut twelve);
+    let words = samples::cases::l();
+    l_eleven(&words);
+    l_twelve(&words);
 }
 
 fn main() {

@@ -3,31 +3,25 @@
 use cycles::Counting;
 use encode::Ranking;
 use house::Copying;
+use samples::say::end_line;
+use samples::say::field;
+use samples::say::refused;
+use samples::words::are_ones;
+use samples::words::ones;
 use split::Orthogonalising;
-ghost use mathlib.Core.Path.{_≡_};
 ghost use Prim.Native.Nat.{_≤_};
-ghost use lib.ListN.{length};
-
-fn field(head: &[u8], x: u64) {
-    io::write_all(1, head);
-    io::print_decimal(1, x);
-}
-
-fn end() {
-    io::write_all(1, b"\n");
-}
 
 fn show_rank(words: &[u64], n: usize, m: usize) {
     match encode::rank(words, n, m, 0) {
         Ranking::Rank { rank } => field(b", rank ", rank),
-        Ranking::Refused(r) => field(b", refused ", parity::number(r)),
+        Ranking::Refused(r) => refused(b", refused ", r),
     }
 }
 
 fn show_count(words: &[u64], n: usize, m: usize, k: usize) {
     match cycles::count(words, n, m, k) {
         Counting::Cycles(count) => field(b", count ", count),
-        Counting::Refused(r) => field(b", refused ", parity::number(r)),
+        Counting::Refused(r) => refused(b", refused ", r),
     }
 }
 
@@ -46,7 +40,7 @@ fn show_orthogonalise(words: &mut [u64], n: usize, m: usize) -> usize {
             k
         }
         Orthogonalising::Refused(r) => {
-            field(b", refused ", parity::number(r));
+            refused(b", refused ", r);
             0
         }
     }
@@ -68,17 +62,8 @@ fn show_code(name: usize, words: &mut [u64]) {
     io::write_all(1, b": ");
     match house::copy(name, words) {
         Copying::Copied { n, m } => show_matrix(words, n, m),
-        Copying::Refused(r) => field(b"refused ", parity::number(r)),
+        Copying::Refused(r) => refused(b"refused ", r),
     }
-}
-
-// Whether all words are ones, as they were.
-fn are_ones(words: &[u64]) -> bool {
-    let mut acc: u64 = 0;
-    for i in 0..words.len() {
-        acc = acc | !words[i];
-    }
-    acc == 0
 }
 
 fn show(name: usize, words: &mut [u64]) {
@@ -86,13 +71,7 @@ fn show(name: usize, words: &mut [u64]) {
     if are_ones(words) {
         io::write_all(1, b", words as they were");
     }
-    end();
-}
-
-fn ones() -> [u64; 4097]
-    ensures { λ r. ⌜ 4097 ≡ length r ⌝ }
-{
-    [0xffff_ffff_ffff_ffff; 4097]
+    end_line();
 }
 
 // The name, with so many words that are all ones.

@@ -1,14 +1,10 @@
 // Joining document 01's matrices, a matrix with itself, matrices that come to 120 checks and to more, and bad input. The third words are ones before. A
 // line has the pair, the number of checks and the two words in use of the first seven, or the refusal, and a digest of the third words afterwards.
 use join::Joining;
-ghost use mathlib.Core.Path.{_≡_};
+use samples::say::end_line;
+use samples::say::field;
+use samples::say::refused;
 ghost use Prim.Native.Nat.{_≤_, _<_};
-ghost use lib.ListN.{length};
-
-fn field(head: &[u8], x: u64) {
-    io::write_all(1, head);
-    io::print_decimal(1, x);
-}
 
 fn show_check(words: &[u64], c: usize) {
     let at = c % 512 * 8;
@@ -51,16 +47,10 @@ fn show(
             field(b": checks ", checks as u64);
             show_checks(words3, checks);
         }
-        Joining::Refused(r) => field(b": refused ", parity::number(r)),
+        Joining::Refused(r) => refused(b": refused ", r),
     }
     field(b", digest ", digest(words3));
-    io::write_all(1, b"\n");
-}
-
-fn ones() -> [u64; 4097]
-    ensures { λ r. ⌜ 4097 ≡ length r ⌝ }
-{
-    [0xffff_ffff_ffff_ffff; 4097]
+    end_line();
 }
 
 // The pair, with so many third words.
@@ -77,7 +67,7 @@ fn show_with(
 )
     requires { ⌜ count ≤ 4097 ⌝ }
 {
-    let mut words3 = ones();
+    let mut words3 = samples::words::ones();
     show(words1, n1, m1, k1, words2, n2, m2, k2, &mut words3[..count]);
 }
 
@@ -87,33 +77,21 @@ fn given(head: &[u8], words1: &[u64], n1: usize, m1: usize, words2: &[u64], n2: 
     show_with(words1, n1, m1, 0, words2, n2, m2, 0, 4096);
 }
 
-// A: {0,3,4,6} {1,3,5,6} {2,4,5,6}; C: {0,1,2,3} {0,1,4,5} {0,2,6}.
 fn a_and_c() {
-    let mut a = [0u64; 4096];
-    a[0] = 0b1011001;
-    a[8] = 0b1101010;
-    a[16] = 0b1110100;
-    let mut c = [0u64; 4096];
-    c[0] = 0b1111;
-    c[8] = 0b110011;
-    c[16] = 0b1000101;
+    let a = samples::cases::a();
+    let c = samples::cases::c();
     given(b"A and C", &a, 7, 3, &c, 7, 3);
     given(b"C and A", &c, 7, 3, &a, 7, 3);
     given(b"C and C", &c, 7, 3, &c, 7, 3);
 }
 
-// C and no checks; E, {0,1,2} twice, and no checks.
+// C and no checks; E with itself and no checks.
 fn none_and_twice() {
     let none = [0u64; 4096];
-    let mut c = [0u64; 4096];
-    c[0] = 0b1111;
-    c[8] = 0b110011;
-    c[16] = 0b1000101;
+    let c = samples::cases::c();
     given(b"C and no check", &c, 7, 3, &none, 7, 0);
     given(b"no check and C", &none, 7, 0, &c, 7, 3);
-    let mut e = [0u64; 4096];
-    e[0] = 0b111;
-    e[8] = 0b111;
+    let e = samples::cases::e();
     given(b"E and E", &e, 3, 2, &e, 3, 2);
     given(b"no check and E", &none, 3, 0, &e, 3, 2);
     given(b"no check and no check", &none, 1, 0, &none, 1, 0);
@@ -181,19 +159,18 @@ fn line(head: &[u8], words1: &[u64], n1: usize, k1: usize, words2: &[u64], n2: u
     show_with(words1, n1, 3, k1, words2, n2, 3, k2, 4096);
 }
 
-// B, which is A orthogonalised, and the same with a bit less in its added check.
+// B, which is A orthogonalised.
 fn extended() {
-    let mut a = [0u64; 4096];
-    a[0] = 0b1011001;
-    a[8] = 0b1101010;
-    a[16] = 0b1110100;
-    let mut b = [0u64; 4096];
-    b[0] = 0b10010001;
-    b[8] = 0b10100010;
-    b[16] = 0b1110100;
-    b[24] = 0b11001000;
+    let a = samples::cases::a();
+    let b = samples::cases::b();
     line(b"B and A", &b, 7, 1, &a, 7, 0);
     line(b"A with n 8, and B", &a, 8, 0, &b, 7, 1);
+}
+
+// B with a bit less in its added check.
+fn rule_a_broken() {
+    let a = samples::cases::a();
+    let mut b = samples::cases::b();
     b[24] = 0b1001000;
     line(b"rule A broken, and A", &b, 7, 1, &a, 7, 0);
     line(b"rule A broken, and A with n 0", &b, 7, 1, &a, 0, 0);
@@ -219,5 +196,6 @@ fn main() {
     to_120();
     different_lengths();
     extended();
+    rule_a_broken();
     lengths();
 }

@@ -1,56 +1,14 @@
 // Peeling, verifying and testing sets on document 01's cases and on bad input. A line has the case, what the call answers (of the bits
 // recovered and left, how many are sent bits and how many added), and after peeling the word, with ? for erased and x for a byte above 2.
-use parity::Refusal;
 use peel::Peeling;
+use samples::say::end_line;
+use samples::say::field;
+use samples::say::recovered_and_left;
+use samples::say::refused;
+use samples::say::show_word;
 use word::Stopping;
 use word::Verifying;
-ghost use mathlib.Core.Path.{_≡_};
 ghost use Prim.Native.Nat.{_<_, _≤_};
-ghost use lib.ListN.{length};
-
-fn end_line() {
-    io::write_all(1, b"\n");
-}
-
-fn refused(r: Refusal) {
-    io::write_all(1, b"REFUSED ");
-    io::print_decimal(1, parity::number(r));
-    match r {
-        Refusal::WrongByte { place: p } => {
-            io::write_all(1, b" at ");
-            io::print_decimal(1, p as u64);
-        }
-        _ => {}
-    }
-}
-
-fn symbol(x: u8) -> u8 {
-    match x {
-        0 => b'0',
-        1 => b'1',
-        2 => b'?',
-        _ => b'x',
-    }
-}
-
-fn show(word: &[u8]) {
-    io::write_all(1, b" ");
-    let mut i: usize = 0;
-    while i < word.len() {
-        let mut one = [0u8; 1];
-        one[0] = symbol(word[i]);
-        io::write_all(1, &one);
-        i += 1;
-    }
-}
-
-// A number of sent bits, and one of added bits.
-fn sent_and_added(head: &[u8], sent: u64, added: u64) {
-    io::write_all(1, head);
-    io::print_decimal(1, sent);
-    io::write_all(1, b" ");
-    io::print_decimal(1, added);
-}
 
 fn peel_line(head: &[u8], words: &[u64], n: usize, m: usize, k: usize, word: &mut [u8]) {
     io::write_all(1, head);
@@ -61,13 +19,10 @@ fn peel_line(head: &[u8], words: &[u64], n: usize, m: usize, k: usize, word: &mu
             recovered_added: b,
             left_sent: c,
             left_added: d,
-        } => {
-            sent_and_added(b"recovered ", a, b);
-            sent_and_added(b" left ", c, d);
-        }
-        Peeling::Refused(r) => refused(r),
+        } => recovered_and_left(a, b, c, d),
+        Peeling::Refused(r) => refused(b"REFUSED ", r),
     }
-    show(word);
+    show_word(word);
     end_line();
 }
 
@@ -81,7 +36,7 @@ fn verify_line(head: &[u8], words: &[u64], n: usize, m: usize, k: usize, word: &
         Verifying::No => {
             io::write_all(1, b"no");
         }
-        Verifying::Refused(r) => refused(r),
+        Verifying::Refused(r) => refused(b"REFUSED ", r),
     }
     end_line();
 }
@@ -96,7 +51,7 @@ fn stopping_line(head: &[u8], words: &[u64], n: usize, m: usize, k: usize, set: 
         Stopping::No => {
             io::write_all(1, b"no");
         }
-        Stopping::Refused(r) => refused(r),
+        Stopping::Refused(r) => refused(b"REFUSED ", r),
     }
     end_line();
 }
@@ -157,21 +112,14 @@ fn c_sets(words: &[u64]) {
 }
 
 fn case_c() {
-    let mut words = [0u64; 4096];
-    words[0] = 0b1111;
-    words[8] = 0b110011;
-    words[16] = 0b1000101;
+    let words = samples::cases::c();
     c_words(&words);
     c_contradictions(&words);
     c_sets(&words);
 }
 
 fn case_d() {
-    let mut words = [0u64; 4096];
-    words[0] = 0b10001100;
-    words[8] = 0b10110000;
-    words[16] = 0b1000101;
-    words[24] = 0b10000011;
+    let words = samples::cases::d();
     let mut w = [2, 2, 2, 1, 1, 1, 1, 2];
     peel_and_verify(b"D: ", b"D, its word: ", &words, 7, 3, 1, &mut w);
     d_bytes(&words);
@@ -235,9 +183,7 @@ fn case_f() {
 }
 
 fn case_i() {
-    let mut words = [0u64; 4096];
-    words[0] = 0b1;
-    words[8] = 0b11;
+    let words = samples::cases::i();
     let mut i = [2, 1];
     peel_line(b"I: ", &words, 2, 2, 0, &mut i);
     let mut j = [2, 2];
@@ -275,42 +221,8 @@ fn word_edge() {
 }
 
 // A codeword of L.
-const CODEWORD: [u8; 23] = [
-    1,
-    0,
-    1,
-    1,
-    0,
-    0,
-    1,
-    0,
-    1,
-    1,
-    0,
-    1,
-    1,
-    0,
-    1,
-    0,
-    0,
-    0,
-    1,
-    0,
-    1,
-    1,
-    0,
-];
-
-// L: check c contains bit (c + e) mod 23 for e in 0, 1, 2, 3, 4, 7, 10, 12.
-fn fill_l(words: &mut [u64])
-    requires { ⌜ length (now words) ≡ 4096 ⌝ }
-{
-    let mut x: u64 = 0b1010010011111;
-    for c in 0..23 {
-        words[c * 8] = x;
-        x = ((x << 1) | (x >> 22)) & 0x7fffff;
-    }
-}
+const CODEWORD: [u8; 23] =
+    *b"\x01\x00\x01\x01\x00\x00\x01\x00\x01\x01\x00\x01\x01\x00\x01\x00\x00\x00\x01\x00\x01\x01\x00";
 
 // Whether the codeword comes back with bits a and b erased.
 fn comes_back(words: &[u64], a: usize, b: usize) -> bool
@@ -345,22 +257,24 @@ fn pairs_back(words: &[u64], a: usize) -> u64
     count
 }
 
-// A line for each bit: with it alone, and with each bit above it, erased.
+// With bit a alone, and with each bit above it, erased.
+fn l_line(words: &[u64], a: usize)
+    requires { ⌜ a < 23 ⌝ }
+{
+    field(b"L, bit ", a as u64);
+    field(b" alone and with each above: ", pairs_back(words, a));
+    field(b" of ", (23 - a) as u64);
+    end_line();
+}
+
 fn l_pairs(words: &[u64]) {
     for a in 0..23 {
-        io::write_all(1, b"L, bit ");
-        io::print_decimal(1, a as u64);
-        io::write_all(1, b" alone and with each above: ");
-        io::print_decimal(1, pairs_back(words, a));
-        io::write_all(1, b" of ");
-        io::print_decimal(1, (23 - a) as u64);
-        end_line();
+        l_line(words, a);
     }
 }
 
 fn case_l() {
-    let mut words = [0u64; 4096];
-    fill_l(&mut words);
+    let words = samples::cases::l();
     verify_line(b"L, a codeword: ", &words, 23, 23, 0, &CODEWORD);
     let mut w = CODEWORD;
     w[22] = 2;

@@ -1,33 +1,10 @@
 // Ranges of one check's min-sum answer, and bad input. A line has the case, and what the call answers: sure 0, or the eight hexadecimal digits of low
 // and high.
 use min_sum_range::Ranging;
-use parity::Refusal;
+use samples::say::end_line;
+use samples::say::refused;
+use samples::say::show_float;
 use soft::floats::infinity;
-
-fn place(p: usize) {
-    io::write_all(1, b" at ");
-    io::print_decimal(1, p as u64);
-}
-
-fn refused(r: Refusal) {
-    io::write_all(1, b"REFUSED ");
-    io::print_decimal(1, parity::number(r));
-    match r {
-        Refusal::WrongFloat { place: p } => place(p),
-        Refusal::LowAboveHigh { place: p } => place(p),
-        _ => {}
-    }
-}
-
-// The bits of a float of a slice, unless it is no number.
-fn hex(xs: &[f32], i: usize) {
-    if i < xs.len() {
-        let x = xs[i];
-        if x == x {
-            io::print_hex(1, f32::to_bits(x) as u64, 8);
-        }
-    }
-}
 
 fn line(head: &[u8], lows: &[f32], highs: &[f32]) {
     io::write_all(1, head);
@@ -37,14 +14,13 @@ fn line(head: &[u8], lows: &[f32], highs: &[f32]) {
             io::write_all(1, b"sure 0");
         }
         Ranging::Within(e) => {
-            let ends = [e.low, e.high];
-            hex(&ends, 0);
+            show_float(e.low);
             io::write_all(1, b" to ");
-            hex(&ends, 1);
+            show_float(e.high);
         }
-        Ranging::Refused(r) => refused(r),
+        Ranging::Refused(r) => refused(b"REFUSED ", r),
     }
-    io::write_all(1, b"\n");
+    end_line();
 }
 
 fn few_values() {

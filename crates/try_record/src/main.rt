@@ -3,16 +3,16 @@ mod build;
 mod same;
 mod say;
 
-use crate::build::circulant;
 use crate::build::full;
 use crate::same::begins;
-use crate::same::left;
-use crate::same::same_words;
 use crate::say::loads;
-use crate::say::number;
 use crate::say::place;
 use crate::say::writes;
 use record::Loading;
+use samples::say::end_line;
+use samples::say::field;
+use samples::words::are_ones;
+use samples::words::same;
 use writing::Writing;
 ghost use mathlib.Core.Path.{_≡_};
 ghost use Prim.Native.Nat.{_<_, _≤_};
@@ -223,10 +223,10 @@ fn load_case(head: &[u8], source: &[u32]) {
     io::write_all(1, head);
     let r = record::load(source, &mut words);
     loads(r);
-    if left(&words) {
+    if are_ones(&words) {
         io::write_all(1, b", words left");
     }
-    io::write_all(1, b"\n");
+    end_line();
 }
 
 // Loads a record of any form, writes its matrix and says whether that gives the record due.
@@ -238,7 +238,7 @@ fn round_trip(head: &[u8], source: &[u32], due: &[u32]) {
     if let Loading::Loaded { n, m, k } = r {
         write_back(due, &words, n, m, k);
     }
-    io::write_all(1, b"\n");
+    end_line();
 }
 
 // Writes a matrix and compares the record with the one due.
@@ -268,7 +268,7 @@ fn write_case(head: &[u8], words: &[u64], n: usize, m: usize, k: usize) {
     if target[14522] == 0xffff_ffff {
         io::write_all(1, b", the last word left");
     }
-    io::write_all(1, b"\n");
+    end_line();
 }
 
 // Loads the first `used` words of a record and compares the matrix's words with those that were written.
@@ -279,10 +279,8 @@ fn load_back(target: &[u32], used: usize, words: &[u64]) {
     }
     io::write_all(1, b", ");
     loads(record::load(&target[..used], &mut back));
-    if words.len() == 4096 {
-        if same_words(words, &back) {
-            io::write_all(1, b", the same words");
-        }
+    if same(words, &back) {
+        io::write_all(1, b", the same words");
     }
 }
 
@@ -427,7 +425,7 @@ fn short_thirds() {
     let mut alone = [0u64; 4096];
     alone[0] = 7;
     writes(record::write(&alone, 2, 0, 1, &mut none));
-    io::write_all(1, b"\n");
+    end_line();
 }
 
 // The full record, with check 119 numbered otherwise, and with kind 1 in its first word.
@@ -476,10 +474,10 @@ fn replaced_at(second: bool, at: usize)
 fn replaced_line(second: bool, at: usize)
     requires { ⌜ at < 16 ⌝ }
 {
-    number(b"another word at ", at as u64);
+    field(b"another word at ", at as u64);
     io::write_all(1, b":");
     replaced_at(second, at);
-    io::write_all(1, b"\n");
+    end_line();
 }
 
 fn all_replaced(second: bool) {
@@ -509,7 +507,7 @@ fn lengths() {
     let mut words = [0u64; 4095];
     io::write_all(1, b"into 4,095 words: ");
     loads(record::load(&[0u32; 1], &mut words));
-    io::write_all(1, b"\n");
+    end_line();
     write_case(b"of 4,095 words: ", &words, 1, 0, 0);
 }
 
@@ -524,7 +522,7 @@ fn rooms(words: &[u64]) {
     let mut exact = [0u32; 14522];
     io::write_all(1, b"\nexact: ");
     writes(record::write(words, 120, 120, 0, &mut exact));
-    io::write_all(1, b"\n");
+    end_line();
     load_case(b"14,522 words: ", &exact);
 }
 
@@ -544,7 +542,7 @@ fn with_word(head: &[u8], w: u64, n: usize, m: usize, k: usize) {
 
 fn main() {
     bench();
-    let l = circulant();
+    let l = samples::cases::l();
     write_case(b"L: ", &l, 23, 23, 0);
     let all = full();
     write_case(b"full: ", &all, 120, 120, 0);
@@ -563,7 +561,7 @@ fn main() {
     all_cut(&C);
     io::write_all(1, b"\nC, second form, cut:");
     all_cut(&C2);
-    io::write_all(1, b"\n");
+    end_line();
     lengths();
     with_word(b"n = 121 to write: ", 0, 121, 0, 0);
     with_word(b"a one outside: ", 2, 1, 1, 0);

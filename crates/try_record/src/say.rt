@@ -1,38 +1,25 @@
 // Replies as lines.
 use parity::Refusal;
 use record::Loading;
+use samples::say::field;
+use samples::say::refused;
 use writing::Writing;
-
-pub fn number(head: &[u8], x: u64) {
-    io::write_all(1, head);
-    io::print_decimal(1, x);
-}
-
-// The number of a refusal, and its place or the words needed.
-fn refused(why: Refusal) {
-    number(b"refused ", parity::number(why));
-    match why {
-        Refusal::FaultyWord { place } => number(b" at ", place as u64),
-        Refusal::RecordTooShort { needed } => number(b", needs ", needed as u64),
-        _ => {}
-    }
-}
 
 pub fn loads(r: Loading) {
     match r {
         Loading::Loaded { n, m, k } => {
-            number(b"n = ", n as u64);
-            number(b", m = ", m as u64);
-            number(b", k = ", k as u64);
+            field(b"n = ", n as u64);
+            field(b", m = ", m as u64);
+            field(b", k = ", k as u64);
         }
-        Loading::Refused(why) => refused(why),
+        Loading::Refused(why) => refused(b"refused ", why),
     }
 }
 
 pub fn writes(w: Writing) {
     match w {
-        Writing::Written { used } => number(b"words ", used as u64),
-        Writing::Refused(why) => refused(why),
+        Writing::Written { used } => field(b"words ", used as u64),
+        Writing::Refused(why) => refused(b"refused ", why),
     }
 }
 
@@ -46,7 +33,7 @@ pub fn place(r: Loading) {
             let Refusal::FaultyWord { place } = why else {
                 return;
             };
-            number(b" ", place as u64);
+            field(b" ", place as u64);
         }
     }
 }

@@ -2,35 +2,19 @@
 // several lengths whose places held 900, and bad input: such a line has the case and the size, how many sets there are, or the number of the
 // refusal and the places needed, and what stands in the slice.
 use house::Copying;
-use parity::Refusal;
+use samples::say::end_line;
+use samples::say::field;
+use samples::say::refused;
 use split::Orthogonalising;
 use stopping_sets::Listing;
 ghost use mathlib.Core.Path.{_≡_};
 ghost use Prim.Native.Nat.{_≤_};
 ghost use lib.ListN.{length};
 
-fn field(head: &[u8], x: u64) {
-    io::write_all(1, head);
-    io::print_decimal(1, x);
-}
-
-fn end() {
-    io::write_all(1, b"\n");
-}
-
-// The number of a refusal, and the places needed.
-fn refused(r: Refusal) {
-    field(b" refused ", parity::number(r));
-    match r {
-        Refusal::SetsTooShort { needed } => field(b", needs ", needed as u64),
-        _ => {}
-    }
-}
-
 fn answered(listing: Listing) {
     match listing {
         Listing::Listed { sets } => field(b" ", sets as u64),
-        Listing::Refused(r) => refused(r),
+        Listing::Refused(r) => refused(b" refused ", r),
     }
 }
 
@@ -41,7 +25,7 @@ fn numbers(head: &[u8], words: &[u64], n: usize, m: usize, k: usize, sets: &mut 
     answered(stopping_sets::list(words, n, m, k, 2, sets));
     answered(stopping_sets::list(words, n, m, k, 3, sets));
     answered(stopping_sets::list(words, n, m, k, 4, sets));
-    end();
+    end_line();
 }
 
 // Orthogonalises, and answers k.
@@ -54,7 +38,7 @@ fn orthogonalise(words: &mut [u64], n: usize, m: usize) -> usize {
             held: _,
         } => k,
         Orthogonalising::Refused(r) => {
-            refused(r);
+            refused(b" refused ", r);
             0
         }
     }
@@ -73,30 +57,14 @@ fn house_code(head: &[u8], name: usize) {
     let mut words = [0u64; 4096];
     match house::copy(name, &mut words) {
         Copying::Copied { n, m } => both(head, &mut words, n, m),
-        Copying::Refused(r) => refused(r),
+        Copying::Refused(r) => refused(b" refused ", r),
     }
 }
 
-fn case_a() -> [u64; 4096] {
-    let mut words = [0u64; 4096];
-    words[0] = 0b1011001;
-    words[8] = 0b1101010;
-    words[16] = 0b1110100;
-    words
-}
-
-fn case_c() -> [u64; 4096] {
-    let mut words = [0u64; 4096];
-    words[0] = 0b1111;
-    words[8] = 0b110011;
-    words[16] = 0b1000101;
-    words
-}
-
 fn known_numbers() {
-    let mut a = case_a();
+    let mut a = samples::cases::a();
     both(b"A", &mut a, 7, 3);
-    let mut c = case_c();
+    let mut c = samples::cases::c();
     both(b"C", &mut c, 7, 3);
     house_code(b"Hamming 15", 3);
     house_code(b"Hamming 31", 4);
@@ -118,7 +86,7 @@ fn line(head: &[u8], words: &[u64], n: usize, m: usize, k: usize, t: usize, sets
     answered(stopping_sets::list(words, n, m, k, t, sets));
     io::write_all(1, b" |");
     show(sets);
-    end();
+    end_line();
 }
 
 fn places() -> [u16; 32]
@@ -176,7 +144,7 @@ fn added_check() {
 
 fn main() {
     known_numbers();
-    let c = case_c();
+    let c = samples::cases::c();
     lengths(&c);
     sizes(&c);
     no_check();

@@ -1,34 +1,11 @@
 // Min-sum rounds on words of sure, soft and erased bits, and bad input. A line has the case, what the call answers, and the bits afterwards: 0 or 1,
 // ? for erased, x for a byte above 3, and of a soft bit the eight hexadecimal digits of its float.
 use min_sum::Decoding;
-use parity::Refusal;
+use samples::say::end_line;
+use samples::say::field;
+use samples::say::refused;
+use samples::say::show_float;
 use soft::floats::infinity;
-ghost use mathlib.Core.Path.{_≡_};
-ghost use lib.ListN.{length};
-
-fn refused(r: Refusal) {
-    io::write_all(1, b"REFUSED ");
-    io::print_decimal(1, parity::number(r));
-    match r {
-        Refusal::WrongByte { place: p } => {
-            io::write_all(1, b" at ");
-            io::print_decimal(1, p as u64);
-        }
-        Refusal::WrongFloat { place: p } => {
-            io::write_all(1, b" at ");
-            io::print_decimal(1, p as u64);
-        }
-        _ => {}
-    }
-}
-
-// The bits of a float, and of one that is not a number those of the quiet NaN.
-fn bits_of(x: f32) -> u32 {
-    if x == x {
-        return f32::to_bits(x);
-    }
-    0x7fc0_0000
-}
 
 // One bit: its byte, and its float if it is soft.
 fn symbol(byte: u8, float: f32) {
@@ -44,7 +21,7 @@ fn symbol(byte: u8, float: f32) {
         }
         3 => {
             io::write_all(1, b" ");
-            io::print_hex(1, bits_of(float) as u64, 8);
+            show_float(float);
         }
         _ => {
             io::write_all(1, b" x");
@@ -77,8 +54,7 @@ fn line(
     floats: &mut [f32],
 ) {
     io::write_all(1, head);
-    io::write_all(1, b", rounds ");
-    io::print_decimal(1, rounds as u64);
+    field(b", rounds ", rounds as u64);
     io::write_all(1, b": ");
     let mut bytes = io::large_buffer();
     let mut values = no_floats();
@@ -97,10 +73,10 @@ fn line(
         Decoding::Made => {
             io::write_all(1, b"made");
         }
-        Decoding::Refused(r) => refused(r),
+        Decoding::Refused(r) => refused(b"REFUSED ", r),
     }
     show(word, floats);
-    io::write_all(1, b"\n");
+    end_line();
 }
 
 fn a_words(words: &[u64]) {
@@ -158,21 +134,14 @@ fn a_refused(words: &[u64]) {
 }
 
 fn case_a() {
-    let mut words = [0u64; 4096];
-    words[0] = 0b1011001;
-    words[8] = 0b1101010;
-    words[16] = 0b1110100;
+    let words = samples::cases::a();
     a_words(&words);
     a_refused(&words);
 }
 
-// D, extended: {2,3,7} {4,5,7} {0,2,6} {0,1,7}; its word ends as peeling ends.
+// D, whose word ends as peeling ends.
 fn case_d() {
-    let mut words = [0u64; 4096];
-    words[0] = 0b10001100;
-    words[8] = 0b10110000;
-    words[16] = 0b1000101;
-    words[24] = 0b10000011;
+    let words = samples::cases::d();
     let mut w = [2, 2, 2, 1, 1, 1, 1, 2];
     let mut f = [-1.0f32; 8];
     line(b"D, sure and erased", &words, 7, 3, 1, 512, &mut w, &mut f);
@@ -195,21 +164,9 @@ fn few_bits() {
     line(b"no checks", &none, 2, 0, 0, 512, &mut v, &mut g);
 }
 
-// L: check c contains bit (c + e) mod 23 for e in 0, 1, 2, 3, 4, 7, 10, 12.
-fn fill_l(words: &mut [u64])
-    requires { ⌜ length (now words) ≡ 4096 ⌝ }
-{
-    let mut x: u64 = 0b1010010011111;
-    for c in 0..23 {
-        words[c * 8] = x;
-        x = ((x << 1) | (x >> 22)) & 0x7fffff;
-    }
-}
-
 // Soft bits near the zero codeword of L, three of them false.
 fn case_l() {
-    let mut words = [0u64; 4096];
-    fill_l(&mut words);
+    let words = samples::cases::l();
     let mut w = [3u8; 23];
     let mut f = [1.25f32; 23];
     f[3] = -0.5;

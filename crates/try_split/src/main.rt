@@ -5,6 +5,10 @@ use cycles::Sharing;
 use parity::Bit;
 use parity::Check;
 use parity::Holders;
+use samples::say::end_line;
+use samples::say::field;
+use samples::say::refused;
+use samples::words::same;
 use split::Orthogonalising;
 use split::Splitting;
 use split::TakingBack;
@@ -12,21 +16,12 @@ ghost use mathlib.Core.Path.{_≡_};
 ghost use Prim.Native.Nat.{_≤_};
 ghost use lib.ListN.{length};
 
-fn field(head: &[u8], x: u64) {
-    io::write_all(1, head);
-    io::print_decimal(1, x);
-}
-
-fn end() {
-    io::write_all(1, b"\n");
-}
-
 fn show_count(words: &[u64], n: usize, m: usize, k: usize) {
     match cycles::count(words, n, m, k) {
         Counting::Cycles(c) => field(b"count ", c),
-        Counting::Refused(r) => field(b"refused ", parity::number(r)),
+        Counting::Refused(r) => refused(b"refused ", r),
     }
-    end();
+    end_line();
 }
 
 // The lowest and the highest check that hold a pair.
@@ -48,9 +43,9 @@ fn show_share(words: &[u64], n: usize, m: usize, k: usize, u: usize, v: usize) {
             field(b"share ", share);
             show_held(held);
         }
-        Sharing::Refused(r) => field(b"refused ", parity::number(r)),
+        Sharing::Refused(r) => refused(b"refused ", r),
     }
-    end();
+    end_line();
 }
 
 fn show_split(words: &mut [u64], n: usize, m: usize, k: usize, u: usize, v: usize) {
@@ -60,9 +55,9 @@ fn show_split(words: &mut [u64], n: usize, m: usize, k: usize, u: usize, v: usiz
             field(b", k ", k as u64);
             show_held(held);
         }
-        Splitting::Refused(r) => field(b"refused ", parity::number(r)),
+        Splitting::Refused(r) => refused(b"refused ", r),
     }
-    end();
+    end_line();
 }
 
 fn show_take_back(words: &mut [u64], n: usize, m: usize, k: usize) {
@@ -71,9 +66,9 @@ fn show_take_back(words: &mut [u64], n: usize, m: usize, k: usize) {
             field(b"taken back, s ", share);
             field(b", k ", k as u64);
         }
-        TakingBack::Refused(r) => field(b"refused ", parity::number(r)),
+        TakingBack::Refused(r) => refused(b"refused ", r),
     }
-    end();
+    end_line();
 }
 
 fn show_result(splits: u64, sum: u64, k: usize, held: Holders) {
@@ -81,7 +76,7 @@ fn show_result(splits: u64, sum: u64, k: usize, held: Holders) {
     field(b", sum ", sum);
     field(b", k ", k as u64);
     show_held(held);
-    end();
+    end_line();
 }
 
 // Orthogonalises, and answers the k that it came to.
@@ -97,8 +92,8 @@ fn show_orthogonalise(words: &mut [u64], n: usize, m: usize, k: usize) -> usize 
             k
         }
         Orthogonalising::Refused(r) => {
-            field(b"refused ", parity::number(r));
-            end();
+            refused(b"refused ", r);
+            end_line();
             if let parity::Refusal::NoRoomLeft {
                 splits,
                 sum,
@@ -127,16 +122,12 @@ fn show_checks(words: &[u64]) {
     show_check(words, 1);
     show_check(words, 2);
     show_check(words, 3);
-    end();
+    end_line();
 }
 
-// A: {0,3,4,6} {1,3,5,6} {2,4,5,6}.
 fn case_a() {
     io::write_all(1, b"A\n");
-    let mut words = [0u64; 4096];
-    words[0] = 0b1011001;
-    words[8] = 0b1101010;
-    words[16] = 0b1110100;
+    let mut words = samples::cases::a();
     show_count(&words, 7, 3, 0);
     show_share(&words, 7, 3, 0, 6, 3);
     let k = show_orthogonalise(&mut words, 7, 3, 0);
@@ -144,13 +135,9 @@ fn case_a() {
     show_count(&words, 7, 3, k);
 }
 
-// C: {0,1,2,3} {0,1,4,5} {0,2,6}.
 fn case_c() {
     io::write_all(1, b"C\n");
-    let mut words = [0u64; 4096];
-    words[0] = 0b1111;
-    words[8] = 0b110011;
-    words[16] = 0b1000101;
+    let mut words = samples::cases::c();
     show_count(&words, 7, 3, 0);
     show_split(&mut words, 7, 3, 0, 0, 3);
     show_split(&mut words, 7, 3, 0, 4, 4);
@@ -158,12 +145,9 @@ fn case_c() {
     show_checks(&words);
 }
 
-// E: {0,1,2} twice.
 fn case_e() {
     io::write_all(1, b"E\n");
-    let mut words = [0u64; 4096];
-    words[0] = 0b111;
-    words[8] = 0b111;
+    let mut words = samples::cases::e();
     show_count(&words, 3, 2, 0);
     let k = show_orthogonalise(&mut words, 3, 2, 0);
     show_checks(&words);
@@ -173,9 +157,7 @@ fn case_e() {
 // E split by hand, 0 with 1 and then 2 with the new bit, looked at, and taken back to E.
 fn case_e_by_hand() {
     io::write_all(1, b"E by hand\n");
-    let mut words = [0u64; 4096];
-    words[0] = 0b111;
-    words[8] = 0b111;
+    let mut words = samples::cases::e();
     show_split(&mut words, 3, 2, 0, 0, 1);
     show_split(&mut words, 3, 2, 1, 3, 2);
     show_checks(&words);
@@ -202,18 +184,6 @@ fn case_not_split() {
     show_checks(&words);
 }
 
-// Check c of L contains (c + e) mod 23 for the eight e: the first, turned by c places.
-fn circulant(words: &mut [u64])
-    requires { ⌜ length (now words) ≡ 4096 ⌝ }
-    ensures { λ r. ⌜ length (now (words .exit)) ≡ 4096 ⌝ }
-{
-    let mut row: u64 = 0b1010010011111;
-    for c in 0..23 {
-        words[c * 8] = row;
-        row = row * 2 % 0x800000 + row / 0x400000;
-    }
-}
-
 // The ones of the first `m` checks.
 fn ones(words: &[u64], m: usize) -> u64
     requires { ⌜ (length (now words) ≡ 4096) × (m ≤ 512) ⌝ }
@@ -234,10 +204,9 @@ fn take_all_back(words: &mut [u64], k: usize) {
 
 fn case_l() {
     io::write_all(1, b"L\n");
-    let mut words = [0u64; 4096];
-    circulant(&mut words);
+    let mut words = samples::cases::l();
     field(b"ones ", ones(&words, 23));
-    end();
+    end_line();
     show_count(&words, 23, 23, 0);
     let before = words;
     let k = show_orthogonalise(&mut words, 23, 23, 0);
@@ -290,19 +259,8 @@ fn extended(words: &mut [u64])
     }
 }
 
-fn is_same(a: &[u64], b: &[u64]) -> bool
-    requires { ⌜ (length (now a) ≡ 4096) × (length (now b) ≡ 4096) ⌝ }
-{
-    for i in 0..4096 {
-        if a[i] != b[i] {
-            return false;
-        }
-    }
-    true
-}
-
 fn show_whether_same(words: &[u64; 4096], before: &[u64; 4096]) {
-    if is_same(words, before) {
+    if same(words, before) {
         io::write_all(1, b"words as they were\n");
     } else {
         io::write_all(1, b"words changed\n");

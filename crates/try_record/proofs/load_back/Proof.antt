@@ -28,11 +28,11 @@ load-requires c κs = search needs
 loads-requires : tie.Need-loads-requires
 loads-requires c κs = search needs
 
-slice-aggregate-same-words : tie.Need-slice-aggregate-same-words
-slice-aggregate-same-words c = search needs
+slice-aggregate-same : tie.Need-slice-aggregate-same
+slice-aggregate-same c = search needs
 
-same-words-requires : tie.Need-same-words-requires
-same-words-requires c κs = search needs
+same-requires : tie.Need-same-requires
+same-requires c κs = search needs
 
 slice-aggregate-write-all-2 : tie.Need-slice-aggregate-write-all-2
 slice-aggregate-write-all-2 c = search needs
@@ -46,9 +46,6 @@ returns-2 c = search needs
 returns-3 : tie.Need-returns-3
 returns-3 c = search needs
 
-returns-4 : tie.Need-returns-4
-returns-4 c = search needs
-
 pub load-back-spec : {M : Type 1} → statement M
 load-back-spec =
     tie.close
@@ -60,10 +57,9 @@ load-back-spec =
     slice-aggregate-load-2
     load-requires
     loads-requires
-    slice-aggregate-same-words
-    same-words-requires
+    slice-aggregate-same
+    same-requires
     slice-aggregate-write-all-2
     write-all-requires-2
     returns-2
-    returns-3
-    returns-4)
+    returns-3)

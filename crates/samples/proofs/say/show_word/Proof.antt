@@ -1,15 +1,16 @@
--- `show` meets its contract. Assumes nothing.
+-- `say::show_word` meets its contract. Assumes nothing.
+use mathlib.Core.Path.{_≡_}
 use Prim.Native.Nat.{_-_, _≤_}
 use borrow.Author.Needs.{needs}
 use lib.ListN.{length}
-use Rattle.try_peel.proofs.show.Statement.{statement}
-use Rattle.try_peel.proofs.show.Tie as tie
+use Rattle.samples.proofs.say.show_word.Statement.{statement}
+use Rattle.samples.proofs.say.show_word.Tie as tie
 
 abbrev Inv-loop : tie.InvT-loop
-Inv-loop word i₀ i = i ≤ length word
+Inv-loop word i₀ i-end i = (i ≤ i-end) × (i-end ≡ length word)
 
 abbrev μ-loop : tie.MeasureT-loop
-μ-loop word i₀ i = length word - i
+μ-loop word i₀ i-end i = i-end - i
 
 slice-aggregate-write-all : tie.Need-slice-aggregate-write-all Inv-loop μ-loop
 slice-aggregate-write-all c = search needs
@@ -25,9 +26,6 @@ shared-slice-read-symbol c = search needs
 
 symbol-requires : tie.Need-symbol-requires Inv-loop μ-loop
 symbol-requires c κs = search needs
-
-array-write-one : tie.Need-array-write-one Inv-loop μ-loop
-array-write-one c = search needs
 
 slice-aggregate-write-all-2 : tie.Need-slice-aggregate-write-all-2 Inv-loop μ-loop
 slice-aggregate-write-all-2 c = search needs
@@ -47,8 +45,8 @@ loop-again c = search needs
 returns : tie.Need-returns Inv-loop μ-loop
 returns c = search needs
 
-pub show-spec : {M : Type 1} → statement M
-show-spec =
+pub show-word-spec : {M : Type 1} → statement M
+show-word-spec =
     tie.close
     (tie.spec
     Inv-loop
@@ -58,7 +56,6 @@ show-spec =
     loop-holds
     shared-slice-read-symbol
     symbol-requires
-    array-write-one
     slice-aggregate-write-all-2
     write-all-requires-2
     add-i

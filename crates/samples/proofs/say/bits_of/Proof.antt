@@ -1,11 +1,11 @@
--- `bits_of` meets its contract. Assumes nothing.
+-- `say::bits_of` meets its contract. Assumes nothing.
 use mathlib.Core.Path.{_≡_}
 use mathlib.Core.Bool.{true, not, false≢true}
 use lib.Dec.{T}
 use lib.Ieee.{Float, nan, inf, fin, eq, isNan}
 use borrow.Author.Needs.{needs}
-use Rattle.try_soft.proofs.bits_of.Statement.{statement}
-use Rattle.try_soft.proofs.bits_of.Tie as tie
+use Rattle.samples.proofs.say.bits_of.Statement.{statement}
+use Rattle.samples.proofs.say.bits_of.Tie as tie
 
 -- what equals itself is a number
 number : (x : Float) → eq x x ≡ true → T (not (isNan x))

@@ -1,22 +1,25 @@
 -- The words of checks that contain exactly one, or some, of a few members. Assumes nothing.
 use mathlib.Core.Path.{_≡_, refl, sym, ap, _∙_}
-use mathlib.Core.Bool.{Bool, true, false, not, _||_}
+use mathlib.Core.Bool.{Bool, true, false, not, xor, _&&_, _||_, false≢true}
 use mathlib.Core.List.{List}
 use Prim.Native.Nat.{ℕ, _+_, _*_, _-_, _/_, _%_, _^_, _≤_, _<_}
 use native.Mathlib.Nat.{add-zero, zero-add, zero-mul}
 use native.Mathlib.Omega.{arith}
 use native.Mathlib.Decide.{decLt}
-use lib.Bits.{bitAnd, bitOr, and-lt, or-lt}
+use lib.Bits.{bitAnd, bitOr, bitXor, and-lt, or-lt, xor-lt}
 use lib.Dec.{lit<}
 use lib.ListN.{getD}
 use lib.Pow.{ones-sub-lt}
-use borrow.Author.Tests.{not-true}
+use borrow.Author.Tests.{not-true, eqb-true}
 use Rattle.parity.specs.Finite.{all}
-use Rattle.parity.specs.Matrix.{bitOf, lent}
+use Rattle.parity.specs.Matrix.{Matrix, bitOf, lent}
+use Rattle.parity.specs.StoppingSets.{isIn}
+use Rattle.parity.specs.Words.{inside}
 use Rattle.parity.proofs.Finite.Sums.{is-true, is-false, is, all-at, all-of}
 use Rattle.parity.proofs.Matrix.Digits.{bit-and, bit-or, bit-not, bit-zero, same-bits}
 use Rattle.parity.proofs.Matrix.Lent.{lent-word}
-use Rattle.enumeration.specs.Search.{lone, loneWord, completing, OnceWith, SomeWith}
+use Rattle.parity.proofs.Words.Sets.{bit-xor}
+use Rattle.enumeration.specs.Search.{lone, loneWord, decided, Among, completing, Seen, OnceWith, SomeWith}
 use Rattle.enumeration.proofs.Storing.{Filled}
 
 bit-lone : (x u d j : ℕ) → u < 2 ^ 64 → d < 2 ^ 64 → j < 64 → bitOf (loneWord x u d) j ≡ lone (bitOf x j) (bitOf u j) (bitOf d j)
@@ -28,9 +31,39 @@ lone-lt : (x u d : ℕ) → x < 2 ^ 64 → d < 2 ^ 64 → loneWord x u d < 2 ^ 6
 unfolding loneWord
 lone-lt x u d xl dl = or-lt 64 _ _ (and-lt 64 x (2 ^ 64 - 1 - d) xl (ones-sub-lt 64 d)) (and-lt 64 d (2 ^ 64 - 1 - u) dl (ones-sub-lt 64 u))
 
+-- Where the checks with exactly one of the members are among those with some, one more bit decides in the others of these two kinds alone.
+pub lone-decided : (x u d : ℕ) → x < 2 ^ 64 → u < 2 ^ 64 → d < 2 ^ 64 → Among x u → bitAnd (bitXor d x) (decided x u) ≡ loneWord x u d
+unfolding decided xor
+lone-decided x u d xl ul dl A =
+    let w = bitOr x (2 ^ 64 - 1 - u) in
+    same-bits 64 (bitAnd (bitXor d x) w) (loneWord x u d) (and-lt 64 (bitXor d x) w (xor-lt 64 d x dl xl) (or-lt 64 x (2 ^ 64 - 1 - u) xl (ones-sub-lt 64 u))) (lone-lt x u d xl dl)
+    (λ j k.
+    rw (bit-and (bitXor d x) w j, bit-xor d x j, bit-or x (2 ^ 64 - 1 - u) j, bit-not 64 u j k ul, bit-lone x u d j ul dl k)
+    (go (bitOf x j) (bitOf u j) (bitOf d j) (A .at j k)))
+  where
+    go : (p q r : Bool) → (p ≡ true → q ≡ true) → (xor r p && (p || not q)) ≡ ((p && not r) || (r && not q))
+    go true true true f = refl
+    go true true false f = refl
+    go true false r f = absurd (false≢true (f refl))
+    go false true true f = refl
+    go false true false f = refl
+    go false false true f = refl
+    go false false false f = refl
+
 -- a bit of a single row
 pub row-word : (ws : List ℕ) (i j : ℕ) → i < 8 → j < 64 → lent 8 ws 0 (i * 64 + j) ≡ bitOf (getD ws i 0) j
 row-word ws i j k l = lent-word 8 ws 0 i j k l ∙ rw (zero-mul 8, zero-add i)
+
+-- what is known of the members, in their first words
+pub first-among : (h : Matrix) (p x u : List ℕ) → Seen h p x u → Among (getD x 0 0) (getD u 0 0)
+first-among h p x u S = record {
+  at = λ j k e.
+      let z : 0 * 64 + j ≡ j = omega arith in
+      let a : lent 8 x 0 j ≡ bitOf (getD x 0 0) j = rw z at (row-word x 0 j (omega arith) k) in
+      let b : lent 8 u 0 j ≡ bitOf (getD u 0 0) j = rw z at (row-word u 0 j (omega arith) k) in
+      let n = eqb-true (inside h 128 j (isIn p)) 1 (sym (S .once j (omega arith)) ∙ a ∙ e) in
+      sym b ∙ S .some j (omega arith) ∙ rw n refl;
+}
 
 -- word i of the checks that contain exactly one of the members and bit d
 abbrev pub loneAt : List ℕ → List ℕ → List ℕ → ℕ → ℕ → ℕ

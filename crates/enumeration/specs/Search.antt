@@ -1,6 +1,6 @@
 -- What the search for stopping sets holds on the way: the checks that some members leave, and what is listed after them. Assumes nothing.
 use mathlib.Core.Path.{_≡_}
-use mathlib.Core.Bool.{Bool, not, cond, _&&_, _||_}
+use mathlib.Core.Bool.{Bool, true, not, cond, _&&_, _||_}
 use mathlib.Core.List.{List, [], _∷_, _++_}
 use Prim.Native.Nat.{ℕ, zero, suc, _+_, _-_, _^_, _<_}
 use lib.Bits.{bitAnd, bitOr}
@@ -8,7 +8,7 @@ use lib.Dec.{eqb, ltb}
 use lib.ListN.{length, getD, take}
 use lib.Seq.{sets}
 use Rattle.parity.specs.Finite.{all}
-use Rattle.parity.specs.Matrix.{Matrix, lent}
+use Rattle.parity.specs.Matrix.{Matrix, bitOf, lent}
 use Rattle.parity.specs.Words.{inside, stopping}
 use Rattle.parity.specs.StoppingSets.{isIn}
 
@@ -24,6 +24,14 @@ lone x u d = (x && not d) || (d && not u)
 -- the same for the 64 checks of a word
 unfoldable pub loneWord : ℕ → ℕ → ℕ → ℕ
 loneWord x u d = bitOr (bitAnd x (2 ^ 64 - 1 - d)) (bitAnd d (2 ^ 64 - 1 - u))
+
+-- the checks of a word that contain exactly one of the members (x) or none (u has the others): those where one more bit decides
+unfoldable pub decided : ℕ → ℕ → ℕ
+decided x u = bitOr x (2 ^ 64 - 1 - u)
+
+-- the ones of x are ones of u
+pub record Among (x u : ℕ) : Type 0 where
+  pub at : (j : ℕ) → j < 64 → bitOf x j ≡ true → bitOf u j ≡ true
 
 -- the words x and u hold, of the members p, the checks that contain exactly one, and those that contain some
 pub record Seen (h : Matrix) (p x u : List ℕ) : Type 0 where

@@ -7,7 +7,7 @@ ghost use Prim.Native.Nat.{_+_, _*_, _^_, _≤_, _<_};
 ghost use lib.Dec.{ltb};
 ghost use lib.ListN.{length, getD, set};
 ghost use Rattle.parity.specs.StoppingSets.{stoppingSets, flat};
-ghost use Rattle.enumeration.specs.Search.{across, loneWord, completing, Seen, OnceWith, SomeWith, Longer, Under, lastOf, listed, Put, roomFor};
+ghost use Rattle.enumeration.specs.Search.{across, loneWord, decided, Among, completing, Seen, OnceWith, SomeWith, Longer, Under, lastOf, listed, Put, roomFor};
 
 // The checks of a word that contain exactly one of the members and one more bit, whose checks are `d`.
 fn lone_word(once: u64, some: u64, d: u64) -> u64
@@ -30,21 +30,21 @@ fn completes_further(cols: &[u64], once: &[u64], some: &[u64], used: usize, d: u
     true
 }
 
-// Whether no check of the first `used` words contains exactly one of the members and bit `d`. Most bits fail in the first word, of which `x` and `u` say
-// what is known of the members; where all eight are in use, their number is known beforehand.
+// Whether no check of the first `used` words contains exactly one of the members and bit `d`. Most bits fail in the first word, of which `x` has the checks
+// that contain one of the members and `w` those where one more bit decides; where all eight are in use, their number is known beforehand.
 fn completes(
     cols: &[u64],
     once: &[u64],
     some: &[u64],
     x: u64,
-    u: u64,
+    w: u64,
     used: usize,
     d: usize,
 ) -> bool
-    requires { ⌜ (length (now cols) ≡ 1024) × (length (now once) ≡ 8) × (length (now some) ≡ 8) × (1 ≤ used) × (used ≤ 8) × (d < 128) × (x ≡ getD (now once) 0 0) × (u ≡ getD (now some) 0 0) ⌝ }
+    requires { ⌜ (length (now cols) ≡ 1024) × (length (now once) ≡ 8) × (length (now some) ≡ 8) × (1 ≤ used) × (used ≤ 8) × (d < 128) × (x ≡ getD (now once) 0 0) × (w ≡ decided x (getD (now some) 0 0)) × Among x (getD (now some) 0 0) ⌝ }
     ensures { λ r. ⌜ r ≡ completing (now (cols .entry)) (now (once .entry)) (now (some .entry)) (used * 64) d ⌝ }
 {
-    if lone_word(x, u, cols[d * 8]) != 0 {
+    if (cols[d * 8] ^ x) & w != 0 {
         return false;
     }
     if used == 8 {
@@ -152,27 +152,27 @@ fn list_with(
     once: &[u64],
     some: &[u64],
     x: u64,
-    u: u64,
+    w: u64,
     first: &[u16],
     d: usize,
     sets: &mut [u16],
     at: usize,
     write: bool,
 ) -> usize
-    requires { ⌜ (length (now cols) ≡ 1024) × (length (now once) ≡ 8) × (length (now some) ≡ 8) × (1 ≤ used) × (used ≤ 8) × (d < 128) × (length (now first) < 4) × (x ≡ getD (now once) 0 0) × (u ≡ getD (now some) 0 0) ⌝ }
+    requires { ⌜ (length (now cols) ≡ 1024) × (length (now once) ≡ 8) × (length (now some) ≡ 8) × (1 ≤ used) × (used ≤ 8) × (d < 128) × (length (now first) < 4) × (x ≡ getD (now once) 0 0) × (w ≡ decided x (getD (now some) 0 0)) ⌝ }
     requires { ⌜ Seen (across (now cols)) (now first) (now once) (now some) × Under (now first) d ⌝ }
     requires { ⌜ at + length (lastOf (across (now cols)) (used * 64) (now first) d) < 2 ^ 40 ⌝ }
     requires { ⌜ roomFor write (at + length (lastOf (across (now cols)) (used * 64) (now first) d)) ≤ length (now sets) ⌝ }
     ensures { λ r. ⌜ Put write (now (sets .entry)) (now (sets .exit)) at (lastOf (across (now (cols .entry))) (used * 64) (now (first .entry)) d) r ⌝ }
 {
-    if completes(cols, once, some, x, u, used, d) {
+    if completes(cols, once, some, x, w, used, d) {
         return take_in(first, d, sets, at, write);
     }
     at
 }
 
-// Lists the stopping sets of the members and one more bit, from `from` on, and answers the place behind them. The first words are read once, so that they
-// stay in registers while sets are written.
+// Lists the stopping sets of the members and one more bit, from `from` on, and answers the place behind them. What the first words say is made once, so that
+// it stays in registers while sets are written.
 fn list_last(
     cols: &[u64],
     n: usize,
@@ -192,10 +192,10 @@ fn list_last(
     ensures { λ r. ⌜ Put write (now (sets .entry)) (now (sets .exit)) at (listed (across (now (cols .entry))) (used * 64) n 1 (now (first .entry)) from) r ⌝ }
 {
     let x = once[0];
-    let u = some[0];
+    let w = x | !some[0];
     let mut place = at;
     for d in from..n {
-        place = list_with(cols, used, once, some, x, u, first, d, sets, place, write);
+        place = list_with(cols, used, once, some, x, w, first, d, sets, place, write);
     }
     place
 }

@@ -2,7 +2,7 @@
 use mathlib.Core.Path.{refl}
 use Prim.Native.Nat.{_*_, _-_, max}
 use native.Mathlib.Omega.{arith}
-use Rattle.enumeration.specs.Search.{across, lastOf}
+use Rattle.enumeration.specs.Search.{across, decided, lastOf}
 use Rattle.enumeration.proofs.Members.{under-later}
 use Rattle.enumeration.proofs.Storing.{put-length}
 use Rattle.enumeration.proofs.Joining.{Searched, listed-one, searched-none, searched-next, searched-fits, searched-room, searched-all}
@@ -10,17 +10,17 @@ use Rattle.enumeration.proofs.list_last.Statement.{statement}
 use Rattle.enumeration.proofs.list_last.Tie as tie
 
 abbrev Inv-loop : tie.InvT-loop
-Inv-loop cols n used once some first from sets₀ at write x u place₀ d₀ sets place d =
+Inv-loop cols n used once some first from sets₀ at write x w place₀ d₀ sets place d =
     Searched write sets₀ sets at from d n (lastOf (across cols) (used * 64) first) place
 
 abbrev μ-loop : tie.MeasureT-loop
-μ-loop cols n used once some first from sets₀ at write x u place₀ d₀ sets place d = max from n - d
+μ-loop cols n used once some first from sets₀ at write x w place₀ d₀ sets place d = max from n - d
 
 shared-slice-read-x : tie.Need-shared-slice-read-x Inv-loop μ-loop
 shared-slice-read-x c = omega arith
 
-shared-slice-read-u : tie.Need-shared-slice-read-u Inv-loop μ-loop
-shared-slice-read-u c = omega arith
+shared-slice-read-w : tie.Need-shared-slice-read-w Inv-loop μ-loop
+shared-slice-read-w c = omega arith
 
 loop-holds : tie.Need-loop-holds Inv-loop μ-loop
 loop-holds c = searched-none _ _ _ _ _ _
@@ -31,7 +31,7 @@ list-with-requires c κs =
     let l = c .before .before .loop in
     let P = s .pre in
     let F = rw (listed-one (across (s .args .cols .now)) (s .args .used * 64) (s .args .n) (s .args .first .now) (s .args .from)) at (P .1 .1) in (
-      (P .0 .0, P .0 .1, P .0 .2, P .0 .3, P .0 .4, omega arith, P .0 .6, refl, refl),
+      (P .0 .0, P .0 .1, P .0 .2, P .0 .3, P .0 .4, omega arith, P .0 .6, refl, unfold decided in refl),
       (
         (P .1 .0 .0, under-later _ _ _ (P .1 .0 .1) (l .inv .from)),
         (searched-fits (s .args .write) (s .args .sets .now) (l .sets) (s .args .at) (s .args .from) (l .d) (s .args .n) (lastOf (across (s .args .cols .now)) (s .args .used * 64) (s .args .first .now)) (l .place) (l .inv) 1099511627776 (omega arith) (F .0), searched-room (s .args .write) (s .args .sets .now) (l .sets) (s .args .at) (s .args .from) (l .d) (s .args .n) (lastOf (across (s .args .cols .now)) (s .args .used * 64) (s .args .first .now)) (l .place) (l .inv) (omega arith) (F .1)),
@@ -66,7 +66,7 @@ list-last-spec =
     Inv-loop
     μ-loop
     shared-slice-read-x
-    shared-slice-read-u
+    shared-slice-read-w
     loop-holds
     list-with-requires
     add-d

@@ -4,13 +4,17 @@ use Prim.Native.Nat.{_*_}
 use native.Mathlib.Omega.{arith}
 use borrow.Author.Needs.{needs}
 use lib.ListN.{length-append}
+use Rattle.enumeration.proofs.Lone.{first-among}
 use Rattle.enumeration.proofs.Storing.{put-none}
 use Rattle.enumeration.proofs.Joining.{room-less, last-found, last-none}
 use Rattle.enumeration.proofs.list_with.Statement.{statement}
 use Rattle.enumeration.proofs.list_with.Tie as tie
 
 completes-requires : tie.Need-completes-requires
-completes-requires c κs = search needs
+completes-requires c κs =
+    let s = c .before .before .before .before .before in
+    let P = s .pre .0 in
+    (P .0, P .1, P .2, P .3, P .4, P .5, P .7, P .8, rw (P .7) (first-among _ _ _ _ (s .pre .1 .0 .0)))
 
 take-in-requires : tie.Need-take-in-requires
 take-in-requires c κs =

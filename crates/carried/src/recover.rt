@@ -1,9 +1,9 @@
 // Taking all splits of an accepted matrix back, on the columns of its given checks, as far as the splits made it.
 use crate::columns::join;
-use crate::columns::put_columns;
 use parity::Bit;
 use parity::Check;
 use rows::columns::fill;
+use rows::columns::fill_checks;
 use rows::columns::no_columns;
 use rows::ones::next_one;
 use rows::touches;
@@ -78,6 +78,6 @@ pub fn all_back(words: &[u64], rows: &mut [u64], n: usize, m: usize, k: usize) -
     if !each_back(words, &mut cols, n, m, k) {
         return false;
     }
-    put_columns(&cols, rows, n);
+    fill_checks(&cols, 2, 2, rows, 2, n);
     true
 }

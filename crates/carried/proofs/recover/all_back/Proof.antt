@@ -1,7 +1,8 @@
 -- `recover::all_back` meets its contract. Assumes nothing.
 use Prim.Native.Nat.{ℕ}
 use native.Mathlib.Omega.{arith}
-use lib.ListN.{length-replicate}
+use mathlib.Core.Path.{_≡_}
+use lib.ListN.{length, length-replicate}
 use borrow.Author.Tests.{not-true, not-false}
 use borrow.Author.Needs.{needs}
 use Rattle.rows.proofs.Fill.{empty}
@@ -32,11 +33,15 @@ returns c =
     let E = c .before .before .each-back in
     rows-left _ _ _ _ _ _ (E .result) (E .ensures .0) (not-true (E .result) (c .if1 .taken))
 
-slice-aggregate-put-columns : tie.Need-slice-aggregate-put-columns
-slice-aggregate-put-columns c = search needs
+slice-aggregate-fill-checks : tie.Need-slice-aggregate-fill-checks
+slice-aggregate-fill-checks c = search needs
 
-put-columns-requires : tie.Need-put-columns-requires
-put-columns-requires c κs = let s = c .before .before .before .before .before .before .before .before .before .before .before .before in (search needs, s .pre .1, omega (arith, s .pre .3 .n120), s .pre .2)
+fill-checks-requires : tie.Need-fill-checks-requires
+fill-checks-requires c κs =
+    let e = c .before .before .before .before in
+    let s = e .before .before .before .before .before .before .before .before in
+    let l : length (e .each-back .last .1 .0) ≡ 1024 = search needs in
+    ((omega (arith, l, s .pre .3 .n120), omega arith, omega (arith, s .pre .1), omega (arith, s .pre .3 .n120)), s .pre .2)
 
 same-length : tie.Need-same-length
 same-length c = search needs
@@ -44,7 +49,7 @@ same-length c = search needs
 returns-2 : tie.Need-returns-2
 returns-2 c =
     let E = c .before .before .before .before .before .before .before .each-back in
-    rows-made _ _ _ _ _ _ (c .before .before .before .before .before .before .before .before .before .before .before .before .before .before .before .pre .3) (E .ensures .1) (c .before .before .put-columns .ensures) (E .result) (E .ensures .0) (not-false (E .result) (c .before .before .before .before .before .if1 .left))
+    rows-made _ _ _ _ _ _ (c .before .before .before .before .before .before .before .before .before .before .before .before .before .before .before .pre .3) (E .ensures .1) (c .before .before .fill-checks .ensures) (E .result) (E .ensures .0) (not-false (E .result) (c .before .before .before .before .before .if1 .left))
 
 pub all-back-spec : {M : Type 1} → statement M
 all-back-spec =
@@ -56,7 +61,7 @@ all-back-spec =
     slice-aggregate-each-back
     each-back-requires
     returns
-    slice-aggregate-put-columns
-    put-columns-requires
+    slice-aggregate-fill-checks
+    fill-checks-requires
     same-length
     returns-2)

@@ -2,3 +2,4 @@ pub mod Joining
 pub mod Performing
 pub mod Recovering
 pub mod Putting
+pub mod Standing

@@ -1,6 +1,6 @@
 -- `recover::apart` meets its contract. Assumes nothing.
 use Rattle.choice.specs.Given.{together}
-use Rattle.carried.proofs.Recovering.{apart-no, apart-no-too, apart-last}
+use Rattle.carried.proofs.Standing.{apart-no, apart-no-too, apart-last}
 use borrow.Author.Needs.{needs}
 use Rattle.carried.proofs.recover.apart.Statement.{statement}
 use Rattle.carried.proofs.recover.apart.Tie as tie

@@ -8,7 +8,8 @@ use borrow.Author.Tests.{not-true, not-false}
 use Rattle.parity.specs.Matrix.{lent}
 use Rattle.rows.specs.Rows.{Columns}
 use Rattle.carried.specs.Recover.{standing}
-use Rattle.carried.proofs.Recovering.{Taking, standing-same, standing-start, taking-start, taking-next, taking-stops, taking-ends}
+use Rattle.carried.proofs.Standing.{standing-same, standing-start}
+use Rattle.carried.proofs.Recovering.{Taking, taking-start, taking-next, taking-stops, taking-ends}
 use Rattle.carried.proofs.recover.each_back.Statement.{statement}
 use Rattle.carried.proofs.recover.each_back.Tie as tie
 

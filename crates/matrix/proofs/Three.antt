@@ -1,4 +1,4 @@
--- Rule A for one added check, from its bits one after the other. Assumes nothing.
+-- Rule A for one added check, from its weight and its two lowest bits. Assumes nothing.
 use mathlib.Core.Path.{_≡_, refl, sym, ap, _∙_}
 use mathlib.Core.Bool.{Bool, true, false, not, _&&_, _||_, true≢false, false≢true}
 use Prim.Native.Nat.{ℕ, suc, _+_, _≤_, _<_}
@@ -11,7 +11,7 @@ use Rattle.parity.specs.Matrix.{Matrix, noOther, ruleAt}
 use Rattle.parity.proofs.Finite.Sums.{is-true, is-false, is, all-at, all-of, count-suc, count-mono, count-end}
 use Rattle.parity.proofs.Matrix.Rule.{Rule, rule, alone-share, share-alone, Place, first, second, new}
 use Rattle.rows.specs.Rows.{NextOne}
-use Rattle.matrix.specs.Three.{two, OnlyIn, LastOne, Three}
+use Rattle.matrix.specs.Three.{two, OnlyIn, Three}
 
 pub two-false : (x y w : Bool) → (x && y) || ((x || y) && w) ≡ false → (x && y ≡ false) × (x && w ≡ false) × (y && w ≡ false)
 two-false true true w e = absurd (true≢false e)
@@ -40,82 +40,88 @@ place-of h c x y z T b e =
       ]
     ]
 
--- the lowest bits, by the search for the next one
-module _ (T : ℕ) (h : Matrix) (n m k j : ℕ) (jk : j < k) (few : n + k ≤ T) (x : ℕ) (A : NextOne T (h (m + j)) 0 x) where
-  none-below : count x (h (m + j)) ≡ 0
-  none-below = count-end 0 x (h (m + j)) (omega arith) (λ c l k. A .none c l k) ∙ unfold count sum in refl
+-- its weight, its own bit, and the lowest bits, by the search for the next one
+module _ (T : ℕ) (h : Matrix) (n m k j : ℕ) (jk : j < k) (end : (b : ℕ) → n + k ≤ b → h (m + j) b ≡ false) (few : n + k ≤ T) where
+  total : count T (h (m + j)) ≡ count (n + k) (h (m + j))
+  total = count-end (n + k) T (h (m + j)) few (λ b l k. end b l)
 
-  -- no bit is below its own
-  pub no-lower : n + j ≤ x → ruleAt h n m k j ≡ false
-  no-lower l =
-      elim (is (ruleAt h n m k j)) [
-        | is-false q ↦ q
-        | is-true q ↦ absurd (omega (arith, rule h n m k j jk .0 q .two, count-mono (n + j) x (h (m + j)) l, none-below))
-      ]
+  -- another weight than three
+  pub not-three : (count T (h (m + j)) ≡ 3 → ⊥) → ruleAt h n m k j ≡ false
+  not-three d = elim (is (ruleAt h n m k j)) [ is-false q ↦ q | is-true q ↦ absurd (d (total ∙ rule h n m k j jk .0 q .all3)) ]
 
-  module _ (xz : x < n + j) (y : ℕ) (B : NextOne T (h (m + j)) (x + 1) y) where
-    one-below : count y (h (m + j)) ≡ 1
-    one-below =
-        count-end (x + 1) y (h (m + j)) (B .least) (λ c l k. B .none c l k)
-        ∙ rw (add-one x, count-suc x (h (m + j)), A .found (omega arith)) (omega (arith, none-below))
+  -- its own bit is missing
+  pub not-own : h (m + j) (n + j) ≡ false → ruleAt h n m k j ≡ false
+  not-own d = elim (is (ruleAt h n m k j)) [ is-false q ↦ q | is-true q ↦ absurd (true≢false (sym (rule h n m k j jk .0 q .own) ∙ d)) ]
 
-    -- only one is
-    pub one-lower : n + j ≤ y → ruleAt h n m k j ≡ false
-    one-lower l =
-        elim (is (ruleAt h n m k j)) [
-          | is-false q ↦ q
-          | is-true q ↦ absurd (omega (arith, rule h n m k j jk .0 q .two, count-mono (n + j) y (h (m + j)) l, one-below))
+  module _ (three : count T (h (m + j)) ≡ 3) (x : ℕ) (A : NextOne T (h (m + j)) 0 x) where
+    none-below : count x (h (m + j)) ≡ 0
+    none-below = count-end 0 x (h (m + j)) (omega arith) (λ c l k. A .none c l k) ∙ unfold count sum in refl
+
+    pub first-below : x < T
+    first-below =
+        elim (decLt x T) [
+          | yes l ↦ l
+          | no l ↦ let e : x ≡ T = omega (arith, A .top) in absurd (omega (arith, rw e at none-below, three))
         ]
 
-    module _ (yz : y < n + j) where
-      two-below : count (suc y) (h (m + j)) ≡ 2
-      two-below = rw (count-suc y (h (m + j)), B .found (omega arith)) (omega (arith, one-below))
+    module _ (y : ℕ) (B : NextOne T (h (m + j)) (x + 1) y) where
+      one-below : count y (h (m + j)) ≡ 1
+      one-below =
+          count-end (x + 1) y (h (m + j)) (B .least) (λ c l k. B .none c l k)
+          ∙ rw (add-one x, count-suc x (h (m + j)), A .found first-below) (omega (arith, none-below))
 
-      -- and a third one
-      third : (b : ℕ) → suc y ≤ b → (N : ℕ) → b < N → h (m + j) b ≡ true → 3 ≤ count N (h (m + j))
-      third b l N bN e = omega (arith, count-mono (suc y) b (h (m + j)) l, two-below, rw e at (count-suc b (h (m + j))), count-mono (suc b) N (h (m + j)) bN)
+      -- fewer than two bits are below its own
+      pub not-lower : n + j ≤ y → ruleAt h n m k j ≡ false
+      not-lower l =
+          elim (is (ruleAt h n m k j)) [
+            | is-false q ↦ q
+            | is-true q ↦ absurd (omega (arith, rule h n m k j jk .0 q .two, count-mono (n + j) y (h (m + j)) l, one-below))
+          ]
 
-      -- by the rule its own bit is the last
-      pub rule-last : ((b : ℕ) → n + k ≤ b → h (m + j) b ≡ false) → ruleAt h n m k j ≡ true → LastOne (h (m + j)) (y + 1) (n + j)
-      rule-last end q =
-          let R = rule h n m k j jk .0 q in
-          record {
-            here = R .own;
-            none = λ b l d. elim (is (h (m + j) b)) [
+      module _ (own : h (m + j) (n + j) ≡ true) (yz : y < n + j) where
+        two-below : count (suc y) (h (m + j)) ≡ 2
+        two-below = rw (count-suc y (h (m + j)), B .found (omega arith)) (omega (arith, one-below))
+
+        -- two bits above these are too many
+        no-fourth : (b d : ℕ) → suc y ≤ b → b < d → d < T → h (m + j) b ≡ true → h (m + j) d ≡ true → ⊥
+        no-fourth b d yb bd dT e f =
+            omega (
+              arith,
+              two-below,
+              count-mono (suc y) b (h (m + j)) yb,
+              rw e at (count-suc b (h (m + j))),
+              count-mono (suc b) d (h (m + j)) bd,
+              rw f at (count-suc d (h (m + j))),
+              count-mono (suc d) T (h (m + j)) dT,
+              three,
+            )
+
+        -- above the second one its own bit is the last
+        last : (b : ℕ) → suc y ≤ b → (b ≡ n + j → ⊥) → h (m + j) b ≡ false
+        last b l d =
+            elim (is (h (m + j) b)) [
               | is-false e ↦ e
               | is-true e ↦ elim (decLt b (n + j)) [
-                | yes v ↦ absurd (omega (arith, third b (omega arith) (n + j) v e, R .two))
-                | no v ↦ elim (decLt b (n + k)) [
-                  | yes w ↦ absurd (omega (
-                    arith,
-                    R .two,
-                    R .all3,
-                    rw (R .own) at (count-suc (n + j) (h (m + j))),
-                    count-mono (suc (n + j)) b (h (m + j)) (omega arith),
-                    rw e at (count-suc b (h (m + j))),
-                    count-mono (suc b) (n + k) (h (m + j)) w,
-                  ))
-                  | no w ↦ end b (omega arith)
-                ]
+                | yes v ↦ absurd (no-fourth b (n + j) l v (omega arith) e own)
+                | no v ↦ elim (decLt b (n + k)) [ yes w ↦ absurd (no-fourth (n + j) b yz (omega arith) (omega arith) own e) | no w ↦ end b (omega arith) ]
               ]
-            ];
-          }
+            ]
 
-      pub last-three : LastOne (h (m + j)) (y + 1) (n + j) → Three h (m + j) x y (n + j)
-      last-three L = record {
-        xy = omega (arith, B .least);
-        yz = yz;
-        in-x = A .found (omega arith);
-        in-y = B .found (omega arith);
-        in-z = L .here;
-        others = λ b dx dy dz. elim (decLt b x) [
-          | yes l ↦ A .none b (omega arith) l
-          | no l ↦ elim (decLt b y) [
-            | yes u ↦ B .none b (omega arith) u
-            | no u ↦ L .none b (omega arith) dz
-          ]
-        ];
-      }
+        pub these-three : Three h (m + j) x y (n + j)
+        these-three = record {
+          xy = omega (arith, B .least);
+          yz = yz;
+          in-x = A .found first-below;
+          in-y = B .found (omega arith);
+          in-z = own;
+          others = λ b dx dy dz. elim (decLt b x) [
+            | yes l ↦ A .none b (omega arith) l
+            | no l ↦ elim (decLt b y) [
+              | yes u ↦ B .none b (omega arith) u
+              | no u ↦ last b (omega arith) dz
+            ]
+          ];
+        }
 
 -- an added check of three bits
 module _ (h : Matrix) (n m k j : ℕ) (jk : j < k) (x y : ℕ) (T : Three h (m + j) x y (n + j)) where
@@ -188,32 +194,3 @@ module _ (h : Matrix) (n m k j : ℕ) (jk : j < k) (x y : ℕ) (T : Three h (m +
     where
       other : (d : ℕ) → d < m + k → (d ≡ m + j → ⊥) → (p q : ℕ) → noOther h (m + k) (m + j) p q ≡ true → (h d p && h d q) ≡ false
       other d dl r p q t = not-true (h d p && h d q) (rw (ne-eqb d (m + j) r) at (all-at (m + k) _ (unfold noOther in t) d dl))
-
--- The last one of a row of T bits, by two searches.
-module _ (T : ℕ) (row : ℕ → Bool) (from z : ℕ) (fz : from ≤ z) (zT : z < T) where
-  pub next-last : ((b : ℕ) → T ≤ b → row b ≡ false) → NextOne T row from z → NextOne T row (z + 1) T → LastOne row from z
-  next-last end A B = record {
-    here = A .found zT;
-    none = λ b l d. elim (decLt b z) [
-      | yes u ↦ A .none b l u
-      | no u ↦ elim (decLt b T) [ yes v ↦ B .none b (omega arith) v | no v ↦ end b (omega arith) ]
-    ];
-  }
-
-  module _ (L : LastOne row from z) where
-    pub last-next : (r : ℕ) → NextOne T row from r → r ≡ z
-    last-next r A =
-        elim (ℕ-discrete r z) [
-          | yes q ↦ q
-          | no d ↦ elim (decLt r z) [
-            | yes u ↦ absurd (false≢true (sym (L .none r (A .least) d) ∙ A .found (omega arith)))
-            | no u ↦ absurd (false≢true (sym (A .none z fz (omega arith)) ∙ L .here))
-          ]
-        ]
-
-    pub last-top : (r : ℕ) → NextOne T row (z + 1) r → r ≡ T
-    last-top r B =
-        elim (decLt r T) [
-          | yes u ↦ absurd (false≢true (sym (L .none r (omega (arith, B .least)) (λ q. omega (arith, B .least))) ∙ B .found u))
-          | no u ↦ omega (arith, B .top)
-        ]

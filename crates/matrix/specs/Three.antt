@@ -2,7 +2,7 @@
 use mathlib.Core.Path.{_≡_}
 use mathlib.Core.Bool.{Bool, true, false, cond, _&&_, _||_}
 use mathlib.Core.List.{List}
-use Prim.Native.Nat.{ℕ, _+_, _*_, _-_, _≤_, _<_}
+use Prim.Native.Nat.{ℕ, _+_, _*_, _-_, _<_}
 use lib.Bits.{bitAnd, bitOr}
 use lib.Dec.{ltb}
 use lib.ListN.{getD}
@@ -32,16 +32,6 @@ pub record Apart (W : ℕ) (cols : List ℕ) (x y z : ℕ) (r : Bool) : Type 0 w
 -- No check, of M, other than c contains two of them.
 pub record OnlyIn (h : Matrix) (M c x y z : ℕ) : Type 0 where
   pub only : (d : ℕ) → d < M → (d ≡ c → ⊥) → two h x y z d ≡ false
-
--- Of the bits at `from` or above, the row contains z alone.
-pub record LastOne (row : ℕ → Bool) (from z : ℕ) : Type 0 where
-  pub here : row z ≡ true
-  pub none : (b : ℕ) → from ≤ b → (b ≡ z → ⊥) → row b ≡ false
-
--- r says so
-pub record Ends (row : ℕ → Bool) (from z : ℕ) (r : Bool) : Type 0 where
-  pub yes-last : r ≡ true → LastOne row from z
-  pub last-yes : LastOne row from z → r ≡ true
 
 -- Check c contains the bits x < y < z, and no other.
 pub record Three (h : Matrix) (c x y z : ℕ) : Type 0 where

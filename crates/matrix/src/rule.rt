@@ -6,6 +6,7 @@ use rows::columns::fill;
 use rows::columns::no_columns;
 use rows::contains;
 use rows::ones::next_one;
+use rows::ones::weight;
 use rows::raise;
 ghost use mathlib.Core.Path.{_≡_};
 ghost use mathlib.Core.Bool.{true, _&&_};
@@ -14,7 +15,7 @@ ghost use lib.Dec.{leb};
 ghost use lib.ListN.{length, replicate};
 ghost use Rattle.parity.specs.Matrix.{lent, clean, ruleA};
 ghost use Rattle.rows.specs.Rows.{Columns};
-ghost use Rattle.matrix.specs.Three.{inTwo, twoIn, Apart, Ends, Three, rowOf, placeOf, paired, PairIn, Passing, Fresh, Judged};
+ghost use Rattle.matrix.specs.Three.{inTwo, twoIn, Apart, Three, rowOf, placeOf, paired, PairIn, Passing, Fresh, Judged};
 
 // The bits that are ones of at least two of the three words.
 fn in_two(x: u64, y: u64, z: u64) -> u64
@@ -45,17 +46,6 @@ fn apart(cols: &[u64], width: usize, x: usize, y: usize, z: usize) -> bool
         acc = acc | shared(cols, width, x, y, z, i);
     }
     acc == 0
-}
-
-// Whether check `c` contains bit `z` and no other from `from` on.
-fn ends(words: &[u64], c: usize, from: usize, z: usize) -> bool
-    requires { ⌜ (length (now words) ≡ 4096) × (c < 512) × (from ≤ z) × (z < 512) ⌝ }
-    ensures { λ r. ⌜ Ends (lent 8 (now (words .entry)) c) from z r ⌝ }
-{
-    if next_one(words, Check(c), from) != z {
-        return false;
-    }
-    next_one(words, Check(c), z + 1) == 512
 }
 
 // The row of bit `b` in the table of pairs, of which a row has `width` words.
@@ -152,15 +142,15 @@ fn rule_at(
 {
     let c = m + j;
     let z = n + j;
-    let x = next_one(words, Check(c), 0);
-    if z <= x {
+    if weight(words, Check(c)) != 3 {
         return false;
     }
+    if !has(words, Check(c), Bit(z)) {
+        return false;
+    }
+    let x = next_one(words, Check(c), 0);
     let y = next_one(words, Check(c), x + 1);
     if z <= y {
-        return false;
-    }
-    if !ends(words, c, y + 1, z) {
         return false;
     }
     if !apart(cols, 2, x, y, z) {

@@ -1,70 +1,73 @@
--- Words that rise, from one of kind 3 to one of kind 3, are all of kind 3, and rising bits. Assumes nothing.
+-- Words of kind 3 that rise, the last of them a bit below n, are rising bits below n. Assumes nothing.
 use mathlib.Core.Path.{_≡_}
 use mathlib.Core.Bool.{true, false, false≢true}
 use mathlib.Core.List.{List}
-use Prim.Native.Nat.{ℕ, zero, suc, _+_, _-_, _≤_, _<_}
-use native.Mathlib.Nat.{add-zero}
+use Prim.Native.Nat.{ℕ, zero, suc, _+_, _-_, _/_, _^_, _≤_, _<_}
 use native.Mathlib.Numerals.{add-one}
 use native.Mathlib.Decide.{decLt}
 use native.Mathlib.Omega.{arith}
 use lib.ListN.{getD, length}
 use Rattle.parity.specs.Record.{kindOf, payload}
 use Rattle.parity.proofs.Record.Reading.{bit-yes}
-use Rattle.reading.specs.Read.{Rising, BitsRead, Rises, AllBits}
+use Rattle.reading.specs.Read.{Rising, BitsRead, Fault, Rises, AllBits}
 use Rattle.reading.proofs.Read.{rising-none, rising-next}
 
--- the words of kind 3
-kind-three : (w : ℕ) → 805306368 ≤ w → w < 1073741824 → (kindOf w ≡ 3) × (payload w + 805306368 ≡ w)
+-- a word of kind 3
+kind-three : (w : ℕ) → kindOf w ≡ 3 → payload w + 805306368 ≡ w
 unfolding kindOf payload
-kind-three w k l = (omega arith, omega arith)
+kind-three w e = omega arith
 
-pub falls-none : (source : List ℕ) (from : ℕ) → Rises source from 1 0
-falls-none source from = record { rises = λ e i k. absurd (omega arith) }
+pub fault-yes : (before w : ℕ) → Fault before w 1
+fault-yes before w = record { few = omega arith; kind = λ e. absurd (omega arith); above = λ e. absurd (omega arith) }
 
-module _ (source : List ℕ) (from i r : ℕ) (R : Rises source from i r) where
-  -- the next word is above the one before, or is not
-  pub falls-not : getD source (from + i - 1) 0 < getD source (from + i) 0 → Rises source from (i + 1) r
-  falls-not k = record {
-    rises = λ e j l. elim (decLt (j + 1) i) [
-      | yes q ↦ R .rises e j q
-      | no q ↦ let a : from + i - 1 ≡ from + j = omega arith in let b : from + i ≡ from + (j + 1) = omega arith in rw (a, b) at k
-    ];
-  }
+pub fault-no : (before w : ℕ) → w / 2 ^ 28 ≡ 3 → before < w → Fault before w 0
+unfolding kindOf
+fault-no before w e k = record { few = omega arith; kind = λ q. e; above = λ q. k }
 
-  pub falls-more : Rises source from (i + 1) (r + 1)
-  falls-more = record { rises = λ e j l. absurd (omega arith) }
+pub faults-none : (source : List ℕ) (from : ℕ) → Rises source from 0 0
+faults-none source from = record { kinds = λ e i k. absurd (omega arith); rises = λ e i k. absurd (omega arith) }
 
-pub falls-all : (source : List ℕ) (from i count r : ℕ) → Rises source from i r → count ≤ i → Rises source from count r
-falls-all source from i count r R k = record { rises = λ e j l. R .rises e j (omega arith) }
+-- the next word
+pub faults-next : (source : List ℕ) (from i r f : ℕ) → Rises source from i r → Fault (getD source (from + i - 1) 0) (getD source (from + i) 0) f
+    → Rises source from (i + 1) (r + f)
+faults-next source from i r f R F = record {
+  kinds = λ e j l. elim (decLt j i) [
+    | yes q ↦ R .kinds (omega arith) j q
+    | no q ↦ let a : j ≡ i = omega arith in rw a (F .kind (omega arith))
+  ];
+  rises = λ e j l. elim (decLt (j + 1) i) [
+    | yes q ↦ R .rises (omega arith) j q
+    | no q ↦ let a : from + i - 1 ≡ from + j = omega arith in let b : from + i ≡ from + (j + 1) = omega arith in rw (a, b) at (F .above (omega arith))
+  ];
+}
+
+pub faults-all : (source : List ℕ) (from i count r : ℕ) → Rises source from i r → count ≤ i → Rises source from count r
+faults-all source from i count r R k = record { kinds = λ e j l. R .kinds e j (omega arith); rises = λ e j l. R .rises e j (omega arith) }
 
 pub not-all : (n : ℕ) (source : List ℕ) (from count : ℕ) → AllBits n source from count false
 not-all n source from count = record { all = λ t. absurd (false≢true t) }
 
 module _ (n : ℕ) (source : List ℕ) (from count : ℕ) (room : from + count ≤ length source)
+    (kinds : (i : ℕ) → i < count → kindOf (getD source (from + i) 0) ≡ 3)
     (rises : (i : ℕ) → i + 1 < count → getD source (from + i) 0 < getD source (from + (i + 1)) 0)
-    (first : 805306368 ≤ getD source from 0) (last : getD source (from + count - 1) 0 < 1073741824)
     (below : payload (getD source (from + count - 1) 0) < n) where
   abbrev w : ℕ → ℕ
   w i = getD source (from + i) 0
 
-  above : (i : ℕ) → i < count → 805306368 ≤ w i
-  above zero k = rw (add-zero from) first
-  above (suc i) k = omega (arith, above i (omega arith), rw (add-one i) at (rises i (omega arith)))
-
   -- d words before the last one
-  under : (d i : ℕ) → i + suc d ≡ count → (w i < 1073741824) × (payload (w i) < n)
-  under zero i e = let a : from + count - 1 ≡ from + i = omega arith in (rw a at last, rw a at below)
+  under : (d i : ℕ) → i + suc d ≡ count → payload (w i) < n
+  under zero i e = let a : from + count - 1 ≡ from + i = omega arith in rw a at below
   under (suc d) i e =
-      let (t, u) = under d (suc i) (omega arith) in
-      let r = rw (add-one i) at (rises i (omega arith)) in
-      let s : w i < 1073741824 = omega arith in
-      (s, omega (arith, kind-three (w i) (above i (omega arith)) s .1, kind-three (w (suc i)) (above (suc i) (omega arith)) t .1))
+      omega (
+        arith,
+        under d (suc i) (omega arith),
+        rw (add-one i) at (rises i (omega arith)),
+        kind-three (w i) (kinds i (omega arith)),
+        kind-three (w (suc i)) (kinds (suc i) (omega arith)),
+      )
 
   bit : (i : ℕ) → i < count → (kindOf (w i) ≡ 3) × (payload (w i) + 805306368 ≡ w i) × (payload (w i) < n)
-  bit i k =
-      let (t, u) = under (count - suc i) i (omega arith) in
-      let (a, b) = kind-three (w i) (above i k) t in
-      (a, b, u)
+  bit i k = (kinds i k, kind-three (w i) (kinds i k), under (count - suc i) i (omega arith))
 
   least : ℕ → ℕ
   least zero = 0

@@ -49,8 +49,15 @@ pub record BitsRead (n : ℕ) (source : List ℕ) (from count j : ℕ) : Type 0 
   pub rising : Rising n source from j low
   pub next : j < count → bitWord n low (getD source (from + j) 0) ≡ false
 
--- If r is 0, each of `count` words from place `from` on is above the one before.
+-- If r is 0, the word is a bit, and above the one before.
+pub record Fault (before w r : ℕ) : Type 0 where
+  pub few : r ≤ 1
+  pub kind : r ≡ 0 → kindOf w ≡ 3
+  pub above : r ≡ 0 → before < w
+
+-- If r is 0, each of `count` words from place `from` on is a bit, and above the one before.
 pub record Rises (source : List ℕ) (from count r : ℕ) : Type 0 where
+  pub kinds : r ≡ 0 → (i : ℕ) → i < count → kindOf (getD source (from + i) 0) ≡ 3
   pub rises : r ≡ 0 → (i : ℕ) → i + 1 < count → getD source (from + i) 0 < getD source (from + (i + 1)) 0
 
 -- If r is true, they all are rising bits below n.

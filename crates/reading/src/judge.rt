@@ -7,7 +7,7 @@ use parity::Check;
 use parity::Form;
 ghost use Prim.Native.Nat.{_+_, _≤_, _<_};
 ghost use lib.ListN.{length};
-ghost use Rattle.reading.specs.Read.{BitsRead, Rises, AllBits};
+ghost use Rattle.reading.specs.Read.{BitsRead, Fault, Rises, AllBits};
 ghost use Rattle.reading.specs.Judge.{HeadRead, CheckRead, Reached, Judges, EndRead};
 
 // What comes of judging the first word and the checks of a record: `place` is the one behind them, or that of a faulty word.
@@ -41,39 +41,43 @@ pub enum Step {
     Stop(usize),
 }
 
-// How many of `count` words from place `from` on are not above the word before. It has no branch, so that several are compared at once.
-fn falls(source: &[u32], from: usize, count: usize) -> u32
-    requires { ⌜ (from + count ≤ length (now source)) × (count < 256) ⌝ }
+// Decides a word by its kind: 0 where it is a bit above the word before, and 1 where it is not, or of another kind.
+fn fault(before: u32, w: u32) -> u32
+    ensures { λ r. ⌜ Fault before w r ⌝ }
+{
+    match w >> 28 {
+        0..=2 => 1,
+        3 => { if before < w { 0 } else { 1 } }
+        4..=15 => 1,
+        16..=0xffff_ffff => 1,
+    }
+}
+
+// How many of `count` words from place `from` on are not bits above the word before, which for the first is the one that opens the check. It has no way out
+// before the last word, so that several are decided at once.
+fn faults(source: &[u32], from: usize, count: usize) -> u32
+    requires { ⌜ (from + count ≤ length (now source)) × (1 ≤ from) × (count < 256) ⌝ }
     ensures { λ r. ⌜ Rises (now (source .entry)) from count r ⌝ }
 {
     let mut wrong: u32 = 0;
-    for i in 1..count {
-        if source[from + i] <= source[from + i - 1] {
-            wrong += 1;
-        }
+    for i in 0..count {
+        wrong += fault(source[from + i - 1], source[from + i]);
     }
     wrong
 }
 
 // Whether `count` words from place `from` on, one at least, are bits below `n`, each above the one before.
 fn all_bits(source: &[u32], n: usize, from: usize, count: usize) -> bool
-    requires { ⌜ (from + count ≤ length (now source)) × (count < 256) ⌝ }
+    requires { ⌜ (from + count ≤ length (now source)) × (1 ≤ from) × (count < 256) ⌝ }
     ensures { λ r. ⌜ AllBits n (now (source .entry)) from count r ⌝ }
 {
     if count == 0 {
         return false;
     }
-    if source[from] < 0x3000_0000 {
+    if n <= payload(source[from + count - 1]) {
         return false;
     }
-    let last = source[from + count - 1];
-    if 0x3fff_ffff < last {
-        return false;
-    }
-    if n <= payload(last) {
-        return false;
-    }
-    falls(source, from, count) == 0
+    faults(source, from, count) == 0
 }
 
 // How many of `count` words from place `from` on are bits below `n`, each above the one before: word by word.
@@ -99,7 +103,7 @@ fn bits_singly(source: &[u32], n: usize, from: usize, count: usize) -> usize
 
 // The same. Where they all are, it is found without looking for the first that is not.
 fn bits(source: &[u32], n: usize, from: usize, count: usize) -> usize
-    requires { ⌜ (from + count ≤ length (now source)) × (count < 256) ⌝ }
+    requires { ⌜ (from + count ≤ length (now source)) × (1 ≤ from) × (count < 256) ⌝ }
     ensures { λ r. ⌜ BitsRead n (now (source .entry)) from count r ⌝ }
 {
     if all_bits(source, n, from, count) {

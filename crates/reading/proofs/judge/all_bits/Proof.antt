@@ -9,47 +9,33 @@ use Rattle.reading.proofs.judge.all_bits.Tie as tie
 returns : tie.Need-returns
 returns c = not-all _ _ _ _
 
-mul-if2 : tie.Need-mul-if2
-mul-if2 c = search needs
+add-payload : tie.Need-add-payload
+add-payload c = search needs
 
-shared-slice-read-if2 : tie.Need-shared-slice-read-if2
-shared-slice-read-if2 c = search needs
+sub-payload : tie.Need-sub-payload
+sub-payload c = search needs
 
-returns-2 : tie.Need-returns-2
-returns-2 c = not-all _ _ _ _
+mul-payload : tie.Need-mul-payload
+mul-payload c = search needs
 
-add-last : tie.Need-add-last
-add-last c = search needs
-
-sub-last : tie.Need-sub-last
-sub-last c = search needs
-
-mul-last : tie.Need-mul-last
-mul-last c = search needs
-
-shared-slice-read-last : tie.Need-shared-slice-read-last
-shared-slice-read-last c = search needs
-
-returns-3 : tie.Need-returns-3
-returns-3 c = not-all _ _ _ _
+shared-slice-read-payload : tie.Need-shared-slice-read-payload
+shared-slice-read-payload c = search needs
 
 payload-requires : tie.Need-payload-requires
 payload-requires c κs = search needs
 
-returns-4 : tie.Need-returns-4
-returns-4 c = not-all _ _ _ _
+returns-2 : tie.Need-returns-2
+returns-2 c = not-all _ _ _ _
 
-falls-requires : tie.Need-falls-requires
-falls-requires c κs = search needs
+faults-requires : tie.Need-faults-requires
+faults-requires c κs = search needs
 
-returns-5 : tie.Need-returns-5
-returns-5 c =
+returns-3 : tie.Need-returns-3
+returns-3 c =
     let b = c .before in
-    let l = b .before .before in
-    let f = l .before .before in
     record {
-      all = λ t. all-bits _ _ _ _ (omega arith) (c .falls .ensures .rises (eqb-true _ _ t)) (omega (arith, f .if2 .left)) (omega (arith, l .if3 .left))
-          (omega (arith, b .before .payload .ensures, b .if4 .left));
+      all = λ t.
+          let z = eqb-true _ _ t in all-bits _ _ _ _ (omega arith) (c .faults .ensures .kinds z) (c .faults .ensures .rises z) (omega (arith, b .before .payload .ensures, b .if2 .left));
     }
 
 pub all-bits-spec : {M : Type 1} → statement M
@@ -57,15 +43,11 @@ all-bits-spec =
     tie.close
     (tie.spec
     returns
-    mul-if2
-    shared-slice-read-if2
-    returns-2
-    add-last
-    sub-last
-    mul-last
-    shared-slice-read-last
-    returns-3
+    add-payload
+    sub-payload
+    mul-payload
+    shared-slice-read-payload
     payload-requires
-    returns-4
-    falls-requires
-    returns-5)
+    returns-2
+    faults-requires
+    returns-3)

@@ -82,7 +82,7 @@ add-bits : tie.Need-add-bits
 add-bits c = search needs
 
 bits-requires : tie.Need-bits-requires
-bits-requires c κs = (room c .0, omega (arith, room c .1))
+bits-requires c κs = (room c .0, omega arith, omega (arith, room c .1))
 
 add-t20 : tie.Need-add-t20
 add-t20 c = search needs

@@ -15,7 +15,7 @@ use Rattle.parity.specs.Record.{Loaded, faulty, loaded, loading}
 use Rattle.parity.specs.Encoding.{rankOf, encoded}
 use Rattle.parity.specs.Causes.{answer, refusal}
 use Rattle.parity.specs.Calls.{byteOf, notPair, wrongByte, loadedReply, loadOutcome, splitReply, splitOutcome, orthogonalisedReply}
-use Rattle.parity.proofs.Matrix.Sound.{Sound}
+use Rattle.parity.specs.Sound.{Sound}
 use Rattle.parity.proofs.Splits.Orthogonal.{orthogonal-sound}
 use Rattle.parity.proofs.Matrix.Accept.{Accepted, passes}
 use Rattle.parity.proofs.Words.Bytes.{right-bytes, Word}

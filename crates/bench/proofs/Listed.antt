@@ -9,10 +9,9 @@ use lib.Dec.{eqb, ltb, leb}
 use lib.ListN.{length}
 use borrow.Author.Tests.{eqb-true, ne-eqb, ltb-true, leb-true}
 use Rattle.parity.specs.Matrix.{Matrix, lent, inRange, ruleA}
+use Rattle.parity.specs.Sound.{Clean, Sound}
 use Rattle.parity.proofs.Finite.Bools.{beq-same}
 use Rattle.parity.proofs.Finite.Sums.{all-at}
-use Rattle.parity.proofs.Matrix.Clean.{Clean}
-use Rattle.parity.proofs.Matrix.Sound.{Sound}
 use Rattle.parity.proofs.Matrix.Accept.{Accepted, ranges, pack-same, pack-accepted}
 use Rattle.bench.specs.Case.{among, listed, wordsOf}
 use Rattle.bench.specs.Test.{sameList, bitsBelow, allBelow, fits, agree}

@@ -14,8 +14,9 @@ use Rattle.parity.specs.Cycles.{share, splitOf}
 use Rattle.parity.specs.Splits.{Pair, splitRight}
 use Rattle.parity.specs.Record.{kindOf, payload, pairIn, splitWord}
 use Rattle.parity.specs.declared.Form.the-variants.{Third}
+use Rattle.parity.specs.Sound.{Sound}
 use Rattle.parity.proofs.Finite.Sums.{is-true, is-false, is, count-cong, count-end}
-use Rattle.parity.proofs.Matrix.Sound.{Sound, split-sound}
+use Rattle.parity.proofs.Matrix.Sound.{split-sound}
 use Rattle.parity.proofs.Splits.Given.{apart, given-le, given}
 use Rattle.parity.proofs.Lists.Rebuilt.{Right, right}
 use Rattle.parity.proofs.Record.Reading.{split-yes, split-kind, split-wrong, performingAt, read-split}

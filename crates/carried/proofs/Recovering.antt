@@ -8,9 +8,8 @@ use borrow.Author.Tests.{lt-ltb, le-ltb}
 use Rattle.parity.specs.Matrix.{Matrix}
 use Rattle.parity.specs.Cycles.{others, lowerOf, higherOf}
 use Rattle.parity.specs.Splits.{allBack, notBuilt}
+use Rattle.parity.specs.Sound.{Clean, Sound}
 use Rattle.parity.proofs.Finite.Sums.{is-true, is-false, is}
-use Rattle.parity.proofs.Matrix.Clean.{Clean}
-use Rattle.parity.proofs.Matrix.Sound.{Sound}
 use Rattle.parity.proofs.Splits.Back.{split-others}
 use Rattle.parity.proofs.Splits.Undo.{newest, pair-lower, pair-higher, back-split, back-share}
 use Rattle.parity.proofs.Lists.Built.{Built, given, more, good, undone}

@@ -10,11 +10,11 @@ use borrow.Author.Tests.{eq-eqb, ne-eqb, eqb-true, lt-ltb, le-ltb, not-true, not
 use Rattle.parity.specs.Finite.{count}
 use Rattle.parity.specs.Matrix.{Matrix}
 use Rattle.parity.specs.Cycles.{share, takenBack, others, lowerOf, higherOf}
+use Rattle.parity.specs.Sound.{Clean, Sound, Newest}
 use Rattle.parity.proofs.Finite.Sums.{is-true, is-false, is, count-cong, count-suc, count-mono, count-end, count-pos}
-use Rattle.parity.proofs.Matrix.Clean.{Clean}
-use Rattle.parity.proofs.Matrix.Sound.{Sound, sound-rule}
+use Rattle.parity.proofs.Matrix.Sound.{sound-rule}
 use Rattle.parity.proofs.Splits.Back.{back-at, back-bit, back-clean}
-use Rattle.parity.proofs.Splits.Undo.{Newest, newest, no-third, lower-at, higher-at, pair-own}
+use Rattle.parity.proofs.Splits.Undo.{newest, no-third, lower-at, higher-at, pair-own}
 use Rattle.rows.specs.Rows.{Columns, NextOne}
 use Rattle.choice.specs.Given.{together}
 use Rattle.exchange.specs.Back.{Newer}

@@ -9,7 +9,7 @@ use Rattle.parity.specs.Cycles.{splitOf}
 use Rattle.parity.specs.Splits.{splitRight}
 use Rattle.parity.specs.Record.{splitWord, performing}
 use Rattle.parity.specs.declared.Form.the-variants.{Third}
-use Rattle.parity.proofs.Matrix.Sound.{Sound}
+use Rattle.parity.specs.Sound.{Sound}
 use Rattle.rows.specs.Rows.{Columns}
 
 -- r says whether the split of a payload x is right for h, which has k added bits; h′ is then the matrix after it, and g its columns

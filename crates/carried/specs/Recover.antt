@@ -6,9 +6,7 @@ use lib.Dec.{eqb, ltb}
 use Rattle.parity.specs.Matrix.{Matrix}
 use Rattle.parity.specs.Cycles.{takenBack, others}
 use Rattle.parity.specs.Splits.{allBack, notBuilt}
-use Rattle.parity.proofs.Matrix.Clean.{Clean}
-use Rattle.parity.proofs.Matrix.Sound.{Sound}
-use Rattle.parity.proofs.Splits.Undo.{Newest}
+use Rattle.parity.specs.Sound.{Clean, Sound, Newest}
 use Rattle.choice.specs.Given.{together}
 
 -- no two of three columns have a place in common

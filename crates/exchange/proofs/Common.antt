@@ -12,9 +12,9 @@ use lib.ListN.{getD, length, set, length-set}
 use lib.Seq.{getD-set-same, getD-set-other}
 use borrow.Author.Tests.{lt-ltb, le-ltb}
 use Rattle.parity.specs.Matrix.{Matrix, lent}
+use Rattle.parity.specs.Sound.{Clean}
 use Rattle.parity.proofs.Matrix.Digits.{bit-and}
 use Rattle.parity.proofs.Matrix.Lent.{lent-in, lent-out}
-use Rattle.parity.proofs.Matrix.Clean.{Clean}
 use Rattle.rows.specs.Rows.{Column}
 use Rattle.exchange.specs.Merge.{Apart, Both, Meeting, Kept}
 

@@ -8,7 +8,7 @@ use lib.ListN.{getD}
 use borrow.Author.Tests.{eqb-true}
 use Rattle.parity.specs.Finite.{sum, all}
 use Rattle.parity.specs.Matrix.{bitOf}
-use Rattle.parity.specs.House.{turned, circulant, hamming, codeOf, hammingCode, houseCode, tableWord}
+use Rattle.parity.specs.House.{atOffsets, circulant, hamming, codeOf, hammingCode, houseCode, tableWord}
 use Rattle.parity.proofs.Finite.Sums.{all-at}
 
 -- the table of a name
@@ -25,7 +25,7 @@ agrees name c = eqb (getD (table name) c 0) (tableWord 32 (houseCode name .matri
 
 -- the test, computed over all entries of all tables
 entries-agree : all 5 (λ name. all (houseCode name .m) (agrees name)) ≡ true
-unfolding all sum bitOf turned circulant hamming codeOf hammingCode houseCode tableWord table agrees
+unfolding all sum bitOf atOffsets circulant hamming codeOf hammingCode houseCode tableWord table agrees
 entries-agree = refl
 
 -- and so the rule at each entry

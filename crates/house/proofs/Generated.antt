@@ -12,9 +12,9 @@ use lib.Pow.{pow-mono}
 use borrow.Author.Tests.{eq-eqb, ne-eqb, leb-true}
 use Rattle.parity.specs.Finite.{one, sum, all}
 use Rattle.parity.specs.Matrix.{Matrix}
-use Rattle.parity.specs.House.{turns, turned, circulant, hamming, codeOf, hammingCode, houseCode, tableWord}
+use Rattle.parity.specs.House.{offsets, atOffsets, circulant, hamming, codeOf, hammingCode, houseCode, tableWord}
+use Rattle.parity.specs.Sound.{Clean}
 use Rattle.parity.proofs.Finite.Sums.{sum-end, all-at}
-use Rattle.parity.proofs.Matrix.Clean.{Clean}
 use Rattle.parity.proofs.House.Rules.{code-in, table-lt}
 
 -- the code of name 0, and those of the other names, which are one family
@@ -47,17 +47,17 @@ circulant-entry zero c b e k l = code-in 23 23 circulant c b (unfold codeOf in k
 circulant-entry (suc i) c b e k l = absurd (omega arith)
 
 -- the circulant's rule, one e of the list after the other
-pub turn-small : (i : ℕ) → i < 8 → getD turns i 0 ≤ 12
+pub offset-small : (i : ℕ) → i < 8 → getD offsets i 0 ≤ 12
 unfolding all
-turn-small i l = leb-true (getD turns i 0) 12 (all-at 8 (λ i. leb (getD turns i 0) 12) refl i l)
+offset-small i l = leb-true (getD offsets i 0) 12 (all-at 8 (λ i. leb (getD offsets i 0) 12) refl i l)
 
-pub turned-here : (i c b : ℕ) → i < 8 → (c + getD turns i 0) % 23 ≡ b → turned (drop i turns) c b ≡ true
-unfolding turned
-turned-here i c b l e = rw (drop-cons turns i 0 l, eq-eqb ((c + getD turns i 0) % 23) b e)
+pub offset-here : (i c b : ℕ) → i < 8 → (c + getD offsets i 0) % 23 ≡ b → atOffsets (drop i offsets) c b ≡ true
+unfolding atOffsets
+offset-here i c b l e = rw (drop-cons offsets i 0 l, eq-eqb ((c + getD offsets i 0) % 23) b e)
 
-pub turned-on : (i c b : ℕ) → i < 8 → ((c + getD turns i 0) % 23 ≡ b → ⊥) → turned (drop i turns) c b ≡ turned (drop (i + 1) turns) c b
-unfolding turned
-turned-on i c b l d = rw (add-one i, drop-cons turns i 0 l, ne-eqb ((c + getD turns i 0) % 23) b d)
+pub offset-on : (i c b : ℕ) → i < 8 → ((c + getD offsets i 0) % 23 ≡ b → ⊥) → atOffsets (drop i offsets) c b ≡ atOffsets (drop (i + 1) offsets) c b
+unfolding atOffsets
+offset-on i c b l d = rw (add-one i, drop-cons offsets i 0 l, ne-eqb ((c + getD offsets i 0) % 23) b d)
 
 -- a word of a table, bit after bit
 pub no-term : {x : Bool} (b : ℕ) → x ≡ false → one x * 2 ^ b ≡ 0

@@ -12,9 +12,9 @@ use lib.Dec.{ltb}
 use borrow.Author.Tests.{lt-ltb, le-ltb}
 use Rattle.parity.specs.Matrix.{Matrix, wordOf, pack}
 use Rattle.parity.specs.House.{tableWord}
+use Rattle.parity.specs.Sound.{Clean}
 use Rattle.parity.proofs.Finite.Sums.{sum-cong, sum-zero, sum-end, below-next}
 use Rattle.parity.proofs.Matrix.Packing.{pack-length, pack-at}
-use Rattle.parity.proofs.Matrix.Clean.{Clean}
 use Rattle.rows.specs.Zeros.{Zeroed}
 use Rattle.house.specs.Holding.{Holding}
 use Rattle.house.proofs.Generated.{no-term}

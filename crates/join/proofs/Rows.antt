@@ -16,9 +16,9 @@ use borrow.Author.Tests.{eq-eqb, eqb-true, lt-ltb, le-ltb}
 use Rattle.parity.specs.Finite.{all, any}
 use Rattle.parity.specs.Matrix.{Matrix, bitOf, lent, wordOf, pack}
 use Rattle.parity.specs.Joining.{sameCheck, Joined, equalsEarlier, joinCheck, withCheck, joined}
+use Rattle.parity.specs.Sound.{Clean}
 use Rattle.parity.proofs.Finite.Bools.{same-test, beq-refl}
 use Rattle.parity.proofs.Finite.Sums.{all-at, all-of, any-at, any-of, below-next}
-use Rattle.parity.proofs.Matrix.Clean.{Clean}
 use Rattle.parity.proofs.Matrix.Digits.{same-bits, bit-zero}
 use Rattle.parity.proofs.Matrix.Packing.{word-lt, word-bit, pack-length, pack-at, pack-lent}
 use Rattle.parity.proofs.Joining.Checks.{same-bits-of, join-equal, join-new, with-checks, with-last, with-other, checks-most}

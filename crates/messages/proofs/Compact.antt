@@ -10,7 +10,7 @@ use native.Mathlib.Omega.{arith}
 use borrow.Author.Tests.{eq-eqb, ne-eqb}
 use Rattle.parity.specs.Finite.{sum, count, all, any}
 use Rattle.parity.proofs.Finite.Sums.{is-true, is-false, is, count-suc, count-mono}
-use Rattle.parity.specs.Soft.{isErased, isSure, turns, leastSoft, turnsOdd, checkSends, gathered, but}
+use Rattle.parity.specs.Soft.{isErased, isSure, turnsSign, leastSoft, turnsOdd, checkSends, gathered, but}
 use Rattle.parity.specs.declared.Channel.{Channel}
 use Rattle.parity.proofs.Soft.Cong.{check-cong, gathered-cong}
 
@@ -67,7 +67,7 @@ module _ (p : ℕ → Bool) (f D : ℕ → Channel) where
 
     pub row-check : (N : ℕ) → Row N → checkSends (count N p) q D ≡ checkSends N through f
     unfolding checkSends turnsOdd
-    row-check N R = rw (row-any isErased N R, row-all isSure N R, row-count turns N R, row-least N R)
+    row-check N R = rw (row-any isErased N R, row-all isSure N R, row-count turnsSign N R, row-least N R)
 
     pub row-gathered : (v : Channel) (N : ℕ) → Row N → gathered v (count N p) q D ≡ gathered v N through f
     unfolding gathered

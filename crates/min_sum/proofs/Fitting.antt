@@ -7,8 +7,9 @@ use native.Mathlib.Nat.{add-zero, add-suc}
 use native.Mathlib.Omega.{arith}
 use Rattle.parity.specs.Finite.{count}
 use Rattle.parity.specs.Matrix.{Matrix}
+use Rattle.parity.specs.Sound.{Sound}
 use Rattle.parity.proofs.Finite.Sums.{count-bound, count-end}
-use Rattle.parity.proofs.Matrix.Sound.{Sound, sound-rule}
+use Rattle.parity.proofs.Matrix.Sound.{sound-rule}
 use Rattle.messages.specs.Memory.{start, Inner, Within}
 use Rattle.messages.proofs.Places.{start-zero, start-suc}
 use Rattle.messages.proofs.Cursor.{none-counted}

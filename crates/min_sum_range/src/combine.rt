@@ -8,7 +8,7 @@ ghost use mathlib.Core.Path.{_≡_};
 ghost use Prim.Native.Nat.{_-_, _<_};
 ghost use lib.ListN.{length};
 ghost use Rattle.parity.specs.Floats.{lesser};
-ghost use Rattle.parity.specs.SoftRange.{pairOf, greater, combined, rangeTo};
+ghost use Rattle.parity.specs.SoftRange.{sendsForTwo, greater, combined, rangeTo};
 
 fn lesser_of(a: f32, x: f32) -> f32
     ensures { λ r. ⌜ r ≡ lesser a x ⌝ }
@@ -30,7 +30,7 @@ fn greater_of(a: f32, x: f32) -> f32
 
 // What a check sends for two soft values.
 fn pair(x: f32, y: f32) -> f32
-    ensures { λ r. ⌜ r ≡ pairOf x y ⌝ }
+    ensures { λ r. ⌜ r ≡ sendsForTwo x y ⌝ }
 {
     let odd = flipped(x < 0.0, y < 0.0);
     turn(odd, lesser_of(magnitude_of(x), magnitude_of(y)))

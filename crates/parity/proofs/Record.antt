@@ -8,4 +8,5 @@ pub mod ReadBack
 pub mod Performed
 pub mod SecondForm
 pub mod RoundTrip
+pub mod Before
 pub mod Relay

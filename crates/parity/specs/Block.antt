@@ -19,13 +19,13 @@ bitsRemain r = ltb 0 (getD (r .values) 2 0 + getD (r .values) 3 0)
 
 -- The answer names the last stage to run, and how many bits the two peelings recovered together.
 abbrev pub mended : ℕ → ℕ → List ℕ → Outcome
-mended stage recovered after = record { reply = answer (stage ∷ recovered ∷ []); after = after }
+mended stage bits after = record { reply = answer (stage ∷ bits ∷ []); after = after }
 
 -- Stage 3: it eliminates on the given matrix, from the received word; the peelings before recovered so many bits.
 unfoldable pub eliminating : List ℕ → ℕ → ℕ → List ℕ → ℕ → Outcome
-eliminating ws n m w recovered =
+eliminating ws n m w bits =
     let d = determineOutcome ws n m 0 w in
-    cond (eqb (d .reply .number) 0) (mended 3 recovered (d .after)) d
+    cond (eqb (d .reply .number) 0) (mended 3 bits (d .after)) d
 
 -- The orthogonalise of its own copy, the k that it answers, and the peeling of that copy from the received word, with k bytes of 2 behind it.
 abbrev pub copyMade : List ℕ → ℕ → ℕ → Outcome
@@ -40,10 +40,10 @@ copyPeeled ws n m w = peelOutcome (copyMade ws n m .after) n m (copyK ws n m) (w
 -- Stage 2: it orthogonalises its own copy and peels that from the received word; if bits remain, stage 3 follows. An orthogonalise refused 9 moves to
 -- elimination, its peeling counted as 0. The first peeling recovered so many bits.
 unfoldable pub peelingCopy : List ℕ → ℕ → ℕ → List ℕ → ℕ → Outcome
-peelingCopy ws n m w recovered =
+peelingCopy ws n m w bits =
     let p = copyPeeled ws n m w in
-    let both = recovered + bitsRecovered (p .reply) in
-    cond (eqb (copyMade ws n m .reply .number) 9) (eliminating ws n m w recovered)
+    let both = bits + bitsRecovered (p .reply) in
+    cond (eqb (copyMade ws n m .reply .number) 9) (eliminating ws n m w bits)
     (cond (eqb (p .reply .number) 0)
     (cond (bitsRemain (p .reply)) (eliminating ws n m w both) (mended 2 both (take n (p .after))))
     (record { reply = p .reply; after = w }))

@@ -8,9 +8,10 @@ use mathlib.Core.List.{List, [], _∷_, _++_}
 use lib.Dec.{eqb}
 use lib.ListN.{getD, length, take, replicate}
 use Rattle.parity.specs.Finite.{listFrom}
-use Rattle.parity.specs.Matrix.{cause}
+use Rattle.parity.specs.Matrix.{lent, cause}
 use Rattle.parity.specs.Cycles.{pairs}
-use Rattle.parity.specs.Causes.{Reply, answer, Outcome}
+use Rattle.parity.specs.Splits.{splitsSum}
+use Rattle.parity.specs.Causes.{Reply, answer, refusal, Outcome}
 use Rattle.parity.specs.Calls.{byteOf, countReply, splitOutcome, takeBackOutcome, orthogonaliseOutcome, verifyReply, extendOutcome, peelOutcome}
 
 -- The list's calls are splits, of any two numbers, orthogonalisings and takings back.
@@ -118,8 +119,13 @@ pub record Keeps (given : List ℕ) (n m : ℕ) (s : Stand) : Type 0 where
   pub counts-start : countReply given n m 0 ≡ answer (cycles-start ∷ [])
   pub counts-left : countReply (s .words) n m (s .k) ≡ answer (cycles-left ∷ [])
   pub falls : s .carried + cycles-left ≤ cycles-start
+  -- M-101: the carried sum is the sum of s (s - 1) / 2 over the splits not taken back, those inside an orthogonalise among them: the splits that stand
+  pub not-taken-back : s .carried ≡ splitsSum (lent 8 (s .words)) n m (s .k)
   -- what a taking back takes off next is at most the carried sum, so that the difference of natural numbers in `next` is the true one
   pub enough : madeSum (takeBackOutcome (s .words) n m (s .k) .reply) ≤ s .carried
+  -- taking back is refused only 15, where no split stands, and never 16
+  pub back-none : s .k ≡ 0 → takeBackOutcome (s .words) n m (s .k) .reply ≡ refusal 15 []
+  pub back-answers : (s .k ≡ 0 → ⊥) → takeBackOutcome (s .words) n m (s .k) .reply .number ≡ 0
   -- it keeps the code: each codeword begins exactly one extended codeword, which extending writes whatever its output held before,
   pub each-codeword : (x held : List ℕ) → Verifies given n m 0 x → length held ≡ n + s .k
       → BeginsOne given n m (s .words) (s .k) x (extendOutcome (s .words) n m (s .k) x held)

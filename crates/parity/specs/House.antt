@@ -7,17 +7,17 @@ use Rattle.parity.specs.Finite.{one, sum}
 use Rattle.parity.specs.Matrix.{Matrix, bitOf}
 
 -- Document 01, case L: the list of e
-abbrev pub turns : List ℕ
-turns = 0 ∷ 1 ∷ 2 ∷ 3 ∷ 4 ∷ 7 ∷ 10 ∷ 12 ∷ []
+abbrev pub offsets : List ℕ
+offsets = 0 ∷ 1 ∷ 2 ∷ 3 ∷ 4 ∷ 7 ∷ 10 ∷ 12 ∷ []
 
 -- bit b is (c+e) mod 23 for an e of a list
-unfoldable pub turned : List ℕ → Matrix
-turned [] c b = false
-turned (e ∷ es) c b = eqb ((c + e) % 23) b || turned es c b
+unfoldable pub atOffsets : List ℕ → Matrix
+atOffsets [] c b = false
+atOffsets (e ∷ es) c b = eqb ((c + e) % 23) b || atOffsets es c b
 
 -- The circulant: check c contains (c+e) mod 23 for e in 0,1,2,3,4,7,10,12.
 unfoldable pub circulant : Matrix
-circulant = turned turns
+circulant = atOffsets offsets
 
 -- The Hamming checks: check c contains bit b exactly when bit c of b+1 is one.
 unfoldable pub hamming : Matrix

@@ -1,6 +1,7 @@
 pub mod Finite
 pub mod Matrix
 pub mod Cycles
+pub mod Sound
 pub mod Splits
 pub mod Words
 pub mod Determining

@@ -5,7 +5,7 @@ use mathlib.Core.Path.{_≡_}
 use mathlib.Core.Bool.{Bool, true, false, not, _&&_, cond}
 use mathlib.Core.List.{List, [], _∷_, _++_, List·Memᴰ}
 use lib.ListN.{getD, length, take, drop, replicate}
-use Rattle.parity.specs.Record.{kindOf, secondForm}
+use Rattle.parity.specs.Record.{kindOf, secondForm, withoutSplits}
 use Rattle.parity.specs.Causes.{answer, refusal, Outcome}
 use Rattle.parity.specs.Matrix.{lent, cause, Matrix, pack}
 use Rattle.parity.specs.House.{houseCode}
@@ -37,23 +37,22 @@ abbrev pub WrittenLoads : Type 0
 WrittenLoads = (ws : List ℕ) (n m k : ℕ) (target held : List ℕ) (used : ℕ) → writeOutcome ws n m k target .reply ≡ answer (used ∷ []) → length held ≡ 4096
     → loadOutcome (take used (writeOutcome ws n m k target .after)) held ≡ record { reply = answer (n ∷ m ∷ k ∷ []); after = ws }
 
--- a record that loads, with k, is written as these words
-abbrev pub WrittenAs : List ℕ → List ℕ → Type 0
+-- a record that loads, with k, is written as the words that k gives
+abbrev pub WrittenAs : List ℕ → (ℕ → List ℕ) → Type 0
 WrittenAs source words = (held target : List ℕ) (n m k : ℕ) → loadOutcome source held .reply ≡ answer (n ∷ m ∷ k ∷ []) → length source ≤ length target
-    → writeOutcome (loadOutcome source held .after) n m k target ≡ record { reply = answer (length source ∷ []); after = words ++ drop (length source) target }
+    → writeOutcome (loadOutcome source held .after) n m k target ≡ record { reply = answer (length source ∷ []); after = words k ++ drop (length source) target }
 
 -- a loaded second-form record writes to itself (M-103);
 abbrev pub SecondFormKept : Type 0
-SecondFormKept = (source : List ℕ) → kindOf (getD source 0 0) ≡ 4 → WrittenAs source source
+SecondFormKept = (source : List ℕ) → kindOf (getD source 0 0) ≡ 4 → WrittenAs source (λ k. source)
 
 -- a first-form one to its second form, which has as many words (M-103);
 abbrev pub FirstFormNumbered : Type 0
-FirstFormNumbered = (source : List ℕ) → kindOf (getD source 0 0) ≡ 1 → WrittenAs source (secondForm source)
+FirstFormNumbered = (source : List ℕ) → kindOf (getD source 0 0) ≡ 1 → WrittenAs source (λ k. secondForm source)
 
 -- a third-form one to itself if it has splits, and else to its second form (M-107).
 abbrev pub ThirdFormKept : Type 0
-ThirdFormKept = (source held : List ℕ) (n m k : ℕ) → kindOf (getD source 0 0) ≡ 5 → loadOutcome source held .reply ≡ answer (n ∷ m ∷ k ∷ [])
-    → WrittenAs source (cond (ltb 0 k) source (secondForm source))
+ThirdFormKept = (source : List ℕ) → kindOf (getD source 0 0) ≡ 5 → WrittenAs source (λ k. cond (ltb 0 k) source (secondForm source))
 
 -- M-104: a house code that is copied is accepted with k = 0, and its words hold the matrix that its rule says.
 abbrev pub HouseCopied : Type 0
@@ -155,26 +154,32 @@ OrthogonaliseHolders = (ws : List ℕ) (n m k splits total k′ : ℕ) (held : L
     → (splits ≡ 0 → held ≡ [])
     × (0 < splits → Names (m + k′) (holdingBeside (lent 8 (orthogonaliseOutcome ws n m k .after)) (m + (k′ - 1)) (n + (k′ - 1))) held)
 
--- M-107: at most 14,914 words are used;
+-- 01 and M-107: at most 14,522 words are used for a matrix with k = 0, and one more for each split: at most 14,914;
 abbrev pub WrittenMost : Type 0
-WrittenMost = (ws : List ℕ) (n m k : ℕ) (target : List ℕ) (used : ℕ) → writeOutcome ws n m k target .reply ≡ answer (used ∷ []) → used ≤ 14914
+WrittenMost = (ws : List ℕ) (n m k : ℕ) (target : List ℕ) (used : ℕ) → writeOutcome ws n m k target .reply ≡ answer (used ∷ []) → used ≤ 14522 + k
 
 -- an accepted matrix whose recovered list does not rebuild it is refused 16;
 abbrev pub NotRebuilt : Type 0
 NotRebuilt = (ws : List ℕ) (n m k : ℕ) (target : List ℕ) → cause ws n m k ≡ 0 → rebuilds (lent 8 ws) n m k ≡ false
     → writeOutcome ws n m k target ≡ record { reply = refusal 16 []; after = target }
 
--- The checks before the splits of a loaded matrix, as words of their own; and what stands after loading, at the start of a list of calls: the carried
--- sum is that of the loaded splits. Without splits it is demand 3's start.
+-- the checks before the splits of a loaded matrix, as words of their own
 abbrev pub checksBefore : List ℕ → ℕ → ℕ → ℕ → List ℕ
 checksBefore ws n m k = pack 8 (allBack (lent 8 ws) n m k)
 
+-- The record without its kind 6 words loads, with k = 0, to exactly these words.
+abbrev pub LoadsBefore : Type 0
+LoadsBefore = (source held : List ℕ) (n m k : ℕ) → loadOutcome source held .reply ≡ answer (n ∷ m ∷ k ∷ [])
+    → loadOutcome (withoutSplits source) held ≡ record { reply = answer (n ∷ m ∷ 0 ∷ []); after = checksBefore (loadOutcome source held .after) n m k }
+
+-- What stands after loading, at the start of a list of calls: the carried sum is that of the loaded splits. Without splits it is demand 3's start.
 abbrev pub loadedStart : List ℕ → ℕ → ℕ → ℕ → Stand
 loadedStart ws n m k = record { words = ws; k = k; carried = splitsSum (lent 8 ws) n m k; last = none }
 
 -- What holds of the checks before the splits and of what stands after a list that starts at a load:
 pub record Relayed (given : List ℕ) (n m : ℕ) (s : Stand) : Type 0 where
-  -- demand 3's words, from the load on: the code of the checks before the splits is kept, and no less is recovered than by them
+  -- demand 3's words, from the load on: the code of the checks before the splits is kept, and no less is recovered than by them; the carried sum is that
+  -- of the splits that stand, loaded or made since, and taking back is refused only 15
   pub accepted : cause given n m 0 ≡ 0
   pub keeps : Keeps given n m s
   -- they are the checks before all splits that are not taken back
@@ -262,11 +267,11 @@ MendRefusesAdded = (ws : List ℕ) (n m k : ℕ) (w : List ℕ) → cause ws n m
 -- an answer has a stage from 1 to 3 and at most 632 recovered bits, and where it names stage 1 or 2, no bit is left.
 pub record Mended (n : ℕ) (o : Outcome) : Type 0 where
   pub stage : ℕ
-  pub recovered : ℕ
-  pub answers : o .reply ≡ answer (stage ∷ recovered ∷ [])
+  pub bits : ℕ
+  pub answers : o .reply ≡ answer (stage ∷ bits ∷ [])
   pub first : 1 ≤ stage
   pub last : stage ≤ 3
-  pub most : recovered ≤ 632
+  pub most : bits ≤ 632
   pub whole : stage ≤ 2 → (b : ℕ) → b < n → Left (o .after) b → ⊥
 
 abbrev pub MendAnswers : Type 0
@@ -278,13 +283,13 @@ AddedWithSent = (ws : List ℕ) (n m k : ℕ) (w : List ℕ) (rs ra la : ℕ) �
 
 -- M-111: what peeling w, a joined codeword x with bits erased, comes to with either matrix and with the joined one: none of the three is refused, the joined
 -- matrix leaves no bit that either would have recovered, and what it does not leave is the codeword's.
-pub record PeelsNoLess (n : ℕ) (x w : List ℕ) (first second joined : Outcome) : Type 0 where
-  pub first-answers : first .reply .number ≡ 0
-  pub second-answers : second .reply .number ≡ 0
-  pub joined-answers : joined .reply .number ≡ 0
-  pub no-less-first : (b : ℕ) → b < n → Recovered w (first .after) b → Left (joined .after) b → ⊥
-  pub no-less-second : (b : ℕ) → b < n → Recovered w (second .after) b → Left (joined .after) b → ⊥
-  pub right : (b : ℕ) → b < n → (Left (joined .after) b → ⊥) → byteOf (joined .after) b ≡ byteOf x b
+pub record PeelsNoLess (n : ℕ) (x w : List ℕ) (by-first by-second by-joined : Outcome) : Type 0 where
+  pub first-answers : by-first .reply .number ≡ 0
+  pub second-answers : by-second .reply .number ≡ 0
+  pub joined-answers : by-joined .reply .number ≡ 0
+  pub no-less-first : (b : ℕ) → b < n → Recovered w (by-first .after) b → Left (by-joined .after) b → ⊥
+  pub no-less-second : (b : ℕ) → b < n → Recovered w (by-second .after) b → Left (by-joined .after) b → ⊥
+  pub right : (b : ℕ) → b < n → (Left (by-joined .after) b → ⊥) → byteOf (by-joined .after) b ≡ byteOf x b
 
 -- What two matrices and the joined one, ws₃ with n₁ bits and `checks` checks, have to do with each other:
 pub record Joins (ws₁ : List ℕ) (n₁ m₁ k₁ : ℕ) (ws₂ : List ℕ) (n₂ m₂ k₂ : ℕ) (ws₃ : List ℕ) (checks : ℕ) : Type 0 where

@@ -6,7 +6,7 @@ use lib.Dec.{eqb, ltb, leb}
 use Rattle.parity.specs.Finite.{count}
 use Rattle.parity.specs.Matrix.{Matrix, put, inRange}
 use Rattle.parity.specs.Cycles.{splitOf}
-use Rattle.parity.specs.Splits.{Pair, splitRight, allBack, recovered}
+use Rattle.parity.specs.Splits.{Pair, splitRight, allBack, recoveredList}
 use Rattle.parity.specs.declared.Form.{Form}
 use Rattle.parity.specs.declared.Form.the-variants.{First, Second, Third}
 
@@ -146,7 +146,12 @@ formFor zero = Second
 formFor (suc k) = Third
 
 unfoldable pub written : Matrix → ℕ → ℕ → ℕ → List ℕ
-written h n m k = recordOf (formFor k) (allBack h n m k) n m (recovered h n m k)
+written h n m k = recordOf (formFor k) (allBack h n m k) n m (recoveredList h n m k)
+
+-- A record without its kind 6 words.
+unfoldable pub withoutSplits : List ℕ → List ℕ
+withoutSplits [] = []
+withoutSplits (w ∷ ws) = cond (eqb (kindOf w) 6) (withoutSplits ws) (w ∷ withoutSplits ws)
 
 -- The second form of a record without splits, word by word: its first word has kind 4, and each kind 2 word holds the number of the check that it
 -- opens, which is added to it in the first form alone, c being the number of those before it.

@@ -47,10 +47,10 @@ isSure (Soft x) = false
 isSure Erased = false
 
 -- a sure 1 and a negative value turn the sign
-abbrev pub turns : Channel → Bool
-turns (Sure b) = b
-turns (Soft x) = negative x
-turns Erased = false
+abbrev pub turnsSign : Channel → Bool
+turnsSign (Sure b) = b
+turnsSign (Soft x) = negative x
+turnsSign Erased = false
 
 -- one value more among those whose least magnitude is looked for
 abbrev pub leastWith : Float → Channel → Float
@@ -65,7 +65,7 @@ leastSoft (suc n) p f = cond (p n) (leastWith (leastSoft n p f) (f n)) (leastSof
 
 -- whether an odd number of them turns the sign; where all are sure, this is their parity
 unfoldable pub turnsOdd : ℕ → (ℕ → Bool) → (ℕ → Channel) → Bool
-turnsOdd n p f = odd (count n (λ i. p i && turns (f i)))
+turnsOdd n p f = odd (count n (λ i. p i && turnsSign (f i)))
 
 -- What a check sends to a bit, from what its other bits sent: of f 0 .. f (n - 1) those that pass the test.
 -- Erased if one is erased; sure with their parity if all are sure; else the least magnitude among the soft ones, its sign turned once for each sure 1
@@ -77,17 +77,17 @@ checkSends n p f =
     (Soft (turned (turnsOdd n p f) (leastSoft n p f))))
 
 -- Two values in order: the first sure one, else the soft ones added, else erased. One rounding for each addition.
-abbrev pub joined : Channel → Channel → Channel
-joined (Sure a) v = Sure a
-joined (Soft s) (Sure b) = Sure b
-joined (Soft s) (Soft x) = Soft (add binary32 s x)
-joined (Soft s) Erased = Soft s
-joined Erased v = v
+abbrev pub withNext : Channel → Channel → Channel
+withNext (Sure a) v = Sure a
+withNext (Soft s) (Sure b) = Sure b
+withNext (Soft s) (Soft x) = Soft (add binary32 s x)
+withNext (Soft s) Erased = Soft s
+withNext Erased v = v
 
 -- the channel value v, and then those of f 0 .. f (n - 1) that pass the test, by rising number
 unfoldable pub gathered : Channel → ℕ → (ℕ → Bool) → (ℕ → Channel) → Channel
 gathered v zero p f = v
-gathered v (suc n) p f = cond (p n) (joined (gathered v n p f) (f n)) (gathered v n p f)
+gathered v (suc n) p f = cond (p n) (withNext (gathered v n p f) (f n)) (gathered v n p f)
 
 -- Only the whole sum is cut, and zero leaves as plus zero.
 abbrev pub settled : Channel → Channel

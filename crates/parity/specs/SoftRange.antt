@@ -13,8 +13,8 @@ use Rattle.parity.specs.Floats.{negative, plusZero, magnitude, turned, l
 use Rattle.parity.specs.declared.Ends.{Ends}
 
 -- what a check sends for two soft values: the lesser magnitude, its sign turned once for each negative value
-abbrev pub pairOf : Float → Float → Float
-pairOf x y = turned (cond (negative x) (not (negative y)) (negative y)) (lesser (magnitude x) (magnitude y))
+abbrev pub sendsForTwo : Float → Float → Float
+sendsForTwo x y = turned (cond (negative x) (not (negative y)) (negative y)) (lesser (magnitude x) (magnitude y))
 
 -- the greater of two, the first where they are equal
 abbrev pub greater : Float → Float → Float
@@ -31,8 +31,8 @@ plusZeros e = record { low = plusZero (e .low); high = plusZero (e .high) }
 -- two ranges combined: the least and the greatest answer at their ends
 abbrev pub combined : Ends → Ends → Ends
 combined a b = record {
-  low = lesser (lesser (pairOf (a .low) (b .low)) (pairOf (a .low) (b .high))) (lesser (pairOf (a .high) (b .low)) (pairOf (a .high) (b .high)));
-  high = greater (greater (pairOf (a .low) (b .low)) (pairOf (a .low) (b .high))) (greater (pairOf (a .high) (b .low)) (pairOf (a .high) (b .high)));
+  low = lesser (lesser (sendsForTwo (a .low) (b .low)) (sendsForTwo (a .low) (b .high))) (lesser (sendsForTwo (a .high) (b .low)) (sendsForTwo (a .high) (b .high)));
+  high = greater (greater (sendsForTwo (a .low) (b .low)) (sendsForTwo (a .low) (b .high))) (greater (sendsForTwo (a .high) (b .low)) (sendsForTwo (a .high) (b .high)));
 }
 
 -- the ranges of the first i + 1 values, combined one after the other

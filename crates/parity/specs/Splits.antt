@@ -41,13 +41,13 @@ allBack h n m (suc k) = allBack (takenBack h (n + k) (m + k)) n m k
 unfoldable pub pairOf : Matrix → ℕ → ℕ → Pair
 pairOf h N M = record { lower = lowerOf h N M; higher = higherOf h N M }
 
-unfoldable pub recovered : Matrix → ℕ → ℕ → ℕ → List Pair
-recovered h n m zero = []
-recovered h n m (suc k) = pairOf h (n + k) (m + k) ∷ recovered (takenBack h (n + k) (m + k)) n m k
+unfoldable pub recoveredList : Matrix → ℕ → ℕ → ℕ → List Pair
+recoveredList h n m zero = []
+recoveredList h n m (suc k) = pairOf h (n + k) (m + k) ∷ recoveredList (takenBack h (n + k) (m + k)) n m k
 
 -- the sum of s (s - 1) / 2 over the splits of a matrix
 unfoldable pub splitsSum : Matrix → ℕ → ℕ → ℕ → ℕ
-splitsSum h n m k = sumAll (allBack h n m k) n m (recovered h n m k)
+splitsSum h n m k = sumAll (allBack h n m k) n m (recoveredList h n m k)
 
 -- none of these takings back would be refused 16
 unfoldable pub backRight : Matrix → ℕ → ℕ → ℕ → Bool
@@ -62,7 +62,7 @@ sameMatrix N M g h = all M (λ c. all N (λ b. Bool·beq (g c b) (h c b)))
 unfoldable pub rebuilds : Matrix → ℕ → ℕ → ℕ → Bool
 rebuilds h n m k =
     let g = allBack h n m k in
-    let ps = recovered h n m k in
+    let ps = recoveredList h n m k in
     splitsRight g n m ps && sameMatrix (n + k) (m + k) (splitAll g n m ps) h
 
 -- cause 16 in writing: some taking back on the way would be refused 16, or the recovered list does not rebuild the matrix

@@ -8,7 +8,7 @@ use Rattle.parity.specs.Matrix.{Matrix, lent}
 use Rattle.parity.specs.Record.{carries, faulty, loaded, loading, formFor}
 use Rattle.parity.specs.declared.Form.{Form}
 use Rattle.parity.specs.declared.Form.the-variants.{Second, Third}
-use Rattle.parity.proofs.Matrix.Sound.{Sound}
+use Rattle.parity.specs.Sound.{Sound}
 use Rattle.parity.proofs.Record.Reading.{split-none}
 use Rattle.parity.proofs.Record.ReadBack.{checks-sound}
 use Rattle.reading.specs.Judge.{ChecksRight, Ends, Breaks}

@@ -8,7 +8,7 @@ use native.Mathlib.Numerals.{add-one}
 use lib.ListN.{length, set, length-set}
 use lib.Seq.{getD-set-same, getD-set-other}
 use lib.Ieee.{Float, nan}
-use Rattle.parity.specs.Soft.{joined, settled, gathered, bitSends, byteFor, floatFor, messageAt, but}
+use Rattle.parity.specs.Soft.{withNext, settled, gathered, bitSends, byteFor, floatFor, messageAt, but}
 use Rattle.soft.specs.Pass.{Holding, Partly, every, bitAnswer}
 use Rattle.soft.specs.Sums.{partSum, joinedWith, settledOf}
 use Rattle.parity.specs.declared.Channel.{Channel}
@@ -21,7 +21,7 @@ module _ (v : Channel) (f : ℕ → Channel) where
   unfolding partSum gathered
   sum-none t = refl
 
-  pub sum-other : (n t : ℕ) → (n ≡ t → ⊥) → partSum v f (n + 1) t ≡ joined (partSum v f n t) (f n)
+  pub sum-other : (n t : ℕ) → (n ≡ t → ⊥) → partSum v f (n + 1) t ≡ withNext (partSum v f n t) (f n)
   unfolding partSum gathered
   sum-other n t m = rw (add-one n, but-other t n m)
 
@@ -49,8 +49,8 @@ module _ (v : Channel) (f : ℕ → Channel) where
   sums-more d j k ts xs P us ys Q =
       let ku : j < length us = omega (arith, Q .tags) in
       let ky : j < length ys = omega (arith, Q .values) in
-      let now-at : (t : ℕ) → t < j → joined (messageAt ts xs t) (f j) ≡ partSum v f (j + 1) t = λ t l.
-      ap (λ w. joined w (f j)) (partly-new d j (partSum v f j) f ts xs P t l) ∙ sym (sum-other j t (λ z. omega arith)) in
+      let now-at : (t : ℕ) → t < j → withNext (messageAt ts xs t) (f j) ≡ partSum v f (j + 1) t = λ t l.
+      ap (λ w. withNext w (f j)) (partly-new d j (partSum v f j) f ts xs P t l) ∙ sym (sum-other j t (λ z. omega arith)) in
       record {
         tags = length-set us j _ ∙ Q .tags;
         values = length-set ys j _ ∙ Q .values;
@@ -66,8 +66,8 @@ module _ (v : Channel) (f : ℕ → Channel) where
       }
 
   -- one value more at the end
-  pub sum-next : (w u : Channel) (j : ℕ) → w ≡ partSum v f j j → u ≡ f j → joined w u ≡ partSum v f (j + 1) (j + 1)
-  sum-next w u j e q = rw (e, q) (ap (λ z. joined z (f j)) (sum-past j j (j + 1) (omega arith) (omega arith)) ∙ sym (sum-other j (j + 1) (λ z. omega arith)))
+  pub sum-next : (w u : Channel) (j : ℕ) → w ≡ partSum v f j j → u ≡ f j → withNext w u ≡ partSum v f (j + 1) (j + 1)
+  sum-next w u j e q = rw (e, q) (ap (λ z. withNext z (f j)) (sum-past j j (j + 1) (omega arith) (omega arith)) ∙ sym (sum-other j (j + 1) (λ z. omega arith)))
 
   -- the sums, settled, are the answers
   pub settled-sums : (d : ℕ) (us : List ℕ) (ys : List Float) → Holding d (partSum v f d) us ys → (ts : List ℕ) (xs : List Float)

@@ -10,7 +10,7 @@ use Rattle.parity.specs.Finite.{one, count, any}
 use Rattle.parity.specs.Words.{odd}
 use Rattle.parity.proofs.Finite.Sums.{is-true, is-false, is}
 use Rattle.parity.specs.Floats.{turned}
-use Rattle.parity.specs.Soft.{isErased, isSoft, turns, leastSoft, turnsOdd, checkSends, but}
+use Rattle.parity.specs.Soft.{isErased, isSoft, turnsSign, leastSoft, turnsOdd, checkSends, but}
 use Rattle.soft.specs.Pass.{seen, answerTo, Sounds, checkAnswer}
 use Rattle.parity.specs.declared.Channel.{Channel}
 use Rattle.parity.proofs.Soft.Counts.{count-but, any-count, all-sure, odd-less}
@@ -46,9 +46,9 @@ module _ (d : ℕ) (f : ℕ → Channel) (S : Sounds d f) (t : ℕ) (k : t < d) 
     | no z ↦ rw (ne-eqb _ _ z) (L .same t (λ y. z (sym y)))
   ]
 
-  parity-is : turnsOdd d (but t) f ≡ cond (turns (f t)) (not (seen d f d .odd)) (seen d f d .odd)
+  parity-is : turnsOdd d (but t) f ≡ cond (turnsSign (f t)) (not (seen d f d .odd)) (seen d f d .odd)
   unfolding turnsOdd
-  parity-is = rw (C .turned) (odd-less _ _ (turns (f t)) (count-but d t (λ i. turns (f i)) k))
+  parity-is = rw (C .turned) (odd-less _ _ (turnsSign (f t)) (count-but d t (λ i. turnsSign (f i)) k))
 
   pub check-answer : checkAnswer d f t ≡ answerTo (seen d f d) t (f t)
   unfolding checkAnswer checkSends

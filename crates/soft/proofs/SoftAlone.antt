@@ -7,7 +7,7 @@ use native.Mathlib.Omega.{arith}
 use lib.ListN.{getD, length, set, length-set}
 use lib.Seq.{getD-set-same, getD-set-other}
 use lib.Ieee.{Float, nan, binary32, add}
-use Rattle.parity.specs.Soft.{byteFor, floatFor, messageAt, joined}
+use Rattle.parity.specs.Soft.{byteFor, floatFor, messageAt, withNext}
 use Rattle.parity.specs.declared.Channel.the-variants.{Soft}
 use Rattle.parity.proofs.Soft.Cong.{gathered-cong}
 use Rattle.soft.specs.Pass.{Holding}
@@ -46,8 +46,8 @@ module _ (c : Float) (xs : List Float) where
           | yes q ↦ rw q (ap Soft (getD-set-same zs j all nan kz) ∙ S .sum ∙ sym (sum-at (Soft c) (softAt xs) j))
           | no q ↦
               ap Soft (getD-set-other zs j t all nan q ∙ A .new t (omega arith))
-              ∙ ap (λ v. joined v (Soft (getD ys j nan))) (S .new t (omega arith))
-              ∙ ap (λ a. joined (partSum (Soft c) (softAt xs) j t) (Soft a)) e
+              ∙ ap (λ v. withNext v (Soft (getD ys j nan))) (S .new t (omega arith))
+              ∙ ap (λ a. withNext (partSum (Soft c) (softAt xs) j t) (Soft a)) e
               ∙ sym (sum-other (Soft c) (softAt xs) j t (λ z. omega arith))
         ];
         old = λ t l. getD-set-other zs j t all nan (λ q. omega arith) ∙ A .old t (omega arith) ∙ S .old t (omega arith);

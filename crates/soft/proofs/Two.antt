@@ -11,7 +11,7 @@ use Rattle.parity.specs.Finite.{one, count}
 use Rattle.parity.specs.Words.{odd}
 use Rattle.parity.proofs.Finite.Sums.{is-true, is-false, is, count-suc, count-bound}
 use Rattle.parity.specs.Floats.{magnitude, negative, lesser, infinite, finite}
-use Rattle.parity.specs.Soft.{isErased, isSoft, turns, leastWith, leastSoft, sound, but}
+use Rattle.parity.specs.Soft.{isErased, isSoft, turnsSign, leastWith, leastSoft, sound, but}
 use Rattle.soft.specs.Pass.{seenNone, seeSize, seeOne, seen, Sounds}
 use Rattle.parity.specs.declared.Channel.{Channel}
 use Rattle.parity.specs.declared.Channel.the-variants.{Sure, Soft, Erased}
@@ -150,7 +150,7 @@ module _ (d : ℕ) (f : ℕ → Channel) (i : ℕ) (k : i < d) (s : Seen) (L : L
   least-more o = elim (form (f i)) [
     | is-sure b e ↦ rw e (kept (seeOne s i (Sure b)) refl refl refl (λ a. rw e))
     | is-erased e ↦ rw e (kept (seeOne s i Erased) refl refl refl (λ a. rw e))
-    | is-soft x e ↦ rw e (soft (magnitude x) (size-number x (rw e at o)) (λ a. rw e) (cond (turns (Soft x)) (not (s .odd)) (s .odd)))
+    | is-soft x e ↦ rw e (soft (magnitude x) (size-number x (rw e at o)) (λ a. rw e) (cond (turnsSign (Soft x)) (not (s .odd)) (s .odd)))
   ]
 
 pub least-seen : (d : ℕ) (f : ℕ → Channel) → Sounds d f → (i : ℕ) → i ≤ d → Least d f i (seen d f i)
@@ -162,13 +162,13 @@ least-seen d f S (suc i) k = least-more d f i k (seen d f i) (least-seen d f S i
 pub record Counted (f : ℕ → Channel) (i : ℕ) (s : Seen) : Type 0 where
   pub gone : s .erased ≡ count i (λ j. isErased (f j))
   pub soft : s .soft ≡ count i (λ j. isSoft (f j))
-  pub turned : s .odd ≡ odd (count i (λ j. turns (f j)))
+  pub turned : s .odd ≡ odd (count i (λ j. turnsSign (f j)))
 
 counted-more : (f : ℕ → Channel) (i : ℕ) (s : Seen) → Counted f i s → Counted f (suc i) (seeOne s i (f i))
 counted-more f i s C = record {
   gone = erased-one (f i) ∙ (rw (count-suc i (λ j. isErased (f j))) (ap (λ n. n + one (isErased (f i))) (C .gone)));
   soft = soft-one (f i) ∙ (rw (count-suc i (λ j. isSoft (f j))) (ap (λ n. n + one (isSoft (f i))) (C .soft)));
-  turned = odd-one (f i) ∙ (rw (count-suc i (λ j. turns (f j)), odd-more, C .turned));
+  turned = odd-one (f i) ∙ (rw (count-suc i (λ j. turnsSign (f j)), odd-more, C .turned));
 }
   where
     erased-one : (v : Channel) → seeOne s i v .erased ≡ s .erased + one (isErased v)
@@ -187,7 +187,7 @@ counted-more f i s C = record {
     ]
     soft-one Erased = omega arith
 
-    odd-one : (v : Channel) → seeOne s i v .odd ≡ cond (turns v) (not (s .odd)) (s .odd)
+    odd-one : (v : Channel) → seeOne s i v .odd ≡ cond (turnsSign v) (not (s .odd)) (s .odd)
     odd-one (Sure b) = refl
     odd-one (Soft x) = elim (is (lt (magnitude x) (s .least))) [
       | is-true e ↦ rw e

@@ -8,7 +8,7 @@ use lib.ListN.{getD, length}
 use lib.Ieee.{Float, nan, lt}
 use Rattle.parity.specs.Finite.{one}
 use Rattle.parity.specs.Floats.{magnitude, turned, infinite}
-use Rattle.parity.specs.Soft.{isErased, isSoft, turns, checkSends, bitSends, but, byteFor, floatFor, messageAt, sound}
+use Rattle.parity.specs.Soft.{isErased, isSoft, turnsSign, checkSends, bitSends, but, byteFor, floatFor, messageAt, sound}
 use Rattle.parity.specs.declared.Channel.{Channel}
 use Rattle.parity.specs.declared.Channel.the-variants.{Sure, Soft, Erased}
 use Rattle.soft.specs.declared.Seen.{Seen}
@@ -28,7 +28,7 @@ seeSize s i x flip = cond (lt x (s .least))
 -- a message more
 abbrev pub seeOne : Seen → ℕ → Channel → Seen
 seeOne s i (Sure b) = record { erased = s .erased; soft = s .soft; odd = cond b (not (s .odd)) (s .odd); least = s .least; next = s .next; at = s .at }
-seeOne s i (Soft x) = seeSize s i (magnitude x) (cond (turns (Soft x)) (not (s .odd)) (s .odd))
+seeOne s i (Soft x) = seeSize s i (magnitude x) (cond (turnsSign (Soft x)) (not (s .odd)) (s .odd))
 seeOne s i Erased = record { erased = s .erased + 1; soft = s .soft; odd = s .odd; least = s .least; next = s .next; at = s .at }
 
 -- the first i of d messages
@@ -40,8 +40,8 @@ seen d f (suc i) = seeOne (seen d f i) i (f i)
 abbrev pub answerTo : Seen → ℕ → Channel → Channel
 answerTo s t v =
     cond (ltb (one (isErased v)) (s .erased)) Erased
-    (cond (eqb (s .soft) (one (isSoft v))) (Sure (cond (turns v) (not (s .odd)) (s .odd)))
-    (Soft (turned (cond (turns v) (not (s .odd)) (s .odd)) (cond (eqb (s .at) t) (s .next) (s .least)))))
+    (cond (eqb (s .soft) (one (isSoft v))) (Sure (cond (turnsSign v) (not (s .odd)) (s .odd)))
+    (Soft (turned (cond (turnsSign v) (not (s .odd)) (s .odd)) (cond (eqb (s .at) t) (s .next) (s .least)))))
 
 -- Lists of d bytes and d floats hold the values g.
 pub record Holding (d : ℕ) (g : ℕ → Channel) (ts : List ℕ) (xs : List Float) : Type 0 where

@@ -5,7 +5,7 @@ use mathlib.Core.Bool.{Bool, true}
 use mathlib.Core.List.{List}
 use lib.ListN.{getD, length}
 use lib.Ieee.{Float, nan, binary32, add}
-use Rattle.parity.specs.Soft.{joined, settled, gathered, but}
+use Rattle.parity.specs.Soft.{withNext, settled, gathered, but}
 use Rattle.parity.specs.declared.Channel.{Channel}
 use Rattle.parity.specs.declared.Channel.the-variants.{Soft}
 
@@ -16,7 +16,7 @@ partSum v f n t = gathered v n (but t) f
 
 -- each value joined with v
 abbrev pub joinedWith : (ℕ → Channel) → Channel → ℕ → Channel
-joinedWith f v t = joined (f t) v
+joinedWith f v t = withNext (f t) v
 
 -- each value settled
 abbrev pub settledOf : (ℕ → Channel) → ℕ → Channel

@@ -7,13 +7,13 @@ use parity::Channel;
 ghost use mathlib.Core.Path.{_≡_};
 ghost use Prim.Native.Nat.{_≤_};
 ghost use lib.ListN.{length};
-ghost use Rattle.parity.specs.Soft.{joined, settled, bitSends, messageAt};
+ghost use Rattle.parity.specs.Soft.{withNext, settled, bitSends, messageAt};
 ghost use Rattle.soft.specs.Pass.{Holding, Partly, bitAnswer, every};
 ghost use Rattle.soft.specs.Sums.{partSum, joinedWith, settledOf, AllSoft, AddedTo, SoftSums};
 
 // Two values in order: the first sure one, else the soft ones added, else erased.
 fn join(v: Channel, w: Channel) -> Channel
-    ensures { λ r. ⌜ r ≡ joined v w ⌝ }
+    ensures { λ r. ⌜ r ≡ withNext v w ⌝ }
 {
     match v {
         Channel::Sure(_) => v,

@@ -11,7 +11,7 @@ ghost use mathlib.Core.Bool.{cond, not};
 ghost use Prim.Native.Nat.{_<_};
 ghost use lib.ListN.{length};
 ghost use Rattle.parity.specs.Finite.{one};
-ghost use Rattle.parity.specs.Soft.{isErased, isSoft, turns, messageAt};
+ghost use Rattle.parity.specs.Soft.{isErased, isSoft, turnsSign, messageAt};
 ghost use Rattle.soft.specs.Pass.{seeSize, seeOne, seen, seenNone, answerTo, Holding, Sounds, checkAnswer};
 
 // 1 for an erased value.
@@ -38,7 +38,7 @@ fn soft_of(v: Channel) -> usize
 
 // Whether a value turns the sign: a sure 1 and a negative value do.
 fn does_turn(v: Channel) -> bool
-    ensures { λ r. ⌜ r ≡ turns v ⌝ }
+    ensures { λ r. ⌜ r ≡ turnsSign v ⌝ }
 {
     match v {
         Channel::Sure(b) => b,

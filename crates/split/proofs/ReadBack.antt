@@ -6,12 +6,11 @@ use native.Mathlib.Omega.{arith}
 use native.Mathlib.Decide.{decLt}
 use Rattle.parity.specs.Matrix.{Matrix, lent, cause}
 use Rattle.parity.specs.Cycles.{splitOf, takenBack, lowerOf, higherOf}
-use Rattle.parity.proofs.Matrix.Clean.{Clean}
-use Rattle.parity.proofs.Matrix.Sound.{Sound}
+use Rattle.parity.specs.Sound.{Clean, Sound, Newest}
 use Rattle.parity.proofs.Matrix.Accept.{accepts}
 use Rattle.parity.proofs.Splits.Back.{back-clean}
 use Rattle.parity.proofs.Splits.Given.{newest-given}
-use Rattle.parity.proofs.Splits.Undo.{Newest, newest, pair-lower, pair-higher, pair-own, both, back-split}
+use Rattle.parity.proofs.Splits.Undo.{newest, pair-lower, pair-higher, pair-own, both, back-split}
 use Rattle.rows.specs.Rows.{NextOne}
 use Rattle.exchange.specs.Merge.{Apart}
 use Rattle.exchange.specs.Back.{Newer}

@@ -12,14 +12,14 @@ use Rattle.parity.specs.Matrix.{Matrix, lent}
 use Rattle.parity.specs.Cycles.{share, heldBy, pairs, splitOf, largestShare, lowerBit, higherBit, orthogonal}
 use Rattle.parity.specs.Calls.{orthogonalisedReply}
 use Rattle.parity.specs.Promises.{holding}
+use Rattle.parity.specs.Sound.{Clean, Sound}
 use Rattle.parity.proofs.Finite.Sums.{count-cong, count-end}
 use Rattle.parity.proofs.Finite.Outermost.{outermost-same}
 use Rattle.parity.proofs.Splits.Pairs.{pairs-suc}
 use Rattle.parity.proofs.Splits.Split.{at-new-bit}
-use Rattle.parity.proofs.Matrix.Clean.{Clean}
 use Rattle.parity.proofs.Matrix.Lent.{lent-out}
 use Rattle.parity.proofs.Matrix.Rule.{at-le}
-use Rattle.parity.proofs.Matrix.Sound.{Sound, split-sound}
+use Rattle.parity.proofs.Matrix.Sound.{split-sound}
 use Rattle.parity.proofs.Splits.Pick.{Chosen, picked, chosen-only}
 use Rattle.parity.proofs.Splits.Given.{apart, given, given-too}
 use Rattle.parity.proofs.Splits.Orthogonal.{finishes, stops-full, repeats}

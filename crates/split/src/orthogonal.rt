@@ -14,10 +14,9 @@ ghost use mathlib.Core.Path.{_≡_};
 ghost use Prim.Native.Nat.{_<_};
 ghost use lib.ListN.{length};
 ghost use Rattle.parity.specs.Matrix.{lent};
-ghost use Rattle.parity.proofs.Matrix.Clean.{Clean};
-ghost use Rattle.parity.proofs.Matrix.Sound.{Sound};
 ghost use Rattle.parity.specs.Cycles.{heldBy, splitOf};
 ghost use Rattle.parity.specs.Causes.{heldValues};
+ghost use Rattle.parity.specs.Sound.{Clean, Sound};
 ghost use Rattle.choice.specs.Given.{Parted};
 ghost use Rattle.split.specs.Turns.{Meet, Ended};
 

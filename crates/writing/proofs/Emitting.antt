@@ -19,6 +19,7 @@ use Rattle.parity.specs.Cycles.{lowerOf, higherOf}
 use Rattle.parity.specs.Splits.{pairOf, allBack, notBuilt}
 use Rattle.parity.specs.Record.{headKind, bitWords, opening, checkWords, splitting, recordOf, formFor, written}
 use Rattle.parity.specs.declared.Form.{Form}
+use Rattle.parity.specs.Sound.{Sound}
 use Rattle.parity.proofs.Finite.Sums.{count-mono}
 use Rattle.parity.proofs.Matrix.Digits.{bit-zero}
 use Rattle.parity.proofs.Matrix.Lent.{lent-word}
@@ -26,7 +27,7 @@ use Rattle.parity.proofs.Matrix.Ones.{Lowest}
 use Rattle.parity.proofs.Matrix.Rest.{rest-bit}
 use Rattle.parity.proofs.Record.Writing.{length-one, length-bits, length-check, length-checks, checks-wider}
 use Rattle.parity.proofs.Matrix.Packing.{length-listFrom}
-use Rattle.parity.proofs.Matrix.Sound.{Sound, sound-rule}
+use Rattle.parity.proofs.Matrix.Sound.{sound-rule}
 use Rattle.parity.proofs.Splits.Undo.{higher-at}
 use Rattle.parity.proofs.Lists.Rebuilt.{built-recovers, all-sound, written-built, last-word, recovered-words}
 use Rattle.rows.specs.Rows.{NextOne}

@@ -11,7 +11,7 @@ ghost use lib.ListN.{length};
 ghost use Rattle.parity.specs.Finite.{sum, count, listFrom};
 ghost use Rattle.parity.specs.Matrix.{lent};
 ghost use Rattle.parity.specs.Record.{headKind, opening, bitWords, checkWords};
-ghost use Rattle.parity.proofs.Matrix.Sound.{Sound};
+ghost use Rattle.parity.specs.Sound.{Sound};
 ghost use Rattle.writing.specs.Write.{wordOnes, checkOf, splitOfCheck, plainRecord, Wrote};
 
 // A number below 2^28, as part of a record word.

@@ -9,11 +9,11 @@ use lib.Dec.{eqb}
 use borrow.Author.Tests.{eq-eqb, ne-eqb, lt-ltb, le-ltb}
 use Rattle.parity.specs.Finite.{one, sum}
 use Rattle.parity.specs.Matrix.{Matrix, bitOf}
-use Rattle.parity.specs.House.{turned, turns, circulant, hamming, codeOf, hammingCode, houseCode, tableWord}
+use Rattle.parity.specs.House.{atOffsets, offsets, circulant, hamming, codeOf, hammingCode, houseCode, tableWord}
+use Rattle.parity.specs.Sound.{Clean}
 use Rattle.parity.proofs.Finite.Sums.{sum-cong}
 use Rattle.parity.proofs.Matrix.Digits.{same-bits}
 use Rattle.parity.proofs.Matrix.Packing.{binary-lt, binary-bit}
-use Rattle.parity.proofs.Matrix.Clean.{Clean}
 
 -- a code's matrix: its rule within its bits and checks, and nothing outside them
 module _ (n m : ℕ) (rule : Matrix) where
@@ -55,23 +55,23 @@ hamming-differ r a b k l f =
     omega (arith, hamming-column r a k, hamming-column r b l)
 
 -- The circulant rule, for all check and bit numbers: bit b of word c is whether b is (c+e) mod 23 for an e of the list,
-pub circulant-rule : (c b : ℕ) → c < 23 → b < 23 → bitOf (tableWord 32 (houseCode 0 .matrix) c) b ≡ turned turns c b
+pub circulant-rule : (c b : ℕ) → c < 23 → b < 23 → bitOf (tableWord 32 (houseCode 0 .matrix) c) b ≡ atOffsets offsets c b
 unfolding houseCode circulant
 circulant-rule c b k l = table-bit 32 (houseCode 0 .matrix) c b (omega arith) ∙ code-in 23 23 circulant c b k l
 
 -- and each check is the one before it, turned by one.
-turn-one : (e c b : ℕ) → b < 23 → eqb ((c + 1 + e) % 23) ((b + 1) % 23) ≡ eqb ((c + e) % 23) b
-turn-one e c b l =
+offset-one : (e c b : ℕ) → b < 23 → eqb ((c + 1 + e) % 23) ((b + 1) % 23) ≡ eqb ((c + e) % 23) b
+offset-one e c b l =
     elim (ℕ-discrete ((c + e) % 23) b) [
       | yes q ↦ rw (eq-eqb ((c + e) % 23) b q, eq-eqb ((c + 1 + e) % 23) ((b + 1) % 23) (omega arith))
       | no d ↦ rw (ne-eqb ((c + e) % 23) b d, ne-eqb ((c + 1 + e) % 23) ((b + 1) % 23) (omega arith))
     ]
 
-turned-next : (es : List ℕ) (c b : ℕ) → b < 23 → turned es (c + 1) ((b + 1) % 23) ≡ turned es c b
-unfolding turned
-turned-next [] c b l = refl
-turned-next (e ∷ es) c b l = rw (turn-one e c b l, turned-next es c b l)
+offsets-next : (es : List ℕ) (c b : ℕ) → b < 23 → atOffsets es (c + 1) ((b + 1) % 23) ≡ atOffsets es c b
+unfolding atOffsets
+offsets-next [] c b l = refl
+offsets-next (e ∷ es) c b l = rw (offset-one e c b l, offsets-next es c b l)
 
 pub circulant-next : (c b : ℕ) → b < 23 → circulant (c + 1) ((b + 1) % 23) ≡ circulant c b
 unfolding circulant
-circulant-next c b l = turned-next turns c b l
+circulant-next c b l = offsets-next offsets c b l

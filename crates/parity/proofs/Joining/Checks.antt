@@ -8,9 +8,9 @@ use borrow.Author.Tests.{eq-eqb, ne-eqb}
 use Rattle.parity.specs.Finite.{all, any}
 use Rattle.parity.specs.Matrix.{Matrix}
 use Rattle.parity.specs.Joining.{sameCheck, Joined, equalsEarlier, withCheck, joinCheck, joined}
+use Rattle.parity.specs.Sound.{Clean}
 use Rattle.parity.proofs.Finite.Bools.{beq-same, same-test}
 use Rattle.parity.proofs.Finite.Sums.{is-true, is-false, is, all-at, all-of, any-at}
-use Rattle.parity.proofs.Matrix.Clean.{Clean}
 
 -- equal checks contain the same of the n bits
 pub same-bits-of : (n : ℕ) (s t : ℕ → Bool) → sameCheck n s t ≡ true → (b : ℕ) → b < n → s b ≡ t b

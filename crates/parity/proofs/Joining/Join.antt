@@ -18,10 +18,10 @@ use Rattle.parity.specs.Causes.{Reply, answer, refusal, refuse}
 use Rattle.parity.specs.Calls.{byteOf, wrongLength, acceptingBoth, joining, joinReply, joinOutcome, peelOutcome}
 use Rattle.parity.specs.Demand3.{Verifies, erasing, Left, Recovered}
 use Rattle.parity.specs.Promises.{Joins, JoinsBoth}
+use Rattle.parity.specs.Sound.{Clean, Sound}
 use Rattle.parity.proofs.Finite.Bools.{or-false-both}
 use Rattle.parity.proofs.Finite.Sums.{count-cong}
-use Rattle.parity.proofs.Matrix.Clean.{Clean, cleans}
-use Rattle.parity.proofs.Matrix.Sound.{Sound}
+use Rattle.parity.proofs.Matrix.Clean.{cleans}
 use Rattle.parity.proofs.Matrix.Accept.{Accepted, accepts, ranges, cause-0, pack-same, pack-accepted}
 use Rattle.parity.proofs.Splits.Split.{Stops, Even}
 use Rattle.parity.proofs.Words.Bytes.{Word, erased-got, erased-size}

@@ -154,7 +154,7 @@ module _ (ws : List ℕ) (n m : ℕ) (w : List ℕ) (T : Taken ws n m 0 w) where
     after = q;
     number = sym e;
     refused = λ z. absurd (z e);
-    answered = λ z. record { stage = stage; recovered = recovered; answers = refl; first = i; last = omega arith; most = l; whole = λ s. f };
+    answered = λ z. record { stage = stage; bits = recovered; answers = refl; first = i; last = omega arith; most = l; whole = λ s. f };
   }
 
   -- Stage 3.
@@ -166,7 +166,7 @@ module _ (ws : List ℕ) (n m : ℕ) (w : List ℕ) (T : Taken ws n m 0 w) where
           after = refl;
           number = sym q;
           refused = λ z. absurd (z q);
-          answered = λ z. record { stage = 3; recovered = recovered; answers = refl; first = omega arith; last = omega arith; most = l; whole = λ s. absurd (omega arith) };
+          answered = λ z. record { stage = 3; bits = recovered; answers = refl; first = omega arith; last = omega arith; most = l; whole = λ s. absurd (omega arith) };
         }
         | no q ↦ rw (ne-eqb (d .reply .number) 0 q) record { after = refl; number = refl; refused = λ z. refl; answered = λ z. absurd (q z) }
       ]

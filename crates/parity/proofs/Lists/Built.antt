@@ -8,10 +8,11 @@ use native.Mathlib.Omega.{arith}
 use Rattle.parity.specs.Matrix.{Matrix}
 use Rattle.parity.specs.Cycles.{share, pairs, cycles, splitOf, takenBack, others, lowerBit, higherBit, orthogonal}
 use Rattle.parity.specs.Words.{inside}
+use Rattle.parity.specs.Sound.{Sound}
 use Rattle.parity.proofs.Splits.Split.{sum-even, Stops, Even, split-stops, split-even, inside-new, inside-apart}
 use Rattle.parity.proofs.Splits.Cycles.{split-cycles}
 use Rattle.parity.proofs.Matrix.Rule.{old-apart}
-use Rattle.parity.proofs.Matrix.Sound.{Sound, sound-rule, split-sound}
+use Rattle.parity.proofs.Matrix.Sound.{sound-rule, split-sound}
 use Rattle.parity.proofs.Splits.Pick.{picked}
 use Rattle.parity.proofs.Splits.Orthogonal.{keeps}
 use Rattle.parity.proofs.Words.Extend.{Added}

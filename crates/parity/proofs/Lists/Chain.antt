@@ -127,6 +127,9 @@ module _ (given : List ℕ) (n m : ℕ) (A₀ : Accepted given n m 0) where
     }
     back-now d = back-made (s .words) n m (s .k) (S .accepted) d (good g n m (A₀ .sound) (undo d .built) .ok .rule)
 
+    pub none-back : s .k ≡ 0 → takeBackOutcome (s .words) n m (s .k) .reply ≡ refusal 15 []
+    none-back z = rw (back-none (s .words) n m (s .k) (S .accepted) z)
+
     pub back-answers : (s .k ≡ 0 → ⊥) → takeBackOutcome (s .words) n m (s .k) .reply .number ≡ 0
     back-answers d = rw (back-now d)
 

@@ -28,7 +28,8 @@ use Rattle.parity.proofs.Splits.Splitting.{counts}
 use Rattle.parity.proofs.Words.Verifying.{verified, verifies, extends, completes}
 use Rattle.parity.proofs.Words.Peeling.{Answered, left-is, erased-answered, recovers}
 use Rattle.parity.proofs.Lists.Built.{Good, good}
-use Rattle.parity.proofs.Lists.Chain.{Stands, stands-start, back-enough, stands-runs}
+use Rattle.parity.proofs.Lists.Rebuilt.{built-sum}
+use Rattle.parity.proofs.Lists.Chain.{Stands, stands-start, none-back, back-answers, back-enough, stands-runs}
 
 module _ (given : List ℕ) (n m : ℕ) (A₀ : Accepted given n m 0) (s : Stand) (S : Stands given n m s) where
   abbrev g : Matrix
@@ -157,7 +158,10 @@ module _ (given : List ℕ) (n m : ℕ) (A₀ : Accepted given n m 0) (s : Stand
     counts-start = rw (add-zero n, add-zero m) at (counts given n m 0 A₀);
     counts-left = counts (s .words) n m k A;
     falls = G .falls;
+    not-taken-back = built-sum g n m (A₀ .sound) (S .built);
     enough = back-enough given n m A₀ s S;
+    back-none = none-back given n m A₀ s S;
+    back-answers = back-answers given n m A₀ s S;
     each-codeword = λ x held v l. begin x (given-codeword x v) v held l;
     each-extended = λ z v.
         let D = verifies (s .words) n m k A z v in

@@ -12,15 +12,14 @@ use lib.ListN.{length}
 use borrow.Author.Tests.{lt-ltb, ltb-true}
 use Rattle.parity.specs.Finite.{least, all, listFrom}
 use Rattle.parity.specs.Matrix.{Matrix, ruleA}
-use Rattle.parity.specs.Cycles.{share, splitOf, takenBack, lowerOf, higherOf}
-use Rattle.parity.specs.Splits.{Pair, splitAll, splitRight, splitsRight, sumAll, pairOf, allBack, recovered, splitsSum, backRight, sameMatrix, rebuilds, notBuilt}
+use Rattle.parity.specs.Cycles.{share, pairs, splitOf, takenBack, lowerOf, higherOf}
+use Rattle.parity.specs.Splits.{Pair, splitAll, splitRight, splitsRight, sumAll, pairOf, allBack, recoveredList, splitsSum, backRight, sameMatrix, rebuilds, notBuilt}
 use Rattle.parity.specs.Record.{splitting, splitWords}
+use Rattle.parity.specs.Sound.{Clean, Sound}
 use Rattle.parity.proofs.Finite.Bools.{beq-same, beq-refl}
 use Rattle.parity.proofs.Finite.Sums.{is-true, is-false, is, all-at, all-of, any-of, least-at, least-min}
 use Rattle.parity.proofs.Splits.Cycles.{share-comm, new-u, new-v}
 use Rattle.parity.proofs.Matrix.Rule.{place, first, second, new}
-use Rattle.parity.proofs.Matrix.Clean.{Clean}
-use Rattle.parity.proofs.Matrix.Sound.{Sound}
 use Rattle.parity.proofs.Matrix.Packing.{listFrom-cong}
 use Rattle.parity.proofs.Splits.Given.{back-added}
 use Rattle.parity.proofs.Splits.Back.{back-clean, split-back, back-sound}
@@ -53,8 +52,8 @@ module _ (h : Matrix) (N M u v : ℕ) (uv : u < v) (vn : v < N) where
   unfolding pairOf lowerOf higherOf
   split-pair = rw (low, high)
 
-pub length-recovered : (k : ℕ) (h : Matrix) (n m : ℕ) → length (recovered h n m k) ≡ k
-unfolding recovered
+pub length-recovered : (k : ℕ) (h : Matrix) (n m : ℕ) → length (recoveredList h n m k) ≡ k
+unfolding recoveredList
 length-recovered zero h n m = refl
 length-recovered (suc k) h n m = ap suc (length-recovered k (takenBack h (n + k) (m + k)) n m)
 
@@ -77,20 +76,21 @@ right h n m k p = (
 )
 
 -- What is recovered from a matrix h with k added bits that splits of g built: no taking back is refused, all of them give g, and the recovered
--- list gives h again.
-pub record Recovers (g : Matrix) (n m : ℕ) (h : Matrix) (k : ℕ) : Type 0 where
+-- list gives h again, with the sum `total`.
+pub record Recovers (g : Matrix) (n m : ℕ) (h : Matrix) (k total : ℕ) : Type 0 where
   pub base : allBack h n m k ≡ g
   pub back : backRight h n m k ≡ true
-  pub legal : splitsRight g n m (recovered h n m k) ≡ true
-  pub list : splitAll g n m (recovered h n m k) ≡ h
+  pub legal : splitsRight g n m (recoveredList h n m k) ≡ true
+  pub list : splitAll g n m (recoveredList h n m k) ≡ h
+  pub sum : sumAll g n m (recoveredList h n m k) ≡ total
 
 module _ (g : Matrix) (n m : ℕ) where
-  module _ (h : Matrix) (k u v : ℕ) (S : Sound h n m k) (r : Right h n m k u v) (R : Recovers g n m h k) where
+  module _ (h : Matrix) (k total u v : ℕ) (S : Sound h n m k) (r : Right h n m k u v) (R : Recovers g n m h k total) where
     undo : takenBack (splitOf h (n + k) (m + k) u v) (n + k) (m + k) ≡ h
     undo = split-back h (n + k) (m + k) u v (omega (arith, r .low, r .high)) (r .high) (S .clean)
 
-    recovers-split : Recovers g n m (splitOf h (n + k) (m + k) u v) (suc k)
-    unfolding allBack backRight recovered splitsRight splitAll
+    recovers-split : Recovers g n m (splitOf h (n + k) (m + k) u v) (suc k) (total + pairs (share h (m + k) u v))
+    unfolding allBack backRight recoveredList splitsRight splitAll sumAll
     recovers-split =
         let e = split-pair h (n + k) (m + k) u v (r .low) (r .high) in
         record {
@@ -98,19 +98,25 @@ module _ (g : Matrix) (n m : ℕ) where
           back = rw (undo, S .rule) (R .back);
           legal = rw (undo, e, length-recovered k h n m, R .list, R .legal) (right h n m k record { lower = u; higher = v } .1 r);
           list = rw (undo, e, length-recovered k h n m, R .list);
+          sum = rw (undo, e, length-recovered k h n m, R .list, R .sum);
         }
 
   -- Of a built matrix the list is recovered.
-  pub built-recovers : Sound g n m 0 → {h : Matrix} {k total : ℕ} → Built g n m h k total → Recovers g n m h k
-  unfolding allBack backRight recovered splitsRight splitAll
-  built-recovers S given = record { base = refl; back = refl; legal = refl; list = refl }
-  built-recovers S (more {h = h} {k = k} B u v un vn uv s l) =
+  pub built-recovers : Sound g n m 0 → {h : Matrix} {k total : ℕ} → Built g n m h k total → Recovers g n m h k total
+  unfolding allBack backRight recoveredList splitsRight splitAll sumAll
+  built-recovers S given = record { base = refl; back = refl; legal = refl; list = refl; sum = refl }
+  built-recovers S (more {h = h} {k = k} {total = t} B u v un vn uv s l) =
       let H = good g n m S B .ok in
       elim (decLt u v) [
-        | yes i ↦ recovers-split h k u v H record { low = i; high = vn; shares = s; room = l } (built-recovers S B)
-        | no i ↦ rw (split-swap h (n + k) (m + k) u v) (recovers-split h k v u H
+        | yes i ↦ recovers-split h k t u v H record { low = i; high = vn; shares = s; room = l } (built-recovers S B)
+        | no i ↦ rw (split-swap h (n + k) (m + k) u v, share-comm h (m + k) u v) (recovers-split h k t v u H
             record { low = omega arith; high = un; shares = rw (share-comm h (m + k) v u) s; room = l } (built-recovers S B))
       ]
+
+  -- The sum over the splits that built a matrix is that over its recovered list.
+  pub built-sum : Sound g n m 0 → {h : Matrix} {k total : ℕ} → Built g n m h k total → total ≡ splitsSum h n m k
+  unfolding splitsSum
+  built-sum S B = let R = built-recovers S B in rw (R .base, R .sum)
 
   -- Splits of a list that none refuses build the matrix,
   pub list-built : (ps : List Pair) → splitsRight g n m ps ≡ true → Built g n m (splitAll g n m ps) (length ps) (sumAll g n m ps)
@@ -122,8 +128,8 @@ module _ (g : Matrix) (n m : ℕ) where
       more (list-built ps a) (p .lower) (p .higher) (omega (arith, r .low, r .high)) (r .high) (λ q. omega (arith, r .low)) (r .shares) (r .room)
 
   -- and the list that is recovered is theirs.
-  pub list-recovered : Sound g n m 0 → (ps : List Pair) → splitsRight g n m ps ≡ true → recovered (splitAll g n m ps) n m (length ps) ≡ ps
-  unfolding splitsRight splitAll recovered
+  pub list-recovered : Sound g n m 0 → (ps : List Pair) → splitsRight g n m ps ≡ true → recoveredList (splitAll g n m ps) n m (length ps) ≡ ps
+  unfolding splitsRight splitAll recoveredList
   list-recovered S [] e = refl
   list-recovered S (p ∷ ps) e =
       let (a, b) = and-eq-true-iff (splitsRight g n m ps) (splitRight (splitAll g n m ps) n m (length ps) p) .0 e in
@@ -178,7 +184,7 @@ rebuilds-built : (n m k : ℕ) (h : Matrix) → Sound h n m k → rebuilds h n m
 unfolding rebuilds splitsSum
 rebuilds-built n m k h S e =
     let g = allBack h n m k in
-    let ps = recovered h n m k in
+    let ps = recoveredList h n m k in
     let (a, b) = and-eq-true-iff (splitsRight g n m ps) (sameMatrix (n + k) (m + k) (splitAll g n m ps) h) .0 e in
     let l = length-recovered k h n m in
     let B : Built g n m (splitAll g n m ps) k (sumAll g n m ps) = rw l at (list-built g n m ps a) in
@@ -207,7 +213,7 @@ not-rebuilt h n m k e = elim (is (backRight h n m k)) [ is-true q ↦ rw (q, e) 
 
 -- Of no added bits there is nothing to rebuild.
 pub none-built : (n m : ℕ) (h : Matrix) → notBuilt h n m 0 ≡ false
-unfolding notBuilt rebuilds backRight recovered splitsRight splitAll allBack
+unfolding notBuilt rebuilds backRight recoveredList splitsRight splitAll allBack
 none-built n m h = rw (matrix-same (n + 0) (m + 0) h)
 
 -- The words of the recovered list, from the added checks of the matrix itself: taking back leaves the others as they were.
@@ -221,8 +227,8 @@ unfolding pairOf lowerOf higherOf
 same-pair g h N M e = rw e
 
 pub recovered-words : (n m k : ℕ) (h : Matrix) → Sound h n m k → backRight h n m k ≡ true
-    → splitWords (recovered h n m k) ≡ listFrom 0 k (λ j. splitting (pairOf h (n + j) (m + j)))
-unfolding recovered backRight splitWords listFrom
+    → splitWords (recoveredList h n m k) ≡ listFrom 0 k (λ j. splitting (pairOf h (n + j) (m + j)))
+unfolding recoveredList backRight splitWords listFrom
 recovered-words n m zero h S e = refl
 recovered-words n m (suc k) h S e =
     let t = takenBack h (n + k) (m + k) in

@@ -12,9 +12,10 @@ use borrow.Author.Tests.{eq-eqb, ne-eqb, eqb-true, leb-true, le-leb}
 use Rattle.parity.specs.Matrix.{Matrix, lent, pack, inRange, clean, ruleA, cause}
 use Rattle.parity.specs.Causes.{Reply, answer, refusal, accepting}
 use Rattle.parity.specs.Calls.{acceptReply}
+use Rattle.parity.specs.Sound.{Sound}
 use Rattle.parity.proofs.Matrix.Packing.{pack-length, pack-lt, pack-lent, lent-packed}
 use Rattle.parity.proofs.Matrix.Clean.{cleans}
-use Rattle.parity.proofs.Matrix.Sound.{Sound, sound-rule}
+use Rattle.parity.proofs.Matrix.Sound.{sound-rule}
 
 -- What acceptance says of the lent words: 4,096 words of 64 bits that hold a matrix which causes 2 to 4 do not refuse.
 pub record Accepted (ws : List ℕ) (n m k : ℕ) : Type 0 where

@@ -12,14 +12,10 @@ use lib.ListN.{getD, length}
 use lib.Arith.{digits-div, digits-mod, le-zero}
 use lib.Pow.{pow-pos, pow-mono}
 use borrow.Author.Tests.{lt-ltb, le-ltb, ltb-true, eqb-false}
-use Rattle.parity.specs.Matrix.{Matrix, bitOf, lent, room, clean}
+use Rattle.parity.specs.Matrix.{bitOf, lent, room, clean}
+use Rattle.parity.specs.Sound.{Clean}
 use Rattle.parity.proofs.Matrix.Packing.{lent-flat}
 use Rattle.parity.proofs.Matrix.Lent.{lent-out}
-
--- A matrix has no one at bit N or above, nor at check M or above.
-pub record Clean (h : Matrix) (N M : ℕ) : Type 0 where
-  pub checks : (c b : ℕ) → M ≤ c → h c b ≡ false
-  pub bits : (c b : ℕ) → N ≤ b → h c b ≡ false
 
 -- a number below 2 ^ r has no one from bit r on, and back
 pub no-bit : (w r b : ℕ) → w < 2 ^ r → r ≤ b → bitOf w b ≡ false

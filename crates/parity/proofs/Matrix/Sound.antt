@@ -7,20 +7,11 @@ use native.Mathlib.Omega.{arith}
 use native.Mathlib.Decide.{ℕ-discrete}
 use Rattle.parity.specs.Matrix.{Matrix, ruleAt, ruleA}
 use Rattle.parity.specs.Cycles.{share, splitOf}
+use Rattle.parity.specs.Sound.{Clean, Sound}
 use Rattle.parity.proofs.Finite.Sums.{is-true, is-false, is, all-at}
 use Rattle.parity.proofs.Splits.Split.{at-new-bit, at-other}
 use Rattle.parity.proofs.Splits.Cycles.{new-other}
 use Rattle.parity.proofs.Matrix.Rule.{Rule, rule, at-le, split-rule}
-use Rattle.parity.proofs.Matrix.Clean.{Clean}
-
--- a matrix that causes 2 to 4 do not refuse
-pub record Sound (h : Matrix) (n m k : ℕ) : Type 0 where
-  pub n1 : 1 ≤ n
-  pub n120 : n ≤ 120
-  pub m120 : m ≤ 120
-  pub k392 : k ≤ 392
-  pub clean : Clean h (n + k) (m + k)
-  pub rule : ruleA h n m k ≡ true
 
 -- rule A for each added check, as facts
 pub sound-rule : (h : Matrix) (n m k j : ℕ) → Sound h n m k → j < k → Rule h n m k j

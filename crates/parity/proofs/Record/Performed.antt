@@ -12,7 +12,7 @@ use Rattle.parity.specs.Splits.{Pair, splitAll, splitRight, splitsRight}
 use Rattle.parity.specs.Record.{kindOf, pairIn, reading, loaded, ending, performing, behind, loading, splitting, splitWords, recordOf}
 use Rattle.parity.specs.declared.Form.{Form}
 use Rattle.parity.specs.declared.Form.the-variants.{Third}
-use Rattle.parity.proofs.Matrix.Sound.{Sound}
+use Rattle.parity.specs.Sound.{Sound}
 use Rattle.parity.proofs.Record.Reading.{word-kind, word-payload, split-yes, split-kind, end-yes}
 use Rattle.parity.proofs.Record.Writing.{split-after}
 use Rattle.parity.proofs.Record.ReadWritten.{head-made, read-checks}
@@ -20,7 +20,7 @@ use Rattle.parity.proofs.Lists.Rebuilt.{right}
 
 -- a kind 6 word
 module _ (p : Pair) (a : p .lower < 512) (b : p .higher < 512) where
-  splitting-kind : kindOf (splitting p) ≡ 6
+  pub splitting-kind : kindOf (splitting p) ≡ 6
   unfolding splitting
   splitting-kind = word-kind 6 (p .higher * 512 + p .lower) (omega arith)
 
@@ -32,13 +32,14 @@ module _ (p : Pair) (a : p .lower < 512) (b : p .higher < 512) where
       rw (word-payload 6 (p .higher * 512 + p .lower) (omega arith), x, y)
 
 module _ (g : Matrix) (n m : ℕ) (few : n ≤ 120) where
+  pub pair-small : (h : Matrix) (k : ℕ) (q : Pair) → splitRight h n m k q ≡ true → (q .lower < 512) × (q .higher < 512)
+  pair-small h k q e = let r = right h n m k q .0 e in (omega (arith, r .low, r .high, r .room), omega (arith, r .high, r .room))
+
   perform-split : (h : Matrix) (k p : ℕ) (q : Pair) (rest : List ℕ) → splitRight h n m k q ≡ true
       → performing Third n m (splitting q ∷ rest) p k h ≡ performing Third n m rest (suc p) (suc k) (splitOf h (n + k) (m + k) (q .lower) (q .higher))
   unfolding performing
   perform-split h k p q rest e =
-      let r = right h n m k q .0 e in
-      let a : q .lower < 512 = omega (arith, r .low, r .high, r .room) in
-      let b : q .higher < 512 = omega (arith, r .high, r .room) in
+      let (a, b) = pair-small h k q e in
       let s = splitting-read q a b in
       rw (split-yes Third h n m k (splitting q) refl (splitting-kind q a b) (rw s e), s)
 

@@ -14,9 +14,9 @@ use Rattle.parity.specs.Matrix.{Matrix, put, inRange, ruleA}
 use Rattle.parity.specs.Splits.{Pair, splitAll, splitRight, splitsRight}
 use Rattle.parity.specs.Record.{kindOf, payload, headKind, formOf, headWord, numberIn, openWord, bitWord, carries, pairIn, splitWord, endWord, Checked, stopped, checked, reading, loaded, ending, performing, behind, loading, bitWords, opening, checkWords, splitting, splitWords, recordOf}
 use Rattle.parity.specs.declared.Form.{Form}
+use Rattle.parity.specs.Sound.{Sound}
 use Rattle.parity.proofs.Finite.Sums.{is-true, is-false, is, count-suc, count-end}
 use Rattle.parity.proofs.Matrix.Lent.{put-here}
-use Rattle.parity.proofs.Matrix.Sound.{Sound}
 use Rattle.parity.proofs.Matrix.Accept.{ranges}
 use Rattle.parity.proofs.Record.Reading.{word-made, opens, bits, splits, ends, checks-done, never, never-checked}
 use Rattle.parity.proofs.Record.Writing.{bits-end, no-bits, bits-more, check-after, no-checks, split-after}

@@ -11,8 +11,8 @@ use Rattle.parity.specs.Matrix.{Matrix, put}
 use Rattle.parity.specs.Record.{kindOf, payload, headKind, formOf, headWord, numberIn, openWord, bitWord, Checked, checked, reading, bitWords, opening, checkWords}
 use Rattle.parity.specs.declared.Form.{Form}
 use Rattle.parity.specs.declared.Form.the-variants.{First, Second, Third}
+use Rattle.parity.specs.Sound.{Sound}
 use Rattle.parity.proofs.Finite.Sums.{is-true, is-false, is, count-bound}
-use Rattle.parity.proofs.Matrix.Sound.{Sound}
 use Rattle.parity.proofs.Matrix.Accept.{ranges}
 use Rattle.parity.proofs.Record.Reading.{word-kind, word-payload, number-most, open-yes, bit-yes, checks-done}
 use Rattle.parity.proofs.Record.Writing.{check-after}
@@ -26,7 +26,7 @@ pub record Comes (f : Form) (n m : ℕ) (r : Checked) (ws : List ℕ) (c due top
   pub comes : r ≡ reading f n m ws place c due low g
 
 -- the word that opens a check
-opening-made : (f : Form) (c x : ℕ) → c < 256 → x < 256
+pub opening-made : (f : Form) (c x : ℕ) → c < 256 → x < 256
     → (kindOf (opening f c x) ≡ 2) × (payload (opening f c x) / 256 ≡ numberIn f c) × (payload (opening f c x) % 256 ≡ x)
 unfolding opening
 opening-made f c x k l =

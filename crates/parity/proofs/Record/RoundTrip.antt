@@ -2,21 +2,21 @@
 use mathlib.Core.Path.{_≡_, refl, sym, ap, _∙_}
 use mathlib.Core.Bool.{false}
 use mathlib.Core.List.{List, [], _∷_, _++_}
-use Prim.Native.Nat.{ℕ, zero, suc, _≤_}
+use Prim.Native.Nat.{ℕ, zero, suc, _+_, _≤_}
 use native.Mathlib.Decide.{ℕ-discrete, decLt}
 use native.Mathlib.Omega.{arith}
 use lib.ListN.{getD, length, drop, take}
 use lib.Seq.{take-at}
 use borrow.Author.Tests.{lt-ltb}
 use Rattle.parity.specs.Matrix.{Matrix, lent, pack, cause}
-use Rattle.parity.specs.Splits.{Pair, sumAll, allBack, recovered, notBuilt}
+use Rattle.parity.specs.Splits.{Pair, sumAll, allBack, recoveredList, notBuilt}
 use Rattle.parity.specs.Record.{Loaded, faulty, loaded, loading, recordOf, formFor, written, secondForm}
 use Rattle.parity.specs.declared.Form.the-variants.{First, Second, Third}
 use Rattle.parity.specs.Causes.{Reply, answer, Outcome}
 use Rattle.parity.specs.Calls.{loadOutcome, writeOutcome}
 use Rattle.parity.specs.Promises.{WrittenLoads, SecondFormKept, FirstFormNumbered, ThirdFormKept, WrittenMost, NotRebuilt}
+use Rattle.parity.specs.Sound.{Sound}
 use Rattle.parity.proofs.Finite.Sums.{is-true, is-false, is}
-use Rattle.parity.proofs.Matrix.Sound.{Sound}
 use Rattle.parity.proofs.Matrix.Accept.{Accepted, accepts, pack-same, pack-accepted, pack-words, accepting-refuses}
 use Rattle.parity.proofs.Lists.Built.{Built, good}
 use Rattle.parity.proofs.Lists.Rebuilt.{length-recovered, built-recovers, list-built, list-recovered, all-sound, built-written, written-built, not-rebuilt}
@@ -62,7 +62,7 @@ module _ (source : List ℕ) (n m k : ℕ) (h : Matrix) (S : Sourced source n m 
   pub sourced-sound : Sound h n m k
   sourced-sound = good (S .checks) n m (S .sound) sourced-built .ok
 
-  sourced-pairs : recovered h n m k ≡ S .pairs
+  sourced-pairs : recoveredList h n m k ≡ S .pairs
   sourced-pairs = rw (S .matrix, S .size) (list-recovered (S .checks) n m (S .sound) (S .pairs) (S .right))
 
   sourced-written : written h n m k ≡ recordOf (formFor k) (S .checks) n m (S .pairs)
@@ -137,21 +137,16 @@ third-plain source held target n m k z A S r l =
     (w ∙ sym (second-third (S .checks) n m (S .sound .n120) (S .sound .m120)) ∙ ap secondForm s) (length-second source) l
 
 pub third-kept : ThirdFormKept
-third-kept source held₀ n₀ m₀ k₀ q e₀ held target n m k e l =
-    let A₀ = load-answered source held₀ n₀ m₀ k₀ e₀ in
+third-kept source q held target n m k e l =
     let A = load-answered source held n m k e in
     let S = loading-back source n m k (A .matrix) (A .loads) in
     let f = form-head Third (getD source 0 0) q in
     let r = rw f at (S .words) in
-    let s : k₀ ≡ k = same-k n₀ m₀ k₀ (A₀ .matrix) n m k (A .matrix) (sym (A₀ .loads) ∙ A .loads) in
     elim (decLt 0 k) [
-      | yes t ↦ rw (s, lt-ltb 0 k t) (third-splits source held target n m k (form-third k t) A S r l)
-      | no t ↦ let z : k ≡ 0 = omega arith in rw (s, z) (rw z at (third-plain source held target n m k z A S r l))
+      | yes t ↦ rw (lt-ltb 0 k t) (third-splits source held target n m k (form-third k t) A S r l)
+      | no t ↦ let z : k ≡ 0 = omega arith in rw z (rw z at (third-plain source held target n m k z A S r l))
     ]
   where
-    same-k : (n₀ m₀ k₀ : ℕ) (h₀ : Matrix) (n m k : ℕ) (h : Matrix) → loaded n₀ m₀ k₀ h₀ ≡ loaded n m k h → k₀ ≡ k
-    same-k n₀ m₀ k₀ h₀ n m k h e = cc
-
     form-third : (k : ℕ) → 1 ≤ k → formFor k ≡ Third
     form-third zero l = absurd (omega arith)
     form-third (suc k) l = refl
@@ -178,12 +173,12 @@ write-answered ws n m k target e =
 -- What is written of a matrix that splits built loads to it.
 written-loads : (k : ℕ) (h : Matrix) (n m : ℕ) → Sound h n m k → notBuilt h n m k ≡ false → loading (written h n m k) ≡ loaded n m k h
 unfolding written
-written-loads zero h n m S b = unfold allBack recovered in loading-plain Second h n m S
+written-loads zero h n m S b = unfold allBack recoveredList in loading-plain Second h n m S
 written-loads (suc k) h n m S b =
     let g = allBack h n m (suc k) in
     let G = all-sound n m (suc k) h S in
     let R = built-recovers g n m G (written-built n m (suc k) h S b) in
-    loading-splits g n m G (recovered h n m (suc k)) (R .legal) ∙ rw (length-recovered (suc k) h n m, R .list)
+    loading-splits g n m G (recoveredList h n m (suc k)) (R .legal) ∙ rw (length-recovered (suc k) h n m, R .list)
 
 -- Loading what was written gives the same words, n, m and k.
 pub write-load : WrittenLoads
@@ -196,11 +191,11 @@ write-load ws n m k target held used e l =
     let r : take used (writeOutcome ws n m k target .after) ≡ out = rw (ap (λ (o : Outcome). o .after) W) (take-at out _ used u) in
     rw r (load-right out held n m k (lent 8 ws) l (written-loads k (lent 8 ws) n m (A .sound) b) ∙ rw (pack-words ws n m k A))
 
--- At most 14,914 words are used.
-pub written-size : (h : Matrix) (n m k : ℕ) → Sound h n m k → length (written h n m k) ≤ 14914
+-- At most 14,522 words are used, and one more for each split.
+pub written-size : (h : Matrix) (n m k : ℕ) → Sound h n m k → length (written h n m k) ≤ 14522 + k
 unfolding written
 written-size h n m k S =
-    record-most (formFor k) (allBack h n m k) n m (recovered h n m k) (S .n120) (S .m120) (rw (length-recovered k h n m) (S .k392))
+    rw (length-recovered k h n m) at (record-most (formFor k) (allBack h n m k) n m (recoveredList h n m k) (S .n120) (S .m120))
 
 pub written-most : WrittenMost
 written-most ws n m k target used e =

@@ -13,7 +13,7 @@ use Rattle.parity.specs.Record.{kindOf, payload, bitWords, opening, chec
 use Rattle.parity.specs.declared.Form.the-variants.{First, Second, Third}
 use Rattle.parity.proofs.Finite.Sums.{is-true, is-false, is, count-bound}
 use Rattle.parity.proofs.Record.Reading.{word-kind, word-payload}
-use Rattle.parity.proofs.Record.Writing.{check-after, no-checks}
+use Rattle.parity.proofs.Record.Writing.{check-after, no-checks, bits-passed}
 
 -- one word of another kind, and one that opens check c
 number-other : (c w : ℕ) (ws : List ℕ) → (kindOf w ≡ 2 → ⊥) → numbering c (w ∷ ws) ≡ w ∷ numbering c ws
@@ -28,16 +28,8 @@ number-open c x ws k =
     rw (t, eq-eqb (kindOf (2 * 2 ^ 28 + x)) 2 (word-kind 2 x k), e)
 
 -- the bits of a check
-number-bit : (s : Bool) (b c : ℕ) (ws : List ℕ) → b < 2 ^ 28 → numbering c (cond s ((3 * 2 ^ 28 + b) ∷ []) [] ++ ws) ≡ cond s ((3 * 2 ^ 28 + b) ∷ []) [] ++ numbering c ws
-number-bit true b c ws k = number-other c (3 * 2 ^ 28 + b) ws (λ q. omega (arith, word-kind 3 b k))
-number-bit false b c ws k = refl
-
 number-bits : (s : ℕ → Bool) (b c : ℕ) (ws : List ℕ) → b ≤ 120 → numbering c (bitWords s b ++ ws) ≡ bitWords s b ++ numbering c ws
-unfolding bitWords
-number-bits s zero c ws k = refl
-number-bits s (suc b) c ws k =
-    ap (numbering c) (append-assoc (bitWords s b) _ ws) ∙ number-bits s b c (cond (s b) ((3 * 2 ^ 28 + b) ∷ []) [] ++ ws) (omega arith)
-    ∙ rw (number-bit (s b) b c ws (omega arith), append-assoc)
+number-bits s b c ws k = bits-passed (numbering c) (λ w ws e. number-other c w ws (λ q. omega arith)) s b ws k
 
 -- the checks
 number-checks : (h : Matrix) (n c : ℕ) (ws : List ℕ) → n ≤ 120 → numbering 0 (checkWords First h n c ++ ws) ≡ checkWords Second h n c ++ numbering c ws

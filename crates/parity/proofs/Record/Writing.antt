@@ -10,9 +10,10 @@ use lib.ListN.{length, length-append}
 use Rattle.parity.specs.Finite.{one, sum, count}
 use Rattle.parity.specs.Matrix.{Matrix}
 use Rattle.parity.specs.Splits.{Pair}
-use Rattle.parity.specs.Record.{bitWords, opening, checkWords, splitting, splitWords, recordOf}
+use Rattle.parity.specs.Record.{kindOf, bitWords, opening, checkWords, splitting, splitWords, recordOf}
 use Rattle.parity.specs.declared.Form.{Form}
 use Rattle.parity.proofs.Finite.Sums.{count-bound, count-end}
+use Rattle.parity.proofs.Record.Reading.{word-kind}
 
 pub length-one : (b : Bool) (w : ℕ) → length (cond b (w ∷ []) []) ≡ one b
 length-one true w = refl
@@ -43,13 +44,13 @@ length-record f h n m ps =
     let a = length-append (checkWords f h n m) (splitWords ps ++ ((15 * 2 ^ 28) ∷ [])) in
     omega (arith, length-append (splitWords ps) ((15 * 2 ^ 28) ∷ []), length-splits ps)
 
--- At most 14,914 words are used.
+-- At most 14,522 words are used, and one more for each split.
 checks-most : (f : Form) (h : Matrix) (n c : ℕ) → n ≤ 120 → length (checkWords f h n c) ≤ c * 121
 checks-most f h n zero k = unfold checkWords in omega arith
 checks-most f h n (suc c) k = omega (arith, length-check f h n c, checks-most f h n c k, count-bound n (h c))
 
-pub record-most : (f : Form) (h : Matrix) (n m : ℕ) (ps : List Pair) → n ≤ 120 → m ≤ 120 → length ps ≤ 392 → length (recordOf f h n m ps) ≤ 14914
-record-most f h n m ps k l q = omega (arith, length-record f h n m ps, checks-most f h n m k)
+pub record-most : (f : Form) (h : Matrix) (n m : ℕ) (ps : List Pair) → n ≤ 120 → m ≤ 120 → length (recordOf f h n m ps) ≤ 14522 + length ps
+record-most f h n m ps k l = omega (arith, length-record f h n m ps, checks-most f h n m k)
 
 -- none of the bits from a on
 no-word : (s : ℕ → Bool) (b : ℕ) → s b ≡ false → bitWords s (suc b) ≡ bitWords s b
@@ -93,6 +94,19 @@ check-after f h n c ws = append-assoc (checkWords f h n c) _ ws
 pub no-checks : (f : Form) (h : Matrix) (n : ℕ) (ws : List ℕ) → checkWords f h n 0 ++ ws ≡ ws
 unfolding checkWords
 no-checks f h n ws = refl
+
+-- What passes over kind 3 words passes over a check's bits.
+module _ (F : List ℕ → List ℕ) (pass : (w : ℕ) (ws : List ℕ) → kindOf w ≡ 3 → F (w ∷ ws) ≡ w ∷ F ws) where
+  bit-passed : (s : Bool) (b : ℕ) (ws : List ℕ) → b < 2 ^ 28 → F (cond s ((3 * 2 ^ 28 + b) ∷ []) [] ++ ws) ≡ cond s ((3 * 2 ^ 28 + b) ∷ []) [] ++ F ws
+  bit-passed true b ws k = pass (3 * 2 ^ 28 + b) ws (word-kind 3 b k)
+  bit-passed false b ws k = refl
+
+  pub bits-passed : (s : ℕ → Bool) (b : ℕ) (ws : List ℕ) → b ≤ 120 → F (bitWords s b ++ ws) ≡ bitWords s b ++ F ws
+  unfolding bitWords
+  bits-passed s zero ws k = refl
+  bits-passed s (suc b) ws k =
+      ap F (append-assoc (bitWords s b) _ ws) ∙ bits-passed s b (cond (s b) ((3 * 2 ^ 28 + b) ∷ []) [] ++ ws) (omega arith)
+      ∙ rw (bit-passed (s b) b ws (omega arith), append-assoc)
 
 -- the words of the splits, the newest one apart
 pub split-after : (p : Pair) (ps : List Pair) (ws : List ℕ) → splitWords (p ∷ ps) ++ ws ≡ splitWords ps ++ (splitting p ∷ ws)

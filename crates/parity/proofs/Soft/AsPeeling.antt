@@ -16,7 +16,7 @@ use Rattle.parity.proofs.Splits.Split.{Stops}
 use Rattle.parity.proofs.Words.Residue.{Within, inside-le, inside-pos, residue-of, residue-within, residue-stops, Solves}
 use Rattle.parity.proofs.Words.Peel.{peeled-left, peeled-value}
 use Rattle.parity.specs.Floats.{positiveZero}
-use Rattle.parity.specs.Soft.{isErased, isSure, turns, turnsOdd, checkSends, joined, gathered, settled, bitSends, Messages, toBits, toChecks, sentAfter, resultAfter, byteFor, floatFor, but}
+use Rattle.parity.specs.Soft.{isErased, isSure, turnsSign, turnsOdd, checkSends, withNext, gathered, settled, bitSends, Messages, toBits, toChecks, sentAfter, resultAfter, byteFor, floatFor, but}
 use Rattle.parity.specs.declared.Channel.{Channel}
 use Rattle.parity.specs.declared.Channel.the-variants.{Sure, Soft, Erased}
 use Rattle.parity.proofs.Soft.Counts.{but-at, but-other, count-but}
@@ -30,7 +30,7 @@ right-sure : {y : Bool} {v : Channel} → Right y v → isErased v ≡ false →
 right-sure unknown e = absurd (true≢false e)
 right-sure known e = refl
 
-right-joined : {y : Bool} {v u : Channel} → Right y v → Right y u → Right y (joined v u)
+right-joined : {y : Bool} {v u : Channel} → Right y v → Right y u → Right y (withNext v u)
 right-joined unknown r = r
 right-joined known r = known
 
@@ -62,7 +62,7 @@ module _ (y : Bool) (v : Channel) (R : Right y v) (f : ℕ → Channel) (p : ℕ
         elim (is (p n)) [ is-true t ↦ rw (t, g) | is-false t ↦ rw (t, g) ]
   ]
     where
-      last : {u : Channel} → Right y u → joined u (Sure y) ≡ Sure y
+      last : {u : Channel} → Right y u → withNext u (Sure y) ≡ Sure y
       last unknown = refl
       last known = refl
 
@@ -114,7 +114,7 @@ module _ (h : Matrix) (N c : ℕ) (x : ℕ → Bool) (even : inside h N c x % 2 
       sures : all N (λ i. not (others i) || isSure (sent i)) ≡ true
       sures = all-of N (λ i. not (others i) || isSure (sent i)) (λ a l. elim (is (others a)) [ is-true e ↦ rw (e, at a l e) | is-false e ↦ rw e ])
 
-      same : count N (λ i. others i && turns (sent i)) ≡ count N (λ i. but b i && (h c i && x i))
+      same : count N (λ i. others i && turnsSign (sent i)) ≡ count N (λ i. but b i && (h c i && x i))
       same = count-cong N (λ a l. elim (is (others a)) [
         | is-true e ↦
             let (e₁, e₂) = and-eq-true-iff (h c a) (but b a) .0 e in

@@ -6,7 +6,7 @@ use native.Mathlib.Nat.{add-zero}
 use native.Mathlib.Omega.{arith}
 use Rattle.parity.specs.Finite.{any, all}
 use Rattle.parity.specs.Matrix.{Matrix}
-use Rattle.parity.specs.Soft.{Messages, isErased, isSure, turns, leastSoft, turnsOdd, checkSends, gathered, settled, bitSends, but, toBits, toChecks, sentAfter, resultAfter}
+use Rattle.parity.specs.Soft.{Messages, isErased, isSure, turnsSign, leastSoft, turnsOdd, checkSends, gathered, settled, bitSends, but, toBits, toChecks, sentAfter, resultAfter}
 use Rattle.parity.specs.declared.Channel.{Channel}
 use Rattle.parity.proofs.Finite.Sums.{is-true, is-false, is, count-suc, count-cong}
 use Rattle.parity.proofs.Finite.Firsts.{all-cong}
@@ -28,7 +28,7 @@ check-cong n p q f g e h =
     rw (
       any-cong n (λ i. p i && isErased (f i)) (λ i. q i && isErased (g i)) (λ i k. rw (e i k, h i k)),
       all-cong n {p = λ i. not (p i) || isSure (f i)} {q = λ i. not (q i) || isSure (g i)} (λ i k. rw (e i k, h i k)),
-      count-cong n {p = λ i. p i && turns (f i)} {q = λ i. q i && turns (g i)} (λ i k. rw (e i k, h i k)),
+      count-cong n {p = λ i. p i && turnsSign (f i)} {q = λ i. q i && turnsSign (g i)} (λ i k. rw (e i k, h i k)),
       least-cong n p q f g e h,
     )
 
@@ -61,14 +61,14 @@ check-at' n p f g h =
     rw (
       any-cong n (λ i. p i && isErased (f i)) (λ i. p i && isErased (g i)) (λ i k. elim (is (p i)) [ is-true e ↦ rw (e, h i k e) | is-false e ↦ rw e ]),
       all-cong n {p = λ i. not (p i) || isSure (f i)} {q = λ i. not (p i) || isSure (g i)} (λ i k. elim (is (p i)) [ is-true e ↦ rw (e, h i k e) | is-false e ↦ rw e ]),
-      count-cong n {p = λ i. p i && turns (f i)} {q = λ i. p i && turns (g i)} (λ i k. elim (is (p i)) [ is-true e ↦ rw (e, h i k e) | is-false e ↦ rw e ]),
+      count-cong n {p = λ i. p i && turnsSign (f i)} {q = λ i. p i && turnsSign (g i)} (λ i k. elim (is (p i)) [ is-true e ↦ rw (e, h i k e) | is-false e ↦ rw e ]),
       least-at' n p f g h,
     )
 
 -- ---- bits that no check has do not count
 check-suc : (n : ℕ) (p : ℕ → Bool) (f : ℕ → Channel) → p n ≡ false → checkSends (suc n) p f ≡ checkSends n p f
 unfolding checkSends turnsOdd any all leastSoft
-check-suc n p f e = rw (count-suc n (λ i. p i && turns (f i)), e, or-false, and-true, add-zero)
+check-suc n p f e = rw (count-suc n (λ i. p i && turnsSign (f i)), e, or-false, and-true, add-zero)
 
 check-end : (d n : ℕ) (p : ℕ → Bool) (f : ℕ → Channel) → ((i : ℕ) → n ≤ i → p i ≡ false) → checkSends (d + n) p f ≡ checkSends n p f
 check-end zero n p f e = ap (λ z. checkSends z p f) (plain n)

@@ -7,7 +7,7 @@ use lib.Ieee.{Float, binary32, add, neg, lt, eq, fits, ofBits}
 use lib.Ieee.Fits.{add-fits}
 use lib.Ieee.Bits as bits
 use Rattle.parity.specs.Floats.{positiveZero, limit, negativeLimit, cut, finite}
-use Rattle.parity.specs.Soft.{checkSends, joined, gathered, settled, bitSends, sound}
+use Rattle.parity.specs.Soft.{checkSends, withNext, gathered, settled, bitSends, sound}
 use Rattle.parity.specs.declared.Channel.{Channel}
 use Rattle.parity.specs.declared.Channel.the-variants.{Sure, Soft, Erased}
 use Rattle.parity.proofs.Finite.Sums.{is-true, is-false, is}
@@ -65,7 +65,7 @@ lower-fit : fits binary32 negativeLimit ≡ true
 unfolding fits ofBits neg
 lower-fit = refl
 
-joined-fit : (v w : Channel) → fit v ≡ true → fit w ≡ true → fit (joined v w) ≡ true
+joined-fit : (v w : Channel) → fit v ≡ true → fit w ≡ true → fit (withNext v w) ≡ true
 joined-fit (Sure a) w p q = refl
 joined-fit (Soft s) (Sure b) p q = refl
 joined-fit (Soft s) (Soft x) p q = bits.is-true (fits binary32 (add binary32 s x)) (add-fits binary32 s x)

@@ -10,7 +10,7 @@ use lib.Ieee.{Float, nan, inf, fin, binary32, Format, prec, emax, low, add, sum,
 use Rattle.parity.specs.Finite.{any}
 use Rattle.parity.proofs.Finite.Sums.{is-true, is-false, is}
 use Rattle.parity.specs.Floats.{positiveZero, limit, negativeLimit, plusZero, magnitude, turned, cut, finite}
-use Rattle.parity.specs.Soft.{isErased, leastSoft, turnsOdd, checkSends, joined, gathered, settled, bitSends, sound}
+use Rattle.parity.specs.Soft.{isErased, leastSoft, turnsOdd, checkSends, withNext, gathered, settled, bitSends, sound}
 use Rattle.parity.specs.declared.Channel.{Channel}
 use Rattle.parity.specs.declared.Channel.the-variants.{Sure, Soft, Erased}
 use Rattle.parity.proofs.Soft.Numbers.{zero-is, limit-is, lower-is}
@@ -100,7 +100,7 @@ numeric (Sure b) = true
 numeric (Soft x) = not (isNan x)
 numeric Erased = true
 
-joined-numeric : (v w : Channel) → numeric v ≡ true → sound w ≡ true → numeric (joined v w) ≡ true
+joined-numeric : (v w : Channel) → numeric v ≡ true → sound w ≡ true → numeric (withNext v w) ≡ true
 unfolding numeric
 joined-numeric (Sure a) w p q = refl
 joined-numeric (Soft s) (Sure b) p q = refl

@@ -9,7 +9,7 @@ use Rattle.parity.specs.Finite.{one, count, any, all}
 use Rattle.parity.specs.Words.{odd}
 use Rattle.parity.proofs.Finite.Sums.{is-true, is-false, is, any-at, all-false, count-suc}
 use Rattle.parity.specs.Floats.{negative, plusZero, magnitude, turned, lesser, infinite}
-use Rattle.parity.specs.Soft.{isErased, isSure, turns, leastSoft, turnsOdd, checkSends}
+use Rattle.parity.specs.Soft.{isErased, isSure, turnsSign, leastSoft, turnsOdd, checkSends}
 use Rattle.parity.specs.declared.Channel.{Channel}
 use Rattle.parity.specs.declared.Channel.the-variants.{Soft}
 use Rattle.parity.proofs.Soft.Counts.{odd-more}
@@ -76,7 +76,7 @@ odd-first g = elim (is (negative (g 0))) [ is-true q ↦ rw q | is-false q ↦ r
 
 odd-next : (g : ℕ → Float) (n : ℕ) → turnsOdd (suc n) every (soft g) ≡ cond (negative (g n)) (not (turnsOdd n every (soft g))) (turnsOdd n every (soft g))
 unfolding turnsOdd
-odd-next g n = ap odd (count-suc n (λ i. every i && turns (soft g i))) ∙ odd-more (count n (λ i. every i && turns (soft g i))) (negative (g n))
+odd-next g n = ap odd (count-suc n (λ i. every i && turnsSign (soft g i))) ∙ odd-more (count n (λ i. every i && turnsSign (soft g i))) (negative (g n))
 
 first : (g : ℕ → Float) → Real (g 0) → Known g 1
 first g R =

@@ -10,7 +10,7 @@ use lib.ListN.{getD, length}
 use borrow.Author.Tests.{eq-eqb, ne-eqb, ltb-false, le-ltb, not-true}
 use lib.Ieee.{Float, nan, inf, fin, binary32, lt, eq, le, fits}
 use Rattle.parity.specs.Floats.{plusZero, lesser, finite}
-use Rattle.parity.specs.SoftRange.{pairOf, greater, endsAt, plusZeros, combined, rangeTo}
+use Rattle.parity.specs.SoftRange.{sendsForTwo, greater, endsAt, plusZeros, combined, rangeTo}
 use Rattle.parity.specs.Promises.{Choice, Reached, IsRange}
 use Rattle.parity.specs.declared.Ends.{Ends}
 use Rattle.parity.proofs.SoftRange.Keys.{bound, key, le-key}
@@ -121,7 +121,7 @@ module _ (lows highs : List Float) (P : Proper lows highs) where
   comes-cond m false x y p q = q
 
   -- one value more, x
-  comes-pair : (m : ℕ) (y x : Float) → m < n → Real y → Real x → key (low m) ≤ key x → key x ≤ key (high m) → Comes m y → Comes (suc m) (pairOf y x)
+  comes-pair : (m : ℕ) (y x : Float) → m < n → Real y → Real x → key (low m) ≤ key x → key x ≤ key (high m) → Comes m y → Comes (suc m) (sendsForTwo y x)
   comes-pair m y x k R S a b C = record {
     choice = with-at (C .choice) m x;
     is-choice = picked-at (C .choice) m x (C .is-choice) (λ j. (S, a, b));
@@ -169,16 +169,16 @@ module _ (lows highs : List Float) (P : Proper lows highs) where
     S = high-real m k
 
     abbrev p : Float
-    p = pairOf (e .low) (low m)
+    p = sendsForTwo (e .low) (low m)
 
     abbrev q : Float
-    q = pairOf (e .low) (high m)
+    q = sendsForTwo (e .low) (high m)
 
     abbrev r : Float
-    r = pairOf (e .high) (low m)
+    r = sendsForTwo (e .high) (low m)
 
     abbrev s : Float
-    s = pairOf (e .high) (high m)
+    s = sendsForTwo (e .high) (high m)
 
     Rp : Real p
     Rp = real-pair (U .real-low) R

@@ -9,7 +9,7 @@ use borrow.Author.Tests.{eq-eqb, eqb-true, lt-ltb, le-ltb}
 use lib.Ieee.{Float, fin, binary32, lt, eq, neg, fits}
 use Rattle.parity.proofs.Finite.Sums.{is-true, is-false, is}
 use Rattle.parity.specs.Floats.{positiveZero, negative, plusZero, magnitude, turned, lesser, finite}
-use Rattle.parity.specs.SoftRange.{pairOf, greater}
+use Rattle.parity.specs.SoftRange.{sendsForTwo, greater}
 use Rattle.parity.proofs.SoftRange.Clip.{clip, clip-sign}
 use Rattle.parity.proofs.Soft.Exact.{fits-neg}
 use Rattle.parity.proofs.Soft.Sound.{neg-finite}
@@ -100,7 +100,7 @@ pub key-turned : (t : Bool) {x : Float} → Real x → key (turned t x) ≡ cond
 key-turned true R = key-zero (real-neg R) ∙ key-neg R
 key-turned false R = key-zero R
 
-pub real-pair : {x y : Float} → Real x → Real y → Real (pairOf x y)
+pub real-pair : {x y : Float} → Real x → Real y → Real (sendsForTwo x y)
 real-pair {x} {y} R S = real-turned (cond (negative x) (not (negative y)) (negative y)) (real-lesser (real-magnitude R) (real-magnitude S))
 
 -- a sign and a distance from the bound
@@ -110,7 +110,7 @@ key-parts {x} R = elim (decLt (key x) bound) [
   | no n ↦ (key x - bound, omega (arith, key-top R), rw (negative-key R, le-ltb (key x) bound (omega arith)) (omega arith), key-magnitude R ∙ omega (arith, key-top R))
 ]
 
-pub key-pair : {x y : Float} → Real x → Real y → key (pairOf x y) ≡ clip bound (key x) (key y)
+pub key-pair : {x y : Float} → Real x → Real y → key (sendsForTwo x y) ≡ clip bound (key x) (key y)
 key-pair {x} {y} R S =
     let (a, ka, pa, qa) = key-parts R in
     let (b, kb, pb, qb) = key-parts S in

@@ -11,7 +11,7 @@ use lib.Ieee.{Float, nan, inf, fin, binary32, fits, eq, le, lt}
 use Rattle.parity.specs.Finite.{any, least}
 use Rattle.parity.specs.Causes.{Reply, answer, refusal, refuse}
 use Rattle.parity.specs.Floats.{positiveZero, plusZero, finite, magnitude, limit, tooLarge}
-use Rattle.parity.specs.SoftRange.{pairOf, endsAt, combined, rangeTo, wrongSizes, unfit, crossed, minSumRangeReply, RangeOutcome, minSumRangeOutcome}
+use Rattle.parity.specs.SoftRange.{sendsForTwo, endsAt, combined, rangeTo, wrongSizes, unfit, crossed, minSumRangeReply, RangeOutcome, minSumRangeOutcome}
 use Rattle.parity.specs.Promises.{SameValues, ZerosAlike}
 use Rattle.parity.specs.declared.Ends.{Ends}
 use Rattle.parity.proofs.Finite.Sums.{is-true, is-false, is}
@@ -75,12 +75,12 @@ large-same x y f g q = elim (is (finite x)) [
 below-same : (x x′ y y′ : Float) → Keyed x x′ → Keyed y y′ → lt x y ≡ lt x′ y′
 below-same x x′ y y′ K L = lt-keys (K .first) (L .first) ∙ (rw (K .same, L .same) (sym (lt-keys (K .second) (L .second))))
 
-pair-same : (x y y′ : Float) → Real x → Keyed y y′ → pairOf x y ≡ pairOf x y′
+pair-same : (x y y′ : Float) → Real x → Keyed y y′ → sendsForTwo x y ≡ sendsForTwo x y′
 pair-same x y y′ R K =
     let P = real-pair R (K .first) in
     let Q = real-pair R (K .second) in
     sym (zero-twice _)
-    ∙ same-key (pairOf x y) (pairOf x y′) (P .finite') (Q .finite') (P .fits') (Q .fits') (key-pair R (K .first) ∙ (rw (K .same) (sym (key-pair R (K .second)))))
+    ∙ same-key (sendsForTwo x y) (sendsForTwo x y′) (P .finite') (Q .finite') (P .fits') (Q .fits') (key-pair R (K .first) ∙ (rw (K .same) (sym (key-pair R (K .second)))))
     ∙ zero-twice _
 
 combined-same : (a b b′ : Ends) → Real (a .low) → Real (a .high) → Keyed (b .low) (b′ .low) → Keyed (b .high) (b′ .high) → combined a b ≡ combined a b′

@@ -7,11 +7,10 @@ use native.Mathlib.Decide.{ℕ-discrete}
 use borrow.Author.Tests.{eq-eqb, ne-eqb}
 use Rattle.parity.specs.Matrix.{Matrix, ruleA}
 use Rattle.parity.specs.Cycles.{share, splitOf, takenBack, others}
+use Rattle.parity.specs.Sound.{Clean, Sound}
 use Rattle.parity.proofs.Finite.Sums.{is-true, is-false, is, count-cong}
 use Rattle.parity.proofs.Splits.Split.{at-new-bit, at-other, at-apart}
 use Rattle.parity.proofs.Splits.Cycles.{new-other, new-u, new-v}
-use Rattle.parity.proofs.Matrix.Clean.{Clean}
-use Rattle.parity.proofs.Matrix.Sound.{Sound}
 
 -- the entries after taking back
 module _ (h : Matrix) (N M : ℕ) where

@@ -8,9 +8,10 @@ use native.Mathlib.Omega.{arith}
 use Rattle.parity.specs.Finite.{count}
 use Rattle.parity.specs.Matrix.{Matrix}
 use Rattle.parity.specs.Cycles.{share, takenBack, others}
+use Rattle.parity.specs.Sound.{Sound}
 use Rattle.parity.proofs.Finite.Sums.{is-true, is-false, is, count-suc, count-end, count-mono}
 use Rattle.parity.proofs.Matrix.Rule.{old-apart}
-use Rattle.parity.proofs.Matrix.Sound.{Sound, sound-rule}
+use Rattle.parity.proofs.Matrix.Sound.{sound-rule}
 use Rattle.parity.proofs.Splits.Back.{back-bit, back-at}
 
 module _ (h : Matrix) (n m k : ℕ) (S : Sound h n m k) (x y : ℕ) (xn : x < n + k) (yn : y < n + k) (xy : x ≡ y → ⊥) where

@@ -9,8 +9,9 @@ use native.Mathlib.Decide.{ℕ-discrete, decLt}
 use borrow.Author.Tests.{eq-eqb, ne-eqb, lt-ltb, le-ltb}
 use Rattle.parity.specs.Matrix.{Matrix}
 use Rattle.parity.specs.Cycles.{heldBy, pairs, cycles, splitOf, largestShare, lowerBit, higherBit, Orthogonalised, orthogonal}
+use Rattle.parity.specs.Sound.{Sound}
 use Rattle.parity.proofs.Splits.Pick.{picked, no-cycles, some-cycles}
-use Rattle.parity.proofs.Matrix.Sound.{Sound, split-sound}
+use Rattle.parity.proofs.Matrix.Sound.{split-sound}
 
 module _ (turns : ℕ) (h : Matrix) (n m k splits total : ℕ) (held : List ℕ) where
   -- no pair has share two or more: it finishes

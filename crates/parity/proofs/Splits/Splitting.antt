@@ -13,10 +13,11 @@ use Rattle.parity.specs.Causes.{Reply, answer, refusal, refusalOf}
 use Rattle.parity.specs.Calls.{notPair, countReply, splitReply, splitOutcome, takeBackReply, takeBackOutcome, orthogonalisedReply, orthogonaliseOutcome, acceptReply, orthogonalising}
 use Rattle.parity.proofs.Finite.Bools.{or-false-both}
 use Rattle.parity.proofs.Matrix.Packing.{pack-lent}
-use Rattle.parity.proofs.Matrix.Sound.{Sound, split-sound}
+use Rattle.parity.proofs.Matrix.Sound.{split-sound}
 use Rattle.parity.proofs.Matrix.Accept.{Accepted, accepts, pack-same, pack-accepted, accepting-answers, passes, accepting-refuses}
 use Rattle.parity.proofs.Splits.Orthogonal.{orthogonal-sound, Ends, ends}
 use Rattle.parity.specs.declared.Refusal.{Refusal}
+use Rattle.parity.specs.Sound.{Sound}
 use Rattle.parity.proofs.Causes.Refused.{refused-same}
 
 -- machine words that hold a matrix are those that pack it

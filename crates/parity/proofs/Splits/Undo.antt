@@ -9,11 +9,11 @@ use borrow.Author.Tests.{eq-eqb, ne-eqb, lt-ltb, ltb-true, eqb-false, not-true}
 use Rattle.parity.specs.Finite.{one, count, least}
 use Rattle.parity.specs.Matrix.{Matrix}
 use Rattle.parity.specs.Cycles.{share, splitOf, takenBack, others, lowerOf, higherOf}
+use Rattle.parity.specs.Sound.{Clean, Sound, Newest}
 use Rattle.parity.proofs.Finite.Sums.{is-true, is-false, is, sum-point, sum-two, sum-ge, count-cong, count-suc, count-pos, count-at, any-of, least-at, least-min}
 use Rattle.parity.proofs.Splits.Split.{at-new-bit, at-other, at-apart, at-u, at-v}
 use Rattle.parity.proofs.Splits.Cycles.{new-other, new-u, new-v, new-z}
-use Rattle.parity.proofs.Matrix.Clean.{Clean}
-use Rattle.parity.proofs.Matrix.Sound.{Sound, sound-rule, split-clean}
+use Rattle.parity.proofs.Matrix.Sound.{sound-rule, split-clean}
 use Rattle.parity.proofs.Splits.Back.{back-at, back-clean}
 
 -- the two numbers below N that pass a test that two pass
@@ -62,13 +62,7 @@ alone-below h M a b e p q c l =
       | is-true t ↦ absurd (omega (arith, rw (p, q) at (count-suc M (λ c. h c a && h c b)), count-pos M (λ c. h c a && h c b) c l t))
     ]
 
--- a matrix whose newest added check, M, keeps rule A; N is its own bit
-pub record Newest (h : Matrix) (N M : ℕ) : Type 0 where
-  pub clean : Clean h (suc N) (suc M)
-  pub own : h M N ≡ true
-  pub two : count N (h M) ≡ 2
-  pub alone : (a b : ℕ) → a < b → b < suc N → h M a ≡ true → h M b ≡ true → share h (suc M) a b ≡ 1
-
+-- rule A of the newest added check
 pub newest : (h : Matrix) (n m k : ℕ) → Sound h n m (suc k) → Newest h (n + k) (m + k)
 newest h n m k S =
     let R = sound-rule h n m (suc k) k S (omega arith) in

@@ -3,13 +3,13 @@ use mathlib.Core.Path.{_≡_, refl, sym, _∙_}
 use Prim.Native.Nat.{_-_, _≤_}
 use native.Mathlib.Omega.{arith}
 use lib.ListN.{drop}
-use Rattle.parity.specs.House.{turned, turns, circulant}
-use Rattle.house.proofs.Generated.{turn-small, turned-here, turned-on}
+use Rattle.parity.specs.House.{atOffsets, offsets, circulant}
+use Rattle.house.proofs.Generated.{offset-small, offset-here, offset-on}
 use Rattle.house.proofs.rule.in_circulant.Statement.{statement}
 use Rattle.house.proofs.rule.in_circulant.Tie as tie
 
 abbrev Inv-loop : tie.InvT-loop
-Inv-loop c b i₀ i = (i ≤ 8) × (circulant c b ≡ turned (drop i turns) c b)
+Inv-loop c b i₀ i = (i ≤ 8) × (circulant c b ≡ atOffsets (drop i offsets) c b)
 
 abbrev μ-loop : tie.MeasureT-loop
 μ-loop c b i₀ i = 8 - i
@@ -24,12 +24,12 @@ array-read-if1 : tie.Need-array-read-if1 Inv-loop μ-loop
 array-read-if1 c = omega arith
 
 add-if1 : tie.Need-add-if1 Inv-loop μ-loop
-add-if1 c = let k = turn-small (c .before .loop .i) (omega arith) in record { fits = omega arith }
+add-if1 c = let k = offset-small (c .before .loop .i) (omega arith) in record { fits = omega arith }
 
 returns : tie.Need-returns Inv-loop μ-loop
 returns c =
     let l = c .before .before .loop in
-    sym (l .inv .1 ∙ turned-here (l .i) _ _ (omega arith) (c .if1 .taken))
+    sym (l .inv .1 ∙ offset-here (l .i) _ _ (omega arith) (c .if1 .taken))
 
 add-i : tie.Need-add-i Inv-loop μ-loop
 add-i c = omega arith
@@ -38,10 +38,10 @@ loop-less : tie.Need-loop-less Inv-loop μ-loop
 loop-less c = omega arith
 
 loop-again : tie.Need-loop-again Inv-loop μ-loop
-loop-again c = let l = c .before .before .loop in (omega arith, l .inv .1 ∙ turned-on (l .i) _ _ (omega arith) (c .if1 .left))
+loop-again c = let l = c .before .before .loop in (omega arith, l .inv .1 ∙ offset-on (l .i) _ _ (omega arith) (c .if1 .left))
 
 returns-2 : tie.Need-returns-2 Inv-loop μ-loop
-unfolding turned
+unfolding atOffsets
 returns-2 c =
     let l = c .before .loop in
     let e : l .i ≡ 8 = omega arith in

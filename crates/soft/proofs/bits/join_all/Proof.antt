@@ -3,7 +3,7 @@ use borrow.Author.Needs.{needs}
 use Rattle.soft.proofs.Places.{partly-start, partly-more}
 use Rattle.soft.specs.Sums.{joinedWith}
 use Rattle.soft.specs.Pass.{Partly}
-use Rattle.parity.specs.Soft.{messageAt, joined}
+use Rattle.parity.specs.Soft.{messageAt, withNext}
 use lib.ListN.{length}
 use native.Mathlib.Omega.{arith}
 use Prim.Native.Nat.{_≤_, _-_}
@@ -42,7 +42,7 @@ loop-again c = let p = c .before .before .before .before in
     let a = m .before .before .before .before in
     let l = a .loop in
     let k = a .before .before .before .pre .0 in
-    let e = q .join .ensures ∙ ap (λ w. joined w (a .before .before .before .args .v)) (m .message .ensures ∙ l .inv .1 .rest (l .t) (omega arith) (omega arith)) in
+    let e = q .join .ensures ∙ ap (λ w. withNext w (a .before .before .before .args .v)) (m .message .ensures ∙ l .inv .1 .rest (l .t) (omega arith) (omega arith)) in
     (omega arith, rw (p .put .ensures .0, p .put .ensures .1, e) (partly-more _ _ (joinedWith (messageAt (a .before .before .before .args .tags .now) (a .before .before .before .args .values .now)) (a .before .before .before .args .v)) _ _ _ (l .inv .1) (omega arith)))
 
 same-length : tie.Need-same-length Inv-loop μ-loop

@@ -5,6 +5,7 @@ use crate::args::Args;
 use crate::fault::Fault;
 use crate::files;
 use crate::matrix::Matrix;
+use crate::places;
 use crate::progress;
 use crate::random::Random;
 use crate::svg;
@@ -215,6 +216,9 @@ pub fn run(mut args: Args) -> Result<u8, Fault> {
     let seed = args.number("--seed", 0, u64::MAX)?.unwrap_or(SEED);
     let [path] = args.files(["FILE"])?;
     let Some(out) = out else { return Err(Fault::usage("curve needs --out and the name of a picture; see --help")) };
+    let mut named = vec![("FILE", path.as_path()), ("--out", out.as_path())];
+    named.extend(table.as_ref().map(|table| ("--csv", table.as_path())));
+    places::apart(&named)?;
     let plan = Plan { words, seed };
     let refused = |refusal| files::refused(&path, refusal);
     let setup = Setup::new(&files::read(&path, from)?).map_err(refused)?;

@@ -2,9 +2,9 @@
 
 use crate::fault::Fault;
 use crate::matrix::Matrix;
-use crate::{alist, record, text};
+use crate::{alist, record, replace, text};
 use parity::Refusal;
-use std::fs::{self, File};
+use std::fs::File;
 use std::io::Read;
 use std::path::Path;
 
@@ -92,6 +92,7 @@ fn bytes(path: &Path) -> Result<Vec<u8>, Fault> {
 
 const MATRIX: &str = "120 bits and 120 checks";
 
+/// Every file that the program writes.
 pub fn write(path: &Path, bytes: &[u8]) -> Result<(), Fault> {
-    fs::write(path, bytes).map_err(|error| Fault::file(path, &error.to_string()))
+    replace::write(path, bytes).map_err(|error| Fault::file(path, &error.to_string()))
 }

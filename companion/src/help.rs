@@ -17,6 +17,9 @@ each check) or .rec (record, words of 4 bytes, the highest byte first). --from
 alist, text or record names the format of a file with another extension. A
 matrix has 1 to 120 bits and 0 to 120 checks. A record may carry splits.
 
+An output that is an input or the other output, by any path or link, is refused
+as a wrong argument. A file is written whole, or else the old one stays.
+
 Exit status: 0 done; 1 a file or stream that cannot be read, written or taken,
 one line on standard error says why; 2 wrong arguments; 3 and 4 as mend and
 extend say.
@@ -28,7 +31,7 @@ parity convert IN OUT [--from FORMAT] [--to FORMAT] [--given]
 Reads the matrix IN and writes it as OUT. FORMAT is alist, text or record;
 without it the extension decides: .alist, .txt or .rec. A record is written in
 its second form, and with splits in its third; the other formats cannot hold
-splits, nor text a matrix without checks.
+splits, nor text a matrix without checks. OUT must be another file than IN.
 
   --given    takes the splits of a record back, and writes the checks that it
              had before them
@@ -58,7 +61,8 @@ parity extend FILE OUT [--from FORMAT]
 
 Orthogonalises the matrix, and writes it with its splits as a record of the
 third form (of the second form where there is nothing to split). Prints the
-splits made, their sum, k and the cycles left.
+splits made, their sum, k and the cycles left. OUT must be another file than
+FILE.
 
 Exit status: 0 written; 1 FILE cannot be read or taken, or OUT not written; 2
 wrong arguments; 3 written, but k is 392, the most, and cycles are left.
@@ -99,6 +103,8 @@ are used, and the numbers do not depend on how many there are.
   --csv CSV  the numbers behind it
   --words N  words at each erasure rate, 1 to 100000000 (10000)
   --seed S   other words for another number (1)
+
+SVG and CSV must be two files, and neither may be FILE.
 
 Exit status: 0 written; 1 FILE cannot be read or taken, or a file not written;
 2 wrong arguments.

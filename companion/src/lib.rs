@@ -14,9 +14,11 @@ pub mod json;
 pub mod matrix;
 pub mod mend;
 pub mod output;
+pub mod places;
 pub mod progress;
 pub mod random;
 pub mod record;
+pub mod replace;
 pub mod svg;
 pub mod text;
 

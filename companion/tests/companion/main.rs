@@ -22,6 +22,7 @@ mod curves;
 mod formats;
 mod golden;
 mod mutations;
+mod outputs;
 mod refusals;
 mod streams;
 mod support;

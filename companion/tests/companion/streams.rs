@@ -33,13 +33,15 @@ fn unreadable_and_unwritable() {
     let here = folder("unreadable");
     fs::create_dir(here.join("folder.rec")).expect("a folder");
     fs::copy(golden().join("case-c.alist"), here.join("c.alist")).expect("a file");
-    let cases: [&[&str]; 8] = [
+    let cases: [&[&str]; 10] = [
         &["inspect", "missing.alist"],
         &["inspect", "folder.rec"],
         &["mend", "missing.txt"],
         &["convert", "missing.alist", "out.txt"],
         &["convert", "c.alist", "folder.rec"],
         &["convert", "c.alist", "missing/out.txt"],
+        &["convert", "c.alist", "out.txt/"],
+        &["convert", "c.alist", "c.alist/"],
         &["extend", "c.alist", "missing/out.rec"],
         &["curve", "c.alist", "--words", "1", "--out", "missing/out.svg"],
     ];

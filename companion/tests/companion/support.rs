@@ -39,8 +39,16 @@ pub fn folder(name: &str) -> PathBuf {
 
 /// Runs the program in a folder on some input.
 pub fn run(folder: &Path, args: &[&str], input: &[u8]) -> Run {
-    let mut child = Command::new(env!("CARGO_BIN_EXE_parity"))
-        .args(args)
+    outcome(Command::new(env!("CARGO_BIN_EXE_parity")).args(args), folder, input)
+}
+
+/// Runs a script of the shell in a folder, in which `"$0" "$@"` is the program with its arguments.
+pub fn shell(folder: &Path, script: &str, args: &[&str]) -> Run {
+    outcome(Command::new("sh").args(["-c", script, env!("CARGO_BIN_EXE_parity")]).args(args), folder, b"")
+}
+
+fn outcome(command: &mut Command, folder: &Path, input: &[u8]) -> Run {
+    let mut child = command
         .current_dir(folder)
         .stdin(Stdio::piped())
         .stdout(Stdio::piped())

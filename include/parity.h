@@ -443,10 +443,14 @@ uint32_t parity_join(const uint64_t *words1, size_t words1_len,
  * words: read.
  * rounds: 1 to PARITY_ROUNDS_MOST.
  * word: n+k bytes of 0, 1, 2 or 3. An answer writes each bit's result.
- * floats: n+k floats, read only where `word` has 3. An answer writes all of them:
- *   plus zero unless the result is soft. None is infinite or not a number.
+ * floats: n+k floats. Where `word` has another byte than 3 their value has no
+ *   influence on any answer or refusal. An answer writes all of them: plus zero
+ *   unless the result is soft. None is infinite or not a number.
  * message_bytes, message_floats: PARITY_MESSAGES each, whatever they hold. An
  *   answer leaves them zero.
+ * The floats of the proved definitions have one NaN without its bits: that a
+ *   refusal leaves a NaN as a NaN is proved, and that it leaves its payload bits is
+ *   shown by the tests from outside.
  * Values of the answer: none.
  * Refusals: 1, 2, 3, 4, 22; 10 for any of the four slices; 11 with the place in
  *   `word`; 23 with the place in `floats`.
@@ -469,7 +473,8 @@ uint32_t parity_min_sum(const uint64_t *words, size_t words_len,
  *   PARITY_OTHERS_MOST.
  * ends: a range puts its low and its high into the first two elements, as far as
  *   the slice reaches; all others are left as they were, and all of them with
- *   sure 0 and a refusal.
+ *   sure 0 and a refusal. As in parity_min_sum, that a NaN is left as a NaN is
+ *   proved, and that its payload bits are left is shown by the tests from outside.
  * Values of the answer (1): 0 for sure 0, 3 for a range.
  * Refusals: 10 if the lengths of `lows` and `highs` differ or pass
  *   PARITY_OTHERS_MOST; 23 with the place in `lows`, else that in `highs`; 24.

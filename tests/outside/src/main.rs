@@ -1,5 +1,5 @@
 //! Tests of the library from outside. `outside` runs all parts; `outside model`, `calls`, `losses`, `records`,
-//! `taking_back`, `holders`, `determining`, `solving`, `sets`, `blocks`, `joining`, `soft`, `ranges`, `stack`, `demand3`, `codes`, `mend` run the parts named, and the name of a call, as `outside peel`, runs that kind of
+//! `taking_back`, `holders`, `determining`, `solving`, `sets`, `blocks`, `joining`, `soft`, `ranges`, `payloads`, `stack`, `demand3`, `codes`, `mend` run the parts named, and the name of a call, as `outside peel`, runs that kind of
 //! call alone. Ends with a status that is not 0 at the first difference, with the whole input that shows it.
 //! OUTSIDE_LAST=FILE keeps the input of the last call in FILE.
 
@@ -21,6 +21,7 @@ mod losses;
 mod mend;
 mod min_sum;
 mod model;
+mod payloads;
 mod random;
 mod ranges;
 mod records;
@@ -34,7 +35,7 @@ use model::{Kind, KINDS};
 use std::process::ExitCode;
 use std::time::Instant;
 
-const PARTS: [&str; 17] = [
+const PARTS: [&str; 18] = [
     "model",
     "calls",
     "losses",
@@ -48,6 +49,7 @@ const PARTS: [&str; 17] = [
     "joining",
     "soft",
     "ranges",
+    "payloads",
     "stack",
     "demand3",
     "codes",
@@ -93,6 +95,7 @@ fn run(part: &str, kinds: &[Kind]) -> Result<Outcome, String> {
         "joining" => noted(joining::run()),
         "soft" => noted(soft::run()),
         "ranges" => noted(ranges::run()),
+        "payloads" => noted(payloads::run()),
         "stack" => noted(stack::run()),
         "demand3" => noted(demand3::run()),
         "codes" => noted(codes::run()),

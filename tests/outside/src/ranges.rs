@@ -12,10 +12,10 @@ const OTHERS_MOST: usize = 511;
 const CHECKS_LEAST: usize = 20_000;
 
 /// What the call is lent; floats are kept as their bits.
-#[derive(Clone, Debug)]
-struct Lent {
-    lows: Vec<u32>,
-    highs: Vec<u32>,
+#[derive(Clone, PartialEq, Debug)]
+pub struct Lent {
+    pub lows: Vec<u32>,
+    pub highs: Vec<u32>,
 }
 
 // The model
@@ -62,7 +62,7 @@ fn by_sign(lows: &[f32], highs: &[f32]) -> (f32, f32) {
 }
 
 /// What the call comes to: its number, the values carried, and the ends.
-fn due(lent: &Lent) -> (u32, Vec<u64>, Vec<f32>) {
+pub fn due(lent: &Lent) -> (u32, Vec<u64>, Vec<f32>) {
     let floats = |bits: &[u32]| bits.iter().map(|x| f32::from_bits(*x)).collect::<Vec<f32>>();
     let (lows, highs) = (floats(&lent.lows), floats(&lent.highs));
     let refused = |number, place: Option<usize>| (number, place.into_iter().map(|i| i as u64).collect(), Vec::new());
@@ -98,7 +98,7 @@ struct Tally {
     stack: usize,
 }
 
-fn failed(why: &str, lent: &Lent) -> String {
+pub fn failed(why: &str, lent: &Lent) -> String {
     format!("RANGES: {why}\nlows {:08x?}\nhighs {:08x?}", lent.lows, lent.highs)
 }
 
@@ -151,7 +151,7 @@ fn float(r: &mut Random) -> f32 {
 }
 
 /// The ranges of a check with so many other bits.
-fn check(r: &mut Random, size: usize) -> Lent {
+pub fn check(r: &mut Random, size: usize) -> Lent {
     let known = r.below(1000);
     // Values on one side of zero leave the sign of the answer fixed.
     let sided = r.chance(300);

@@ -27,13 +27,13 @@ fn fitting(r: &mut Random) -> u32 {
     }
 }
 
-/// A float of any kind, where it is not read.
+/// A float of any kind, for a byte other than 3.
 fn any_float(r: &mut Random) -> u32 {
     let any = r.next() as u32;
     r.pick(&[0, 0x8000_0000, 0x7F80_0000, 0xFF80_0000, 0x7FC0_0000, 0xFFFF_FFFF, LIMIT.to_bits() + 1, any])
 }
 
-/// A float that is refused where it is read.
+/// A float that is refused at a byte 3.
 pub fn unfit(r: &mut Random) -> u32 {
     let sign = (r.below(2) as u32) << 31;
     let above = r.between(LIMIT.to_bits() as usize + 1, 0x7F80_0000) as u32;

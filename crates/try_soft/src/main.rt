@@ -112,7 +112,7 @@ fn a_refused(words: &[u64]) {
     f[1] = infinity() - infinity();
     f[2] = -infinity();
     line(
-        b"A, floats that are not read",
+        b"A, floats that do not count",
         words,
         7,
         3,

@@ -33,7 +33,7 @@ fn bit_sends(
     ensures { λ r. ⌜ BitSent (across (lent 8 (now (cols .entry)))) 512 checks b channel (now (tags .entry)) (now (values .entry)) (now (tags .exit)) (now (values .exit)) ⌝ }
 {
     let d = gather(cols, checks, b, at, tags, values, row_tags, row_values);
-    let r = bit_at(row_tags, row_values, 0, d, channel);
+    bit_at(row_tags, row_values, 0, d, channel);
     scatter(cols, checks, b, at, row_tags, row_values, tags, values);
 }
 

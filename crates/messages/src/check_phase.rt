@@ -1,4 +1,4 @@
-// A round: all checks, then all bits, on the messages in lent memory.
+// All checks: what they send, on the messages in lent memory.
 use parity::Check;
 use rows::ones::weight;
 use soft::checks::check_answers;

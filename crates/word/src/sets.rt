@@ -1,5 +1,4 @@
 // Sets of bits, as a row of words, and the bits of a check that are in one. The matrix has rows of eight words.
-use parity::Bit;
 use parity::Check;
 ghost use mathlib.Core.Path.{_≡_};
 ghost use mathlib.Core.Bool.{not};
@@ -55,14 +54,6 @@ pub fn set_of(bytes: &[u8], value: u8) -> [u64; 8]
     let mut set = [0u64; 8];
     make_set(bytes, value, 8, &mut set);
     set
-}
-
-// Whether bit `b` is in the set.
-pub fn is_in(set: &[u64], b: Bit) -> bool
-    requires { ⌜ (length (now set) ≡ 8) × (b .0 < 512) ⌝ }
-    ensures { λ r. ⌜ r ≡ lent 8 (now (set .entry)) 0 (b .0) ⌝ }
-{
-    rows::contains(set, 8, 0, b.0)
 }
 
 // Whether check `c` contains an odd number of the set's bits in its first `used` words.

@@ -169,6 +169,6 @@ replaced a w new l e = e ∙ ap (λ (v : List ℕ). a ++ v) (drop-of-length-le w
 
 -- what elimination needs
 pub ready : (p : Peelings) (n : ℕ) (w v : List ℕ) → length w ≡ n → wrongByte 2 w ≡ false → Kept p w v → Ready p n v
-ready (Whole stage recovered) n w v l e k = refl
-ready (Stopped r) n w v l e k = refl
+ready (Whole stage recovered) n w v l e k = tt
+ready (Stopped r) n w v l e k = tt
 ready (Remaining recovered) n w v l e k = (ap length k ∙ l, ap (wrongByte 2) k ∙ e)

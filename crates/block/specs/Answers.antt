@@ -22,16 +22,16 @@ staged ws n m (Whole stage recovered) w = mended stage recovered w
 staged ws n m (Stopped r) w = record { reply = refusalOf r; after = w }
 staged ws n m (Remaining recovered) w = eliminating ws n m w recovered
 
--- if bits remain, the word is as it was received
+-- if bits remain, the word is as it was received; else nothing is said here
 abbrev pub Kept : Peelings → List ℕ → List ℕ → Type 0
-Kept (Whole stage recovered) before after = before ≡ before
-Kept (Stopped r) before after = before ≡ before
+Kept (Whole stage recovered) before after = Unit {0}
+Kept (Stopped r) before after = Unit {0}
 Kept (Remaining recovered) before after = after ≡ before
 
--- and has n bytes of 0, 1 or 2
+-- if bits remain, the word has n bytes of 0, 1 or 2; else nothing is asked
 abbrev pub Ready : Peelings → ℕ → List ℕ → Type 0
-Ready (Whole stage recovered) n w = n ≡ n
-Ready (Stopped r) n w = n ≡ n
+Ready (Whole stage recovered) n w = Unit {0}
+Ready (Stopped r) n w = Unit {0}
 Ready (Remaining recovered) n w = (length w ≡ n) × (wrongByte 2 w ≡ false)
 
 -- the reply r refuses every word, and leaves it

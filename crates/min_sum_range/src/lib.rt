@@ -18,7 +18,8 @@ pub enum Ranging {
     Refused(Refusal),
 }
 
-// The range of one check's answer, over all choices inside the ranges of its other bits.
+// The range of one check's answer, over all choices inside the ranges of its other bits. That the ends given are this range is the theorem `RangeGiven`
+// (parity's specs/Promises).
 pub fn range(lows: &[f32], highs: &[f32]) -> Ranging
     ensures { λ r. ⌜ rangingOutcome r ≡ minSumRangeOutcome (now (lows .entry)) (now (highs .entry)) ⌝ }
 {

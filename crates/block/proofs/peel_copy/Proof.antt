@@ -104,7 +104,7 @@ returns-3 c =
     let q = sym (ap noRoom (c .before .r .given .1)) ∙ P .0 in
     let e = sym (ap copyPeelingReply (c .before .r .given .1)) ∙ P .1 .0 ∙ ap (copyReply ws (s .args .n) (s .args .m)) front in
     let f = copy-refused ws (s .args .n) (s .args .m) w q (c .before .r .given .0 .0) (s .args .recovered) e in
-    (sym f, refl)
+    (sym f, tt)
 
 same-length-4 : tie.Need-same-length-4
 same-length-4 c = search needs
@@ -125,7 +125,7 @@ returns-4 c =
     let room : s .args .n ≤ length (c .before .before .before .before .before .before .before .before .before .before .before .peel-extended .last .1 .1 .1 .0) = omega (arith, ap length (s .pre .3) ∙ longer-size (s .args .n) w (s .pre .1) (512 - s .args .n)) in
     let f = none-remains ws (s .args .n) (s .args .m) w q _ _ (s .args .recovered) e (c .before .before .before .before .before .if1 .left) in
     let whole = replaced _ w _ (length-take-le (s .args .n) (c .before .before .before .before .before .before .before .before .before .before .before .peel-extended .last .1 .1 .1 .0) room ∙ sym (s .pre .1)) (c .before .before .copy-front .ensures) in
-    (ap (mended 2 _) (whole ∙ P .1 .1 ∙ ap (copyWord ws (s .args .n) (s .args .m)) front ∙ told-word ws (s .args .n) (s .args .m) w q) ∙ sym f, refl)
+    (ap (mended 2 _) (whole ∙ P .1 .1 ∙ ap (copyWord ws (s .args .n) (s .args .m)) front ∙ told-word ws (s .args .n) (s .args .m) w q) ∙ sym f, tt)
 
 pub peel-copy-spec : {M : Type 1} → statement M
 peel-copy-spec =

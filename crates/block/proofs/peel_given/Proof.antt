@@ -1,5 +1,5 @@
 -- `peel_given` meets its contract. Assumes nothing.
-use mathlib.Core.Path.{_≡_, refl, sym, ap, _∙_}
+use mathlib.Core.Path.{_≡_, sym, ap, _∙_}
 use mathlib.Core.List.{List}
 use Prim.Native.Nat.{ℕ, _≤_}
 use native.Mathlib.Omega.{arith}
@@ -166,7 +166,7 @@ returns-2 c =
     let same = ap (λ (v : List ℕ). peelOutcome ws (s .args .n) (s .args .m) 0 v) front in
     let e = sym (ap peelingReply (c .before .r .given .1)) ∙ P .0 ∙ ap (λ (o : Outcome). o .reply) same in
     let f = given-refused ws (s .args .n) (s .args .m) w (c .before .r .given .0 .0) e in
-    (sym f, refl)
+    (sym f, tt)
 
 same-length-3 : tie.Need-same-length-3
 same-length-3 c = search needs
@@ -191,7 +191,7 @@ returns-3 c =
     let f = none-sent ws (s .args .n) (s .args .m) w _ _ _ _ e (c .before .before .before .before .before .if1 .left) in
     let t = take-at X (drop (s .args .n) Y) (s .args .n) size in
     let whole = replaced _ w _ (ap length t ∙ size ∙ sym (s .pre .1)) (c .before .before .copy-front2 .ensures) in
-    (ap (mended 1 _) (whole ∙ t ∙ P .1 ∙ ap (λ (o : Outcome). o .after) same) ∙ sym f, refl)
+    (ap (mended 1 _) (whole ∙ t ∙ P .1 ∙ ap (λ (o : Outcome). o .after) same) ∙ sym f, tt)
 
 pub peel-given-spec : {M : Type 1} → statement M
 peel-given-spec =

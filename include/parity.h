@@ -29,8 +29,9 @@
  * `values` where it would stand are left as they were.
  *
  * REFUSALS. A call refuses for the first of its causes that holds, in the order
- * 1, 2, 3, 4, 13, 22, then the rest by number; parity_join looks at each cause in
- * both matrices before the next. A refusal leaves every lent element as it was,
+ * 1, 2, 3, 4, 13, 15, 16, 22, then the rest by number, which is also that of the
+ * refusals named with each call; parity_join looks at each cause in both matrices
+ * before the next. A refusal leaves every lent element as it was,
  * except for `values` and for PARITY_FULL of parity_orthogonalise.
  *
  * EMBEDDING. A call takes no memory from the heap and makes no system call. It

@@ -78,7 +78,7 @@ some-sum a false = rw (or-false, add-zero a)
 
 module _ (cols p x u : List ℕ) (S : Seen (across cols) p x u) (d : ℕ) (k : d < 128) (U : Under p d) where
   -- A check contains exactly one of the members and d
-  lone-is : (c : ℕ) → c < 512 → isLone cols x u d c ≡ eqb (inside (across cols) 128 c (isIn (p ++ (d ∷ [])))) 1
+  lone-is : (c : ℕ) → c < 512 → isLone 8 cols x u d c ≡ eqb (inside (across cols) 128 c (isIn (p ++ (d ∷ [])))) 1
   lone-is c l =
       rw (S .once c l, S .some c l, inside-more (across cols) 128 c p d k U) (lone-sum (inside (across cols) 128 c (isIn p)) (lent 8 cols d c))
 

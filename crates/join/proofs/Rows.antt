@@ -72,36 +72,58 @@ rows-first U W p u ws before after m e a l S = record {
       S .copied c i (omega arith) k q ∙ lent-word-of W p ws e a (c * W + i) (digits-lt k′ (omega arith));
 }
 
+-- one of the rows has the first two words of check c
+abbrev found : ℕ → List ℕ → ℕ → List ℕ → ℕ → Bool
+found W ws c before at = any at (isRow before (getD ws (c * W) 0) (getD ws (c * W + 1) 0))
+
 -- one check of the second
+module _ (W : ℕ) (w : 2 ≤ W) (ws : List ℕ) (size : length ws ≡ 512 * W) (machine : (i : ℕ) → getD ws i 0 < 2 ^ 64) (c : ℕ) (few : c < 512)
+    (before : List ℕ) (at : ℕ) (j : Joined) (e : at ≡ j .checks) (H : HasRows 2 W (j .matrix) at before) where
+  word-is : (i : ℕ) → i < W → getD ws (c * W + i) 0 ≡ wordOf W (lent W ws) (c * W + i)
+  word-is i l = lent-word-of W (omega arith) ws size machine (c * W + i) (digits-lt few l)
+
+  one-row : (d : ℕ) → d < at → isRow before (getD ws (c * W) 0) (getD ws (c * W + 1) 0) d ≡ sameCheck 128 (j .matrix d) (lent W ws c)
+  unfolding isRow all
+  one-row d l =
+      let y : d * 2 + 0 ≡ d * 2 = add-zero (d * 2) in
+      let p₀ : getD before (d * 2) 0 ≡ wordOf W (j .matrix) (d * W + 0) = ap (λ (i : ℕ). getD before i 0) (sym y) ∙ H .at d 0 l (omega arith) in
+      let p₁ = H .at d 1 l (omega arith) in
+      let z : c * W + 0 ≡ c * W = add-zero (c * W) in
+      let q₀ : getD ws (c * W) 0 ≡ wordOf W (lent W ws) (c * W + 0) = ap (λ (i : ℕ). getD ws i 0) (sym z) ∙ word-is 0 (omega arith) in
+      let q₁ = word-is 1 (omega arith) in
+      rw (p₀, p₁, q₀, q₁) (same-words 2 W w (j .matrix) (lent W ws) d c)
+
+  earlier : found W ws c before at ≡ equalsEarlier 128 j (lent W ws c)
+  unfolding equalsEarlier
+  earlier =
+      any-cong at (isRow before (getD ws (c * W) 0) (getD ws (c * W + 1) 0)) (λ d. sameCheck 128 (j .matrix d) (lent W ws c)) one-row
+      ∙ ap (λ (x : ℕ). any x (λ d. sameCheck 128 (j .matrix d) (lent W ws c))) e
+
+  -- it is put behind the rows
+  rows-next : (after : List ℕ) → CheckAt W 2 ws before after c at → HasRows 2 W (withCheck j (lent W ws c) .matrix) (at + 1) after
+  rows-next after C = record {
+    at = λ d i k m. elim (ℕ-discrete d at) [
+      | yes q ↦
+          let t : withCheck j (lent W ws c) .matrix at ≡ lent W ws c = rw e (with-last j (lent W ws c)) in
+          rw q (C .copied i m ∙ word-is i (omega arith)
+          ∙ row-same W (lent W ws) (withCheck j (lent W ws c) .matrix) c at i (omega arith) (λ b n. ap (λ (r : ℕ → Bool). r (i * 64 + b)) (sym t)))
+      | no q ↦
+          let d<at : d < at = omega arith in
+          let t = with-other j (lent W ws c) d (λ r. q (r ∙ sym e)) in
+          C .kept (d * 2 + i) (omega arith) ∙ H .at d i d<at m
+          ∙ row-same W (j .matrix) (withCheck j (lent W ws c) .matrix) d d i (omega arith) (λ b n. ap (λ (r : ℕ → Bool). r (i * 64 + b)) (sym t))
+    ];
+  }
+
+-- What adding it comes to, where checks have eight words as they are lent.
 module _ (ws : List ℕ) (size : length ws ≡ 4096) (machine : (i : ℕ) → getD ws i 0 < 2 ^ 64) (c : ℕ) (few : c < 120) (before : List ℕ) (at : ℕ) where
-  word-is : (i : ℕ) → i < 8 → getD ws (c * 8 + i) 0 ≡ wordOf 8 (lent 8 ws) (c * 8 + i)
-  word-is i l = lent-word-of 8 (lit< tt) ws size machine (c * 8 + i) (omega arith)
-
-  abbrev found : Bool
-  found = any at (isRow before (getD ws (c * 8) 0) (getD ws (c * 8 + 1) 0))
-
-  module _ (j : Joined) (e : at ≡ j .checks) (H : HasRows 2 8 (j .matrix) at before) where
-    one-row : (d : ℕ) → d < at → isRow before (getD ws (c * 8) 0) (getD ws (c * 8 + 1) 0) d ≡ sameCheck 128 (j .matrix d) (lent 8 ws c)
-    unfolding isRow all
-    one-row d l =
-        let y : d * 2 + 0 ≡ d * 2 = add-zero (d * 2) in
-        let p₀ : getD before (d * 2) 0 ≡ wordOf 8 (j .matrix) (d * 8 + 0) = ap (λ (i : ℕ). getD before i 0) (sym y) ∙ H .at d 0 l (omega arith) in
-        let p₁ = H .at d 1 l (omega arith) in
-        let z : c * 8 + 0 ≡ c * 8 = add-zero (c * 8) in
-        let q₀ : getD ws (c * 8) 0 ≡ wordOf 8 (lent 8 ws) (c * 8 + 0) = ap (λ (i : ℕ). getD ws i 0) (sym z) ∙ word-is 0 (omega arith) in
-        let q₁ = word-is 1 (omega arith) in
-        rw (p₀, p₁, q₀, q₁) (same-words 2 8 (omega arith) (j .matrix) (lent 8 ws) d c)
-
-    earlier : found ≡ equalsEarlier 128 j (lent 8 ws c)
-    unfolding equalsEarlier
-    earlier =
-        any-cong at (isRow before (getD ws (c * 8) 0) (getD ws (c * 8 + 1) 0)) (λ d. sameCheck 128 (j .matrix d) (lent 8 ws c)) one-row
-        ∙ ap (λ (x : ℕ). any x (λ d. sameCheck 128 (j .matrix d) (lent 8 ws c))) e
+  same-row : (j : Joined) → at ≡ j .checks → HasRows 2 8 (j .matrix) at before → found 8 ws c before at ≡ equalsEarlier 128 j (lent 8 ws c)
+  same-row = earlier 8 (omega arith) ws size machine c (omega arith) before at
 
   -- it is one of the rows;
-  pub added-none : at ≤ 120 → found ≡ true → Added ws c before at before at
+  pub added-none : at ≤ 120 → found 8 ws c before at ≡ true → Added ws c before at before at
   added-none l f = record {
-    added = λ j e H. rw (join-equal 128 j (lent 8 ws c) (sym (earlier j e H) ∙ f)) record {
+    added = λ j e H. rw (join-equal 128 j (lent 8 ws c) (sym (same-row j e H) ∙ f)) record {
       number = λ q. e;
       held = λ q. H;
       many = λ q. absurd (omega arith);
@@ -109,9 +131,9 @@ module _ (ws : List ℕ) (size : length ws ≡ 4096) (machine : (i : ℕ) → ge
   }
 
   -- it is none of them, and there is no room for it;
-  pub added-full : at ≡ 120 → found ≡ false → Added ws c before at before 121
+  pub added-full : at ≡ 120 → found 8 ws c before at ≡ false → Added ws c before at before 121
   added-full l f = record {
-    added = λ j e H. rw (join-new 128 j (lent 8 ws c) (sym (earlier j e H) ∙ f)) record {
+    added = λ j e H. rw (join-new 128 j (lent 8 ws c) (sym (same-row j e H) ∙ f)) record {
       number = λ q. absurd (omega arith);
       held = λ q. absurd (omega arith);
       many = λ q. rw (with-checks j (lent 8 ws c)) (omega arith);
@@ -119,32 +141,17 @@ module _ (ws : List ℕ) (size : length ws ≡ 4096) (machine : (i : ℕ) → ge
   }
 
   -- or it is put behind them.
-  pub added-one : at < 120 → found ≡ false → (after : List ℕ) → CheckAt 8 2 ws before after c at → Added ws c before at after (at + 1)
+  pub added-one : at < 120 → found 8 ws c before at ≡ false → (after : List ℕ) → CheckAt 8 2 ws before after c at → Added ws c before at after (at + 1)
   added-one l f after C = record {
     added = λ j e H.
         let s : ℕ → Bool = lent 8 ws c in
         let number : at + 1 ≡ withCheck j s .checks = rw (with-checks j s) (omega arith) in
-        rw (join-new 128 j s (sym (earlier j e H) ∙ f)) record {
+        rw (join-new 128 j s (sym (same-row j e H) ∙ f)) record {
           number = λ q. number;
-          held = λ q. record { at = rows-held j e H };
+          held = λ q. rows-next 8 (omega arith) ws size machine c (omega arith) before at j e H after C;
           many = λ q. absurd (omega arith);
         };
   }
-    where
-      rows-held : (j : Joined) → at ≡ j .checks → HasRows 2 8 (j .matrix) at before → (d i : ℕ) → d < at + 1 → i < 2
-          → getD after (d * 2 + i) 0 ≡ wordOf 8 (withCheck j (lent 8 ws c) .matrix) (d * 8 + i)
-      rows-held j e H d i k m =
-          elim (ℕ-discrete d at) [
-            | yes q ↦
-                let t : withCheck j (lent 8 ws c) .matrix at ≡ lent 8 ws c = rw e (with-last j (lent 8 ws c)) in
-                rw q (C .copied i m ∙ word-is i (omega arith)
-                ∙ row-same 8 (lent 8 ws) (withCheck j (lent 8 ws c) .matrix) c at i (omega arith) (λ b n. ap (λ (r : ℕ → Bool). r (i * 64 + b)) (sym t)))
-            | no q ↦
-                let d<at : d < at = omega arith in
-                let t = with-other j (lent 8 ws c) d (λ r. q (r ∙ sym e)) in
-                C .kept (d * 2 + i) (omega arith) ∙ H .at d i d<at m
-                ∙ row-same 8 (j .matrix) (withCheck j (lent 8 ws c) .matrix) d d i (omega arith) (λ b n. ap (λ (r : ℕ → Bool). r (i * 64 + b)) (sym t))
-          ]
 
 -- the checks of the second up to the next
 pub joined-next : (n : ℕ) (h : Matrix) (m : ℕ) (g : Matrix) (c : ℕ) → joined n h m g (c + 1) ≡ joinCheck n (joined n h m g c) (g c)

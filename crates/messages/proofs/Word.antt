@@ -38,14 +38,14 @@ pub record Left (p : ℕ → Bool) (i c rest : ℕ) : Type 0 where
   pub gone : (j : ℕ) → j < 64 → i * 64 + j < c → bitOf rest j ≡ false
   pub here : (j : ℕ) → j < 64 → c ≤ i * 64 + j → bitOf rest j ≡ p (i * 64 + j)
 
--- all ones of word i of row r
-pub left-all : (ws : List ℕ) (r i : ℕ) → i < 8 → getD ws (r * 8 + i) 0 < 2 ^ 64 → Left (lent 8 ws r) i (i * 64) (getD ws (r * 8 + i) 0)
-left-all ws r i k f = record {
+-- all ones of word i of row r, which has W words
+pub left-all : (W : ℕ) (ws : List ℕ) (r i : ℕ) → i < W → getD ws (r * W + i) 0 < 2 ^ 64 → Left (lent W ws r) i (i * 64) (getD ws (r * W + i) 0)
+left-all W ws r i k f = record {
   fits = f;
   low = omega arith;
   top = omega arith;
   gone = λ j l m. absurd (omega arith);
-  here = λ j l m. sym (lent-word 8 ws r i j k l);
+  here = λ j l m. sym (lent-word W ws r i j k l);
 }
 
 module _ (p : ℕ → Bool) (i c rest : ℕ) (S : Left p i c rest) where

@@ -7,7 +7,7 @@ use lib.Bits.{bitAnd, bitXor}
 use lib.ListN.{getD}
 use Prim.Native.Nat.{_*_}
 use Rattle.enumeration.specs.Search.{loneWord, Among, completing}
-use Rattle.enumeration.proofs.Lone.{lone-decided, none-first, none-not-first}
+use Rattle.enumeration.proofs.Lone.{lone-decided, completing-is, none-first, none-not-first}
 use Rattle.enumeration.proofs.completes.Statement.{statement}
 use Rattle.enumeration.proofs.completes.Tie as tie
 use Rattle.enumeration.proofs.completes.Reads as reads
@@ -39,7 +39,7 @@ returns : tie.Need-returns
 returns c =
     let f = c .before in
     let s = f .before .before .before .before in
-    sym (none-not-first (s .args .cols .now) (s .args .once .now) (s .args .some .now) (s .args .d) (λ i. omega (arith, f .before .shared-slice-known3 .given i)) (λ i. omega (arith, f .before .before .before .shared-slice-known .given i)) (λ i. omega (arith, f .before .before .shared-slice-known2 .given i)) (s .args .used) (s .pre .3) (s .pre .4) (λ z. c .if1 .taken (first f ∙ z)))
+    sym (completing-is _ _ _ (s .args .used * 64) (s .args .d) ∙ none-not-first 8 (s .args .cols .now) (s .args .once .now) (s .args .some .now) (s .args .d) (λ i. omega (arith, f .before .shared-slice-known3 .given i)) (λ i. omega (arith, f .before .before .before .shared-slice-known .given i)) (λ i. omega (arith, f .before .before .shared-slice-known2 .given i)) (s .args .used) (s .pre .3) (s .pre .4) (λ z. c .if1 .taken (first f ∙ z)))
 
 -- no check of the first word
 first-word : (c : lts.Else1 (completes-further-reads.Asked, completes-further-reads.Learnt) reads.Pre reads.Post)
@@ -47,7 +47,7 @@ first-word : (c : lts.Else1 (completes-further-reads.Asked, completes-further-re
 first-word c =
     let f = c .before in
     let s = f .before .before .before .before in
-    none-first (s .args .cols .now) (s .args .once .now) (s .args .some .now) (s .args .d) (λ i. omega (arith, f .before .shared-slice-known3 .given i)) (λ i. omega (arith, f .before .before .before .shared-slice-known .given i)) (sym (first f) ∙ c .if1 .left)
+    completing-is _ _ _ 64 (s .args .d) ∙ none-first 8 (s .args .cols .now) (s .args .once .now) (s .args .some .now) (s .args .d) (λ i. omega (arith, f .before .shared-slice-known3 .given i)) (λ i. omega (arith, f .before .before .before .shared-slice-known .given i)) (omega arith) (sym (first f) ∙ c .if1 .left)
 
 completes-further-requires : tie.Need-completes-further-requires
 completes-further-requires c κs = let P = c .before .before .before .before .before .before .pre in ((P .0, P .1, P .2, omega arith, omega arith, P .5), first-word (c .before))

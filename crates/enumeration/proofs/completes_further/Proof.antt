@@ -1,16 +1,15 @@
 -- `completes_further` meets its contract. Assumes nothing.
 use mathlib.Core.Path.{_≡_, sym, _∙_}
-use mathlib.Core.Bool.{true, not}
+use mathlib.Core.Bool.{true}
 use Prim.Native.Nat.{_*_, _-_, _≤_}
 use native.Mathlib.Omega.{arith}
 use borrow.Author.Needs.{needs}
-use Rattle.parity.specs.Finite.{all}
-use Rattle.enumeration.proofs.Lone.{isLone, none-more, none-not, completing-is}
+use Rattle.enumeration.proofs.Lone.{noLone, none-more, none-not, completing-is}
 use Rattle.enumeration.proofs.completes_further.Statement.{statement}
 use Rattle.enumeration.proofs.completes_further.Tie as tie
 
 abbrev Inv-loop : tie.InvT-loop
-Inv-loop cols once some used d i₀ i = (1 ≤ i) × (i ≤ used) × (all (i * 64) (λ c. not (isLone cols once some d c)) ≡ true)
+Inv-loop cols once some used d i₀ i = (1 ≤ i) × (i ≤ used) × (noLone 8 cols once some (i * 64) d ≡ true)
 
 abbrev μ-loop : tie.MeasureT-loop
 μ-loop cols once some used d i₀ i = used - i
@@ -49,7 +48,7 @@ returns : tie.Need-returns Inv-loop μ-loop
 returns c =
     let s = c .before .before .before .before .before .before .before .before .before .before in
     let l = c .before .before .before .before .before .before .loop in
-    sym (none-not (s .args .cols .now) (s .args .once .now) (s .args .some .now) (s .args .d) (λ i. omega (arith, c .before .before .before .before .before .before .before .shared-slice-known3 .given i)) (λ i. omega (arith, c .before .before .before .before .before .before .before .before .before .shared-slice-known .given i)) (λ i. omega (arith, c .before .before .before .before .before .before .before .before .shared-slice-known2 .given i)) (l .i) (s .args .used) (omega arith) (omega arith) (λ e. c .if1 .taken (c .before .lone-word .ensures ∙ e)))
+    sym (completing-is _ _ _ (s .args .used * 64) (s .args .d) ∙ none-not 8 (s .args .cols .now) (s .args .once .now) (s .args .some .now) (s .args .d) (λ i. omega (arith, c .before .before .before .before .before .before .before .shared-slice-known3 .given i)) (λ i. omega (arith, c .before .before .before .before .before .before .before .before .before .shared-slice-known .given i)) (λ i. omega (arith, c .before .before .before .before .before .before .before .before .shared-slice-known2 .given i)) (l .i) (s .args .used) (omega arith) (omega arith) (λ e. c .if1 .taken (c .before .lone-word .ensures ∙ e)))
 
 add-i : tie.Need-add-i Inv-loop μ-loop
 add-i c = omega arith
@@ -61,7 +60,7 @@ loop-again : tie.Need-loop-again Inv-loop μ-loop
 loop-again c =
     let s = c .before .before .before .before .before .before .before .before .before .before in
     let l = c .before .before .before .before .before .before .loop in
-    (omega arith, omega arith, none-more (s .args .cols .now) (s .args .once .now) (s .args .some .now) (s .args .d) (λ i. omega (arith, c .before .before .before .before .before .before .before .shared-slice-known3 .given i)) (λ i. omega (arith, c .before .before .before .before .before .before .before .before .before .shared-slice-known .given i)) (l .i) (omega arith) (sym (c .before .lone-word .ensures) ∙ c .if1 .left) (l .inv .2))
+    (omega arith, omega arith, none-more 8 (s .args .cols .now) (s .args .once .now) (s .args .some .now) (s .args .d) (λ i. omega (arith, c .before .before .before .before .before .before .before .shared-slice-known3 .given i)) (λ i. omega (arith, c .before .before .before .before .before .before .before .before .before .shared-slice-known .given i)) (l .i) (omega arith) (sym (c .before .lone-word .ensures) ∙ c .if1 .left) (l .inv .2))
 
 returns-2 : tie.Need-returns-2 Inv-loop μ-loop
 returns-2 c =

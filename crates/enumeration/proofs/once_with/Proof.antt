@@ -10,7 +10,7 @@ use Rattle.enumeration.proofs.once_with.Statement.{statement}
 use Rattle.enumeration.proofs.once_with.Tie as tie
 
 abbrev Inv-loop : tie.InvT-loop
-Inv-loop cols once some d all₀ i₀ all i = (i ≤ 8) × Filled 8 (loneAt cols once some d) i all
+Inv-loop cols once some d all₀ i₀ all i = (i ≤ 8) × Filled 8 (loneAt 8 cols once some d) i all
 
 abbrev μ-loop : tie.MeasureT-loop
 μ-loop cols once some d all₀ i₀ all i = 8 - i

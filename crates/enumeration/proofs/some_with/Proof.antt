@@ -9,7 +9,7 @@ use Rattle.enumeration.proofs.some_with.Statement.{statement}
 use Rattle.enumeration.proofs.some_with.Tie as tie
 
 abbrev Inv-loop : tie.InvT-loop
-Inv-loop cols some d all₀ i₀ all i = (i ≤ 8) × Filled 8 (someAt cols some d) i all
+Inv-loop cols some d all₀ i₀ all i = (i ≤ 8) × Filled 8 (someAt 8 cols some d) i all
 
 abbrev μ-loop : tie.MeasureT-loop
 μ-loop cols some d all₀ i₀ all i = 8 - i

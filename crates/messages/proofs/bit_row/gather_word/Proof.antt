@@ -36,7 +36,7 @@ shared-slice-read-rest c = omega arith
 loop-holds : tie.Need-loop-holds Inv-loop μ-loop
 loop-holds c =
     let s = c .before .before .before .before .before .before .before in
-    (s .args .i * 64, left-all (s .args .cols .now) (s .args .b) (s .args .i) (s .pre .0 .2) (c .shared-slice-known4 .given _ .fits), s .pre .1 .1)
+    (s .args .i * 64, left-all 8 (s .args .cols .now) (s .args .b) (s .args .i) (s .pre .0 .2) (c .shared-slice-known4 .given _ .fits), s .pre .1 .1)
 
 mul-c : tie.Need-mul-c Inv-loop μ-loop
 mul-c c = omega arith

@@ -40,7 +40,7 @@ shared-slice-read-rest c = omega arith
 loop-holds : tie.Need-loop-holds Inv-loop μ-loop
 loop-holds c =
     let s = c .before .before .before .before .before .before .before in
-    (s .args .i * 64, left-all (s .args .cols .now) (s .args .b) (s .args .i) (s .pre .0 .2) (c .shared-slice-known5 .given _ .fits), s .pre .1 .1 .1, spread-none _ _ _ _ _ _ _)
+    (s .args .i * 64, left-all 8 (s .args .cols .now) (s .args .b) (s .args .i) (s .pre .0 .2) (c .shared-slice-known5 .given _ .fits), s .pre .1 .1 .1, spread-none _ _ _ _ _ _ _)
 
 mul-p : tie.Need-mul-p Inv-loop μ-loop
 mul-p c = omega arith

@@ -38,7 +38,7 @@ shared-slice-read-rest c = omega arith
 loop-holds : tie.Need-loop-holds Inv-loop μ-loop
 loop-holds c =
     let s = c .before .before .before .before .before .before in
-    (s .args .i * 64, left-all (s .args .words .now) (s .args .c) (s .args .i) (s .pre .0 .2) (c .shared-slice-known4 .given _ .fits), s .pre .1 .1 .0, s .pre .1 .1 .1)
+    (s .args .i * 64, left-all 8 (s .args .words .now) (s .args .c) (s .args .i) (s .pre .0 .2) (c .shared-slice-known4 .given _ .fits), s .pre .1 .1 .0, s .pre .1 .1 .1)
 
 mul-b : tie.Need-mul-b Inv-loop μ-loop
 mul-b c = omega arith

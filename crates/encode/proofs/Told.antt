@@ -2,7 +2,7 @@
 use mathlib.Core.Path.{_≡_, refl, sym, ap, _∙_}
 use mathlib.Core.Bool.{Bool, true, false, not, false≢true}
 use mathlib.Core.List.{List, [], _∷_}
-use Prim.Native.Nat.{ℕ, _+_, _-_, _%_, _≤_, _<_}
+use Prim.Native.Nat.{ℕ, _+_, _*_, _-_, _%_, _≤_, _<_}
 use native.Mathlib.Omega.{arith}
 use native.Mathlib.Decide.{decLt}
 use lib.Dec.{eqb}
@@ -37,20 +37,21 @@ use Rattle.encode.proofs.Pivots as pivots
 use Rattle.encode.proofs.Filling.{is-listFrom}
 
 -- a copy has the codewords of the lent matrix
-copy-same : (ws w u : List ℕ) (n m : ℕ) → n ≤ 120 → SameRows 8 2 ws w u 0 m → Same (lent 8 ws) (lent 2 u) n m
+copy-same : (U W : ℕ) → W ≤ U → (ws w u : List ℕ) (n m : ℕ) → n ≤ W * 64 → SameRows U W ws w u 0 m → Same (lent U ws) (lent W u) n m
 unfolding evenChecks inside
-copy-same ws w u n m k C x = all-cong m (λ c l. ap (λ a. eqb (a % 2) 0)
-    (count-cong n (λ b i. rw (rows-lent 8 2 (omega arith) ws w u m C c b l (omega arith)))))
+copy-same U W p ws w u n m k C x = all-cong m (λ c l. ap (λ a. eqb (a % 2) 0)
+    (count-cong n (λ b i. rw (rows-lent U W p ws w u m C c b l (omega arith)))))
 
-pub eliminated : (ws w u : List ℕ) (g : Matrix) (n m r : ℕ) (at : List ℕ) → n ≤ 120 → SameRows 8 2 ws w u 0 m → Echelon (lent 2 u) g n m n r at → Echelon (lent 8 ws) g n m n r at
-eliminated ws w u g n m r at k C E =
-    let S = copy-same ws w u n m k C in
+pub eliminated : (U W : ℕ) → W ≤ U → (ws w u : List ℕ) (g : Matrix) (n m r : ℕ) (at : List ℕ) → n ≤ W * 64 → SameRows U W ws w u 0 m
+    → Echelon (lent W u) g n m n r at → Echelon (lent U ws) g n m n r at
+eliminated U W p ws w u g n m r at k C E =
+    let S = copy-same U W p ws w u n m k C in
     record {
-      same = same-trans (lent 8 ws) (lent 2 u) g n m S (E .same);
+      same = same-trans (lent U ws) (lent W u) g n m S (E .same);
       own = E .own;
       first = E .first;
       whole = E .whole;
-      reduction = record { same = same-trans (lent 8 ws) (lent 2 u) (E .whole) n m S (E .reduction .same); form = E .reduction .form };
+      reduction = record { same = same-trans (lent U ws) (lent W u) (E .whole) n m S (E .reduction .same); form = E .reduction .form };
       rest = E .rest;
     }
 

@@ -15,7 +15,7 @@ use Rattle.parity.specs.Matrix.{Matrix, lent}
 use Rattle.parity.specs.Sound.{Clean}
 use Rattle.parity.proofs.Matrix.Digits.{bit-and}
 use Rattle.parity.proofs.Matrix.Lent.{lent-in, lent-out}
-use Rattle.rows.specs.Rows.{Column}
+use Rattle.rows.specs.Rows.{ColumnIn}
 use Rattle.exchange.specs.Merge.{Apart, Both, Meeting, Kept}
 
 -- the words below i are the and of both, and the others are left
@@ -64,11 +64,11 @@ module _ (h : Matrix) (m M z u v : ℕ) (K : Clean h z M) (A : Apart h m M u v) 
       go true a b = refl
       go false a b = refl
 
-  pub meeting-columns : (ws a b : List ℕ) → h ≡ lent 8 ws → M ≤ 512 → Column ws m u a → Column ws m v b → Meeting h u v (lent 8 a 0) (lent 8 b 0)
-  meeting-columns ws a b e k P Q = record {
-    at = λ c. elim (decLt c 512) [
-      | yes l ↦ rw (P .at c l, Q .at c l, ← e) (twice c)
-      | no l ↦ rw (lent-out 8 a 0 c (omega arith), K .checks c u (omega arith))
+  pub meeting-columns : (W : ℕ) (a b : List ℕ) → M ≤ W * 64 → ColumnIn W h m u a → ColumnIn W h m v b → Meeting h u v (lent W a 0) (lent W b 0)
+  meeting-columns W a b k P Q = record {
+    at = λ c. elim (decLt c (W * 64)) [
+      | yes l ↦ rw (P .at c l, Q .at c l) (twice c)
+      | no l ↦ rw (lent-out W a 0 c (omega arith), K .checks c u (omega arith))
     ];
   }
 

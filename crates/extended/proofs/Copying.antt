@@ -2,7 +2,8 @@
 use mathlib.Core.Path.{_≡_, refl, sym, ap, _∙_}
 use mathlib.Core.Bool.{true, false}
 use mathlib.Core.List.{List, [], _∷_, _++_}
-use Prim.Native.Nat.{ℕ, _+_, _-_, _*_, _/_, _%_, _≤_}
+use Prim.Native.Nat.{ℕ, _+_, _-_, _*_, _/_, _%_, _≤_, _<_}
+use native.Mathlib.Nat.{div-add-mod', div-lt-iff-lt-mul, mod-lt}
 use native.Mathlib.Omega.{arith}
 use native.Mathlib.Decide.{ℕ-discrete, decLt}
 use lib.Dec.{eqb}
@@ -27,11 +28,11 @@ use Rattle.elimination.specs.Rows.{SameRows}
 use Rattle.extended.specs.Answers.{Longer, inAll, copyReply, copyWord}
 
 -- all rows are copied
-pub same-words : (ws before after : List ℕ) → length ws ≡ 4096 → length after ≡ 4096 → SameRows 8 8 ws before after 0 512 → after ≡ ws
-same-words ws before after l q S =
+pub same-words : (W : ℕ) → 0 < W → (ws before after : List ℕ) → length ws ≡ 512 * W → length after ≡ 512 * W → SameRows W W ws before after 0 512 → after ≡ ws
+same-words W p ws before after l q S =
     ext-getD 0 after ws (q ∙ sym l) (λ i j.
-    let e : i / 8 * 8 + i % 8 ≡ i = omega arith in
-    ap (λ (a : ℕ). getD after a 0) (sym e) ∙ S .copied (i / 8) (i % 8) (omega arith) (omega arith) (omega arith) ∙ ap (λ (a : ℕ). getD ws a 0) e)
+    let e : i / W * W + i % W ≡ i = div-add-mod' i W in
+    ap (λ (a : ℕ). getD after a 0) (sym e) ∙ S .copied (i / W) (i % W) (omega arith) (div-lt-iff-lt-mul p .1 (omega arith)) (mod-lt i p) ∙ ap (λ (a : ℕ). getD ws a 0) e)
 
 -- Four numbers as two.
 pub refused-in-all : (r : Refusal) (reply : Reply) → refusalOf r ≡ reply → refusalOf r ≡ inAll reply

@@ -138,8 +138,8 @@ bits-in f n m source from c (suc j) d low g ws q h l e =
       rest = rw (add-suc from j) r;
     }
 
--- c checks are filled, and reading came to place p
-pub record Filling (m : ℕ) (source : List ℕ) (p c : ℕ) (ws : List ℕ) : Type 0 where
+-- c checks are filled in h, and reading came to place p
+pub record Filling (m : ℕ) (source : List ℕ) (p c : ℕ) (h : Matrix) : Type 0 where
   pub few : payload (getD source 0 0) % 256 ≤ 120
   pub checks : m ≤ 120
   pub behind : List ℕ
@@ -147,10 +147,10 @@ pub record Filling (m : ℕ) (source : List ℕ) (p c : ℕ) (ws : List ℕ) : T
   pub matrix : Matrix
   pub reads : readingAt (formOf (getD source 0 0)) (payload (getD source 0 0) % 256) m source 1 0 0 0 none ≡ checked behind place matrix
   pub low : ℕ
-  pub rest : readingAt (formOf (getD source 0 0)) (payload (getD source 0 0) % 256) m source p c 0 low (lent 8 ws) ≡ checked behind place matrix
+  pub rest : readingAt (formOf (getD source 0 0)) (payload (getD source 0 0) % 256) m source p c 0 low h ≡ checked behind place matrix
 
-pub filling-none : (m : ℕ) (source ws : List ℕ) → Checks m source → Zeroed ws (length ws) → Filling m source 1 0 ws
-filling-none m source ws C Z =
+pub filling-none : (m : ℕ) (source : List ℕ) (h : Matrix) → Checks m source → h ≡ none → Filling m source 1 0 h
+filling-none m source h C z =
     let R = C .right in
     let e : readingAt (formOf (getD source 0 0)) (payload (getD source 0 0) % 256) m source 1 0 0 0 none ≡ checked (drop (C .place) source) (C .place) (R .matrix) =
     rw (R .form, R .bits) (R .reads) in
@@ -162,10 +162,10 @@ filling-none m source ws C Z =
       matrix = R .matrix;
       reads = e;
       low = 0;
-      rest = rw (zeroed-none 8 ws Z) e;
+      rest = rw z e;
     }
 
-module _ (m : ℕ) (source : List ℕ) (p c : ℕ) (ws : List ℕ) (F : Filling m source p c ws) (l : c < m) where
+module _ (m : ℕ) (source : List ℕ) (p c : ℕ) (h : Matrix) (F : Filling m source p c h) (l : c < m) where
   abbrev f : Form
   f = formOf (getD source 0 0)
 
@@ -173,23 +173,23 @@ module _ (m : ℕ) (source : List ℕ) (p c : ℕ) (ws : List ℕ) (F : Filling 
   n = payload (getD source 0 0) % 256
 
   pub filling-more : p < length source
-  filling-more = right-more f n m source p c (F .low) (lent 8 ws) (F .behind) (F .place) (F .matrix) l (F .rest)
+  filling-more = right-more f n m source p c (F .low) h (F .behind) (F .place) (F .matrix) l (F .rest)
 
   opened : openWord f n c (getD source p 0) ≡ true
-  opened = right-open f n m source p c (F .low) (lent 8 ws) (F .behind) (F .place) (F .matrix) l (F .rest)
+  opened = right-open f n m source p c (F .low) h (F .behind) (F .place) (F .matrix) l (F .rest)
 
   pub filling-count : payload (getD source p 0) % 256 ≤ 120
   filling-count = omega (arith, opens f n c (getD source p 0) opened .2, F .few)
 
-  all-in : BitsIn f n m source (p + 1) (suc c) (payload (getD source p 0) % 256) 0 (lent 8 ws) (F .behind) (F .place) (F .matrix)
+  all-in : BitsIn f n m source (p + 1) (suc c) (payload (getD source p 0) % 256) 0 h (F .behind) (F .place) (F .matrix)
   all-in =
-      bits-in f n m source (p + 1) (suc c) (payload (getD source p 0) % 256) 0 0 (lent 8 ws) (F .behind) (F .place) (F .matrix) (omega (arith, filling-more))
-      (rw (add-zero (payload (getD source p 0) % 256), add-one p) (sym (read-open f n m source p c (F .low) (lent 8 ws) filling-more l opened) ∙ F .rest))
+      bits-in f n m source (p + 1) (suc c) (payload (getD source p 0) % 256) 0 0 h (F .behind) (F .place) (F .matrix) (omega (arith, filling-more))
+      (rw (add-zero (payload (getD source p 0) % 256), add-one p) (sym (read-open f n m source p c (F .low) h filling-more l opened) ∙ F .rest))
 
   pub filling-payloads : Payloads source (p + 1) (payload (getD source p 0) % 256) 128
   filling-payloads = record { inside = omega (arith, all-in .inside); below = λ j k. omega (arith, all-in .below j k, F .few); rising = all-in .rising }
 
-  pub filling-next : (new : List ℕ) → lent 8 new ≡ puts source c (p + 1) (payload (getD source p 0) % 256) (lent 8 ws)
+  pub filling-next : (new : Matrix) → new ≡ puts source c (p + 1) (payload (getD source p 0) % 256) h
       → Filling m source (p + 1 + payload (getD source p 0) % 256) (c + 1) new
   filling-next new s = record {
     few = F .few;
@@ -202,7 +202,7 @@ module _ (m : ℕ) (source : List ℕ) (p c : ℕ) (ws : List ℕ) (F : Filling 
     rest = let t : suc c - 1 ≡ c = omega arith in rw (s, add-one c) (rw t at (all-in .rest));
   }
 
-pub filling-end : (m : ℕ) (source : List ℕ) (p : ℕ) (ws : List ℕ) → Filling m source p m ws → Filled m source ws
+pub filling-end : (m : ℕ) (source : List ℕ) (p : ℕ) (ws : List ℕ) → Filling m source p m (lent 8 ws) → Filled m source ws
 filling-end m source p ws F =
     let e : lent 8 ws ≡ F .matrix =
     right-done (formOf (getD source 0 0)) (payload (getD source 0 0) % 256) m source p m (F .low) (lent 8 ws) (F .behind) (F .place) (F .matrix) (omega arith) (F .rest) in

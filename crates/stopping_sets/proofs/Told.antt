@@ -17,6 +17,7 @@ use Rattle.parity.specs.StoppingSets.{isIn, setsFrom, flat, stoppingSets, risin
 use Rattle.parity.specs.Calls.{wrongSize}
 use Rattle.parity.proofs.Finite.Sums.{all-at, all-of, count-cong, sum-zero}
 use Rattle.parity.proofs.Finite.Bools.{same-test}
+use Rattle.parity.proofs.Splits.Common.{transposed}
 use Rattle.parity.proofs.Words.Sets.{inside-below}
 use Rattle.parity.proofs.Words.StoppingSets.{rising-out, sets-are, keep-cong}
 use Rattle.parity.proofs.Words.SetsListed.{found, found-places}
@@ -31,22 +32,22 @@ inside-as-far h N n c s k e =
       | no l ↦ rw (le-ltb b n (omega arith)) (rising-out 0 n b s e (omega arith))
     ])
 
-module _ (ws cols : List ℕ) (n N M top : ℕ) (C : ColumnsOf 2 M (lent 8 ws) (lent 8 cols)) (nN : n ≤ N) (few : n ≤ 120) (Mt : M ≤ top) (s : List ℕ) (e : rising 0 n s ≡ true) where
-  same-below : (c : ℕ) → c < M → inside (across cols) n c (isIn s) ≡ inside (lent 8 ws) n c (isIn s)
+module _ (h g : Matrix) (n N M top : ℕ) (C : ColumnsOf 2 M h g) (nN : n ≤ N) (few : n ≤ 120) (Mt : M ≤ top) (s : List ℕ) (e : rising 0 n s ≡ true) where
+  same-below : (c : ℕ) → c < M → inside (transposed g) n c (isIn s) ≡ inside h n c (isIn s)
   unfolding inside
-  same-below c k = count-cong n {p = λ b. lent 8 cols b c && isIn s b} {q = λ b. lent 8 ws c b && isIn s b} (λ b l. rw (C .at b c, lt-ltb c M k, lt-ltb (b / 64) 2 (omega arith)))
+  same-below c k = count-cong n {p = λ b. g b c && isIn s b} {q = λ b. h c b && isIn s b} (λ b l. rw (C .at b c, lt-ltb c M k, lt-ltb (b / 64) 2 (omega arith)))
 
-  same-inside : (c : ℕ) → c < M → inside (across cols) 128 c (isIn s) ≡ inside (lent 8 ws) N c (isIn s)
+  same-inside : (c : ℕ) → c < M → inside (transposed g) 128 c (isIn s) ≡ inside h N c (isIn s)
   same-inside c k =
-      inside-as-far (across cols) 128 n c s (omega arith) e
+      inside-as-far (transposed g) 128 n c s (omega arith) e
       ∙ same-below c k
-      ∙ sym (inside-as-far (lent 8 ws) N n c s nN e)
+      ∙ sym (inside-as-far h N n c s nN e)
 
-  none-inside : (c : ℕ) → M ≤ c → inside (across cols) 128 c (isIn s) ≡ 0
+  none-inside : (c : ℕ) → M ≤ c → inside (transposed g) 128 c (isIn s) ≡ 0
   unfolding inside count
-  none-inside c k = sum-zero 128 {f = λ b. one (lent 8 cols b c && isIn s b)} (λ b l. rw (C .at b c, le-ltb c M k))
+  none-inside c k = sum-zero 128 {f = λ b. one (g b c && isIn s b)} (λ b l. rw (C .at b c, le-ltb c M k))
 
-  same-stopping : stopping (across cols) 128 top (isIn s) ≡ stopping (lent 8 ws) N M (isIn s)
+  same-stopping : stopping (transposed g) 128 top (isIn s) ≡ stopping h N M (isIn s)
   unfolding stopping
   same-stopping = same-test _ _
       (λ p. all-of M _ (λ c k. rw (← same-inside c k) (all-at top _ p c (omega arith))))
@@ -62,18 +63,18 @@ found-count ws n m k t l =
     (digits-div (length (found ws n m k t)) (omega arith))
 
 -- The stopping sets of t sent bits, of the columns and of the matrix.
-same-sets : (ws cols : List ℕ) (n N M top t : ℕ) → ColumnsOf 2 M (lent 8 ws) (lent 8 cols) → n ≤ N → n ≤ 120 → M ≤ top
-    → stoppingSets (across cols) n 128 top t ≡ stoppingSets (lent 8 ws) n N M t
+same-sets : (h g : Matrix) (n N M top t : ℕ) → ColumnsOf 2 M h g → n ≤ N → n ≤ 120 → M ≤ top
+    → stoppingSets (transposed g) n 128 top t ≡ stoppingSets h n N M t
 unfolding stoppingSets
-same-sets ws cols n N M top t C k l m =
+same-sets h g n N M top t C k l m =
     let z : 0 + n ≡ n = omega arith in
-    keep-cong (λ s. stopping (across cols) 128 top (isIn s)) (λ s. stopping (lent 8 ws) N M (isIn s)) (setsFrom n t 0)
-    (λ s i. same-stopping ws cols n N M top C k l m s (rw z at (sets-are n t 0 s i .0)))
+    keep-cong (λ s. stopping (transposed g) 128 top (isIn s)) (λ s. stopping h N M (isIn s)) (setsFrom n t 0)
+    (λ s i. same-stopping h g n N M top C k l m s (rw z at (sets-are n t 0 s i .0)))
 
 pub put-found : (ws cols : List ℕ) (n m k used t : ℕ) (w : Bool) (old new : List ℕ) (r : ℕ) → ColumnsOf 2 (m + k) (lent 8 ws) (lent 8 cols) → n ≤ 120 → m + k ≤ used * 64
     → Put w old new 0 (flat (stoppingSets (across cols) n 128 (used * 64) t)) r → Put w old new 0 (flat (found ws n m k t)) r
 put-found ws cols n m k used t w old new r C few top P =
-    rw (same-sets ws cols n (n + k) (m + k) (used * 64) t C (omega arith) few top) at P
+    rw (same-sets (lent 8 ws) (lent 8 cols) n (n + k) (m + k) (used * 64) t C (omega arith) few top) at P
 
 pub place-is : (w : Bool) (old new ws : List ℕ) (r : ℕ) → Put w old new 0 ws r → r ≡ length ws
 place-is w old new ws r P = omega (arith, P .place)

@@ -1,4 +1,5 @@
 -- `eliminate` meets its contract. Assumes nothing.
+use native.Mathlib.Omega.{arith}
 use Rattle.encode.proofs.Told.{eliminated}
 use borrow.Author.Needs.{needs}
 use Rattle.encode.proofs.eliminate.Statement.{statement}
@@ -20,7 +21,7 @@ returns : tie.Need-returns
 returns c =
     let e = c .before .before .before .before in
     let p = e .before .before .before .before .before in
-    eliminated _ _ _ _ _ _ _ _ (p .before .before .before .before .before .pre .1) (p .copy .ensures) (e .to-echelon .ensures)
+    eliminated 8 2 (omega arith) _ _ _ _ _ _ _ _ (omega (arith, p .before .before .before .before .before .pre .1)) (p .copy .ensures) (e .to-echelon .ensures)
 
 pub eliminate-spec : {M : Type 1} → statement M
 eliminate-spec =

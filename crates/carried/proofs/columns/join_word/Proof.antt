@@ -72,7 +72,7 @@ same-length c = search needs
 returns : tie.Need-returns
 returns c =
     let s = c .before .before .before .before .before .before in
-    join-word (s .args .cols .now) (s .args .u .0) (s .args .v .0) (s .args .z .0) (s .args .i) (s .pre .0) (s .pre .1) (s .pre .2) (s .pre .3) (s .pre .4)
+    join-word 2 (s .args .cols .now) (s .args .u .0) (s .args .v .0) (s .args .z .0) (s .args .i) (s .pre .0) (s .pre .1) (s .pre .2) (s .pre .3) (s .pre .4)
 
 pub join-word-spec : {M : Type 1} → statement M
 join-word-spec =

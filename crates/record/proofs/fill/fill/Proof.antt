@@ -4,12 +4,13 @@ use Prim.Native.Nat.{_-_, _≤_}
 use native.Mathlib.Omega.{arith}
 use borrow.Author.Needs.{needs}
 use lib.ListN.{length}
-use Rattle.record.proofs.Filling.{Filling, filling-none, filling-more, filling-count, filling-payloads, filling-next, filling-end}
+use Rattle.parity.specs.Matrix.{lent}
+use Rattle.record.proofs.Filling.{zeroed-none, Filling, filling-none, filling-more, filling-count, filling-payloads, filling-next, filling-end}
 use Rattle.record.proofs.fill.fill.Statement.{statement}
 use Rattle.record.proofs.fill.fill.Tie as tie
 
 abbrev Inv-loop : tie.InvT-loop
-Inv-loop source words₀ m p₀ c₀ words p c = (c ≤ m) × (length words ≡ 4096) × Filling m source p c words
+Inv-loop source words₀ m p₀ c₀ words p c = (c ≤ m) × (length words ≡ 4096) × Filling m source p c (lent 8 words)
 
 abbrev μ-loop : tie.MeasureT-loop
 μ-loop source words₀ m p₀ c₀ words p c = m - c
@@ -21,7 +22,7 @@ loop-holds : tie.Need-loop-holds Inv-loop μ-loop
 loop-holds c =
     let s = c .before .before .before .before .before .before in
     let e = c .before .before .clear .kept .0 in
-    (omega arith, e ∙ s .pre .0, filling-none _ _ _ (s .pre .1) (rw (e, s .pre .0) (c .before .before .clear .ensures)))
+    (omega arith, e ∙ s .pre .0, filling-none _ _ _ (s .pre .1) (zeroed-none 8 _ (rw (e, s .pre .0) (c .before .before .clear .ensures))))
 
 mul-payload : tie.Need-mul-payload Inv-loop μ-loop
 mul-payload c = let k = filling-more _ _ _ _ _ (c .before .loop .inv .2) (omega arith) in omega arith

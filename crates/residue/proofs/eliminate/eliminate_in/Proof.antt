@@ -44,7 +44,7 @@ returns c =
     let d = e .before .before .before .before .before .before in
     let g = d .before .before .before .before .before in
     let s = g .before .before .before .before .before .before .before .before .before in
-    rows-none (s .args .words .now) (s .args .residue .now) (s .args .known .now) (s .args .bits) (s .args .checks) (s .args .width) (s .pre .0 .1) (s .pre .0 .7) (s .pre .0 .8) (s .pre .1 .0) (s .pre .1 .1) _ _ _ _ _ (g .gather .ensures) (d .reduce-in .ensures)
+    rows-none (s .args .words .now) (s .args .residue .now) (s .args .known .now) (s .args .bits) (s .args .checks) 8 (s .args .width) (s .pre .0 .1) (s .pre .0 .7) (omega (arith, s .pre .0 .7)) (s .pre .0 .8) (s .pre .1 .0) (s .pre .1 .1) _ _ _ _ _ (g .gather .ensures) (d .reduce-in .ensures)
     (rw (not-true (e .even-from .result) (c .if1 .taken)) at (e .even-from .ensures)) (s .args .left .now) (s .args .values .now) (s .pre .0 .5)
 
 write-pivots-requires : tie.Need-write-pivots-requires
@@ -61,7 +61,7 @@ write-pivots-requires c κs =
       s .pre .0 .4,
       ap length (s .pre .0 .5) ∙ s .pre .0 .3,
       ap length (s .pre .0 .6) ∙ s .pre .0 .4,
-      rows-low (s .args .words .now) (s .args .residue .now) (s .args .known .now) (s .args .bits) (s .args .checks) (s .args .width) (s .pre .0 .1) (s .pre .0 .7) (s .pre .0 .8) (s .pre .1 .0) (s .pre .1 .1) _ _ _ _ _ (g .gather .ensures) (d .reduce-in .ensures),
+      rows-low (s .args .words .now) (s .args .residue .now) (s .args .known .now) (s .args .bits) (s .args .checks) 8 (s .args .width) (s .pre .0 .1) (s .pre .0 .7) (omega (arith, s .pre .0 .7)) (s .pre .0 .8) (s .pre .1 .0) (s .pre .1 .1) _ _ _ _ _ (g .gather .ensures) (d .reduce-in .ensures),
     )
 
 same-length-3 : tie.Need-same-length-3
@@ -84,7 +84,7 @@ returns-2 c =
     let d = e .before .before .before .before .before .before in
     let g = d .before .before .before .before .before in
     let s = g .before .before .before .before .before .before .before .before .before in
-    rows-some (s .args .words .now) (s .args .residue .now) (s .args .known .now) (s .args .bits) (s .args .checks) (s .args .width) (s .pre .0 .1) (s .pre .0 .7) (s .pre .0 .8) (s .pre .1 .0) (s .pre .1 .1) _ _ _ _ _ (g .gather .ensures) (d .reduce-in .ensures)
+    rows-some (s .args .words .now) (s .args .residue .now) (s .args .known .now) (s .args .bits) (s .args .checks) 8 (s .args .width) (s .pre .0 .1) (s .pre .0 .7) (omega (arith, s .pre .0 .7)) (s .pre .0 .8) (s .pre .1 .0) (s .pre .1 .1) _ _ _ _ _ (g .gather .ensures) (d .reduce-in .ensures)
     (rw (not-false (e .even-from .result) (i .if1 .left)) at (e .even-from .ensures)) (s .args .left .now) (s .args .values .now) (s .pre .0 .5) (s .pre .0 .6) _ _ (p .write-pivots .ensures)
 
 pub eliminate-in-spec : {M : Type 1} → statement M

@@ -323,6 +323,34 @@ uint32_t parity_determine(const uint64_t *words, size_t words_len,
                           uint8_t *word, size_t word_len,
                           uint64_t *values, size_t values_len);
 
+/* Packets: the link loses packets, and each bit of the code is a packet of L words,
+ * where L is odd_len. Packet b is packets[b*L] to packets[b*L+L-1]. Lane i, for
+ * i < 64 L, is bit i mod 64 of word i div 64 of every packet: a word of n+k bits of
+ * its own, erased where its packet is lost. One call is a call of parity_determine
+ * for each lane: a lane in which that would answer holds its bits afterwards, and a
+ * lane in which it would be refused 12 is left as it was and flagged. Which packets
+ * are recovered depends on the losses alone; with L = 0 the call only tells this.
+ *
+ * words: read.
+ * lost: n+k bytes, 1 where the packet is lost and 0 elsewhere. An answer leaves 1
+ *   where some codeword that is zero in every packet that arrived has a one: such
+ *   packets are left as they were.
+ * packets: (n+k)*L words. An answer writes the packets that are lost no more, in the
+ *   lanes that are not flagged.
+ * odd: L words, whatever they hold. An answer sets bit i mod 64 of word i div 64 where
+ *   lane i is flagged, and clears the others.
+ * Values of the answer, 5: the recovered sent packets, the recovered added packets,
+ *   the sent packets left, the added packets left; the flagged lanes.
+ * Refusals: 1, 2, 3, 4; 10 where lost or packets has another length, or L is above
+ *   2^57; 11 with the place in `lost` of a byte above 1.
+ */
+uint32_t parity_mend_packets(const uint64_t *words, size_t words_len,
+                             size_t n, size_t m, size_t k,
+                             uint8_t *lost, size_t lost_len,
+                             uint64_t *packets, size_t packets_len,
+                             uint64_t *odd, size_t odd_len,
+                             uint64_t *values, size_t values_len);
+
 /* One door for sample blocks: mends a received word with a matrix with k = 0, and
  * leaves it as parity_determine does. In up to three stages: (1) it peels; if sent
  * bits remain, (2) it orthogonalises a copy of its own and peels the received word

@@ -85,6 +85,15 @@ extern "C" {
         values: *mut u64, values_len: usize,
     ) -> u32;
 
+    pub fn parity_mend_packets(
+        words: *const u64, words_len: usize,
+        n: usize, m: usize, k: usize,
+        lost: *mut u8, lost_len: usize,
+        packets: *mut u64, packets_len: usize,
+        odd: *mut u64, odd_len: usize,
+        values: *mut u64, values_len: usize,
+    ) -> u32;
+
     pub fn parity_mend_block(
         words: *const u64, words_len: usize,
         n: usize, m: usize, k: usize,

@@ -236,6 +236,17 @@ pub struct Determined {
     pub left_added: usize,
 }
 
+/// The answer of [`mend_packets`]: how many sent and how many added packets were recovered, how many of each are left, and how
+/// many lanes no codeword agrees with.
+#[derive(Clone, Copy, PartialEq, Eq, Debug)]
+pub struct MendedPackets {
+    pub recovered_sent: usize,
+    pub recovered_added: usize,
+    pub left_sent: usize,
+    pub left_added: usize,
+    pub odd_lanes: u64,
+}
+
 /// The answer of [`mend_block`]: the last stage to run (1 peeling, 2 peeling with the orthogonalised copy, 3 elimination), and
 /// how many bits the two peelings recovered together.
 #[derive(Clone, Copy, PartialEq, Eq, Debug)]
@@ -511,6 +522,45 @@ pub fn determine(words: &[u64], n: usize, m: usize, k: usize, word: &mut [u8]) -
         recovered_added: v[1] as usize,
         left_sent: v[2] as usize,
         left_added: v[3] as usize,
+    })
+}
+
+/// Recovers lost packets: bit b of the code is packet b, of as many words as `odd` has, and bit i of all packets is lane i, a word
+/// of its own. Does in every lane what [`determine`] does, and flags in `odd` the lanes in which that is refused with
+/// [`Refusal::Contradiction`], which stay as they were. `lost` has a byte for each packet, 1 where it is lost, before and after.
+pub fn mend_packets(
+    words: &[u64],
+    n: usize,
+    m: usize,
+    k: usize,
+    lost: &mut [u8],
+    packets: &mut [u64],
+    odd: &mut [u64],
+) -> Result<MendedPackets, Refusal> {
+    let mut values: Values = [0; VALUES_MOST];
+    let number = unsafe {
+        ffi::parity_mend_packets(
+            words.as_ptr(),
+            words.len(),
+            n,
+            m,
+            k,
+            lost.as_mut_ptr(),
+            lost.len(),
+            packets.as_mut_ptr(),
+            packets.len(),
+            odd.as_mut_ptr(),
+            odd.len(),
+            values.as_mut_ptr(),
+            values.len(),
+        )
+    };
+    reply(number, values).map(|v| MendedPackets {
+        recovered_sent: v[0] as usize,
+        recovered_added: v[1] as usize,
+        left_sent: v[2] as usize,
+        left_added: v[3] as usize,
+        odd_lanes: v[4],
     })
 }
 

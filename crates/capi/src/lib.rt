@@ -2,6 +2,7 @@
 // that it carries at the front of `values`, as far as it reaches.
 use parity::Bit;
 ghost use mathlib.Core.Path.{_≡_};
+ghost use Rattle.parity.specs.Packets.{packetsOutcome};
 ghost use Rattle.parity.specs.Calls.{loadOutcome, writeOutcome, shareReply, countReply, splitOutcome, takeBackOutcome, orthogonaliseOutcome, verifyReply, extendOutcome, isStoppingReply, peelOutcome, rankReply, encodeOutcome, houseOutcome, determineOutcome, stoppingSetsOutcome, joinOutcome};
 ghost use Rattle.parity.specs.Block.{blockOutcome};
 ghost use Rattle.parity.specs.SoftCall.{minSumOutcome};
@@ -211,6 +212,28 @@ pub extern "C" fn parity_determine(
 {
     let determining = determine::determine(words, n, m, k, word);
     let numbered = reply::determining(determining);
+    reply::pass(numbered, values)
+}
+
+// Carries how many sent packets and how many added packets were recovered, how many of each are left, and how many lanes no codeword agrees with.
+#[no_mangle]
+pub extern "C" fn parity_mend_packets(
+    words: &[u64],
+    n: usize,
+    m: usize,
+    k: usize,
+    lost: &mut [u8],
+    packets: &mut [u64],
+    odd: &mut [u64],
+    values: &mut [u64],
+) -> u32
+    ensures { λ r. ⌜ Passed (packetsOutcome (now (words .entry)) n m k (now (lost .entry)) (now (packets .entry)) (now (odd .entry)) .reply) (now (values .entry)) (now (values .exit)) r ⌝ }
+    ensures { λ r. ⌜ now (lost .exit) ≡ packetsOutcome (now (words .entry)) n m k (now (lost .entry)) (now (packets .entry)) (now (odd .entry)) .lost ⌝ }
+    ensures { λ r. ⌜ now (packets .exit) ≡ packetsOutcome (now (words .entry)) n m k (now (lost .entry)) (now (packets .entry)) (now (odd .entry)) .packets ⌝ }
+    ensures { λ r. ⌜ now (odd .exit) ≡ packetsOutcome (now (words .entry)) n m k (now (lost .entry)) (now (packets .entry)) (now (odd .entry)) .odd ⌝ }
+{
+    let mending = packets::mend_packets(words, n, m, k, lost, packets, odd);
+    let numbered = reply::mending_packets(mending);
     reply::pass(numbered, values)
 }
 

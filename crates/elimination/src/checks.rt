@@ -20,7 +20,7 @@ pub fn row_of(rows: &[u64], width: usize, c: usize) -> [u64; 16]
 }
 
 // Row `q` of `row` is added to check `c`, modulo 2.
-fn add_row(rows: &mut [u64], width: usize, c: usize, row: &[u64], q: usize)
+pub fn add_row(rows: &mut [u64], width: usize, c: usize, row: &[u64], q: usize)
     requires { ⌜ (c * width + width ≤ length (now rows)) × (q * width + width ≤ length (now row)) ⌝ }
     ensures { λ _. ⌜ lent width (now (rows .exit)) ≡ plus c (lent width (now (row .entry)) q) (lent width (now (rows .entry))) ⌝ }
 {

@@ -13,3 +13,4 @@ pub mod Determining
 pub mod Solving
 pub mod StoppingSets
 pub mod SetsListed
+pub mod Packets

@@ -21,3 +21,5 @@ pub mod SoftCall
 pub mod SoftRange
 pub mod Promises
 pub mod Mend
+pub mod Packets
+pub mod MessageBits

@@ -9,6 +9,7 @@ use house::Copying;
 use join::Joining;
 use min_sum::Decoding;
 use min_sum_range::Ranging;
+use packets::MendingPackets;
 use parity::Holders;
 use parity::Refusal;
 use peel::Peeling;
@@ -37,6 +38,7 @@ ghost use Rattle.encode.specs.Answers.{rankingReply, encodingReply};
 ghost use Rattle.house.specs.Answers.{copyingReply};
 ghost use Rattle.stopping_sets.specs.Answers.{listingReply};
 ghost use Rattle.block.specs.Answers.{mendingReply};
+ghost use Rattle.packets.specs.Answers.{mendingPacketsReply};
 ghost use Rattle.join.specs.Answers.{joiningReply};
 ghost use Rattle.min_sum.specs.Answers.{decodingReply};
 ghost use Rattle.min_sum_range.specs.Answers.{rangingOutcome};
@@ -262,6 +264,22 @@ pub fn determining(answer: Determining) -> Numbered
             left_added,
         } => Numbered::Four(0, sent, added, left_sent, left_added),
         Determining::Refused(why) => refused(why),
+    }
+}
+
+// What mending packets answers.
+pub fn mending_packets(answer: MendingPackets) -> Numbered
+    ensures { λ r. ⌜ numberedReply r ≡ mendingPacketsReply answer ⌝ }
+{
+    match answer {
+        MendingPackets::Made {
+            recovered_sent: sent,
+            recovered_added: added,
+            left_sent,
+            left_added,
+            odd_lanes,
+        } => Numbered::Five(0, sent, added, left_sent, left_added, odd_lanes),
+        MendingPackets::Refused(why) => refused(why),
     }
 }
 

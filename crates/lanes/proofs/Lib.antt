@@ -1,0 +1,7 @@
+pub mod Parity
+pub mod Adding
+pub mod Putting
+pub mod Running
+pub mod Writing
+pub mod Storing
+pub mod Mending

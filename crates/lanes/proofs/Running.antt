@@ -1,0 +1,74 @@
+-- Steps in all lanes at once, and tests. Assumes nothing.
+use mathlib.Core.Path.{_≡_, refl, sym, ap, _∙_, fun-ext}
+use mathlib.Core.Bool.{Bool, true, false, not, _&&_, _||_, or-false, and-false}
+use mathlib.Core.List.{List}
+use Prim.Native.Nat.{ℕ, zero, suc, _+_, _≤_, _<_}
+use native.Mathlib.Numerals.{add-one}
+use native.Mathlib.Omega.{arith}
+use native.Mathlib.Decide.{ℕ-discrete}
+use lib.Dec.{leb}
+use lib.ListN.{getD}
+use borrow.Author.Tests.{eq-eqb, ne-eqb, le-leb, lt-leb}
+use Rattle.parity.specs.Finite.{any}
+use Rattle.parity.specs.Matrix.{Matrix}
+use Rattle.parity.specs.Words.{inside, odd}
+use Rattle.parity.proofs.Finite.Firsts.{any-none}
+use Rattle.lanes.specs.Lanes.{lane, either, solvedBy, ran, Ran, uneven, Tested, SumOf, Low}
+use Rattle.lanes.proofs.Putting.{either-at, either-else}
+
+pub ran-none : (h : Matrix) (B : ℕ) (of at : List ℕ) (x : Matrix) → Ran h B of at 0 x x
+unfolding ran
+ran-none h B of at x = record { each = λ j b. refl }
+
+pub ran-next : (h : Matrix) (B : ℕ) (of at : List ℕ) (s : ℕ) (x y z : Matrix) (r : ℕ → Bool) → Ran h B of at s x y → SumOf h B (getD of s 0) y r
+    → z ≡ either (getD at s 0) r y → Ran h B of at (s + 1) x z
+unfolding ran solvedBy
+ran-next h B of at s x y z r R S e = rw (add-one s) record {
+  each = λ j b. ap (λ (g : Matrix). g b j) e ∙ step j b;
+}
+  where
+    lanes : (j : ℕ) → lane y j ≡ ran h B of at s (lane x j)
+    lanes j = fun-ext (R .each j)
+
+    step : (j b : ℕ) → either (getD at s 0) r y b j ≡ ran h B of at (suc s) (lane x j) b
+    step j b = elim (ℕ-discrete b (getD at s 0)) [
+      | yes q ↦ rw (q, eq-eqb (getD at s 0) (getD at s 0) refl) (either-at (getD at s 0) r y j ∙ rw (S .at j, lanes j, R .each j (getD at s 0)))
+      | no d ↦ rw (ne-eqb b (getD at s 0) d, or-false) (either-else (getD at s 0) r y b j d ∙ R .each j b)
+    ]
+
+-- bits that no step solves stay
+pub ran-other : (h : Matrix) (B : ℕ) (of at : List ℕ) (s n : ℕ) (o : ℕ → Bool) → Low s n at → (b : ℕ) → n ≤ b → ran h B of at s o b ≡ o b
+unfolding ran solvedBy
+ran-other h B of at zero n o L b k = refl
+ran-other h B of at (suc s) n o L b k =
+    rw (ne-eqb b (getD at s 0) (λ q. omega (arith, L .low s (omega arith))), or-false) (ran-other h B of at s n o record { low = λ i l. L .low i (omega arith) } b k)
+
+-- tests
+pub tested-none : (h : Matrix) (B first : ℕ) (skip : ℕ → Bool) (x : Matrix) (f : ℕ → Bool) → Tested h B first first skip x f f
+unfolding uneven
+tested-none h B first skip x f = record { at = λ j. sym (rw (any-none first (λ c. leb first c && (not (skip c) && odd (inside h B c (lane x j)))) (λ c l. rw (above c l))) (or-false (f j))) }
+  where
+    above : (c : ℕ) → c < first → leb first c ≡ false
+    above c l = lt-leb first c l
+
+pub tested-next : (h : Matrix) (B first c : ℕ) (skip : ℕ → Bool) (x : Matrix) (f g g′ r : ℕ → Bool) → first ≤ c → Tested h B first c skip x f g → skip c ≡ false
+    → SumOf h B c x r → ((j : ℕ) → g′ j ≡ (g j || r j)) → Tested h B first (c + 1) skip x f g′
+unfolding uneven any
+tested-next h B first c skip x f g g′ r k T q S e = rw (add-one c) record { at = λ j. e j ∙ rw (T .at j, S .at j) (go j) }
+  where
+    or-assoc : (p q r : Bool) → ((p || q) || r) ≡ (p || (q || r))
+    or-assoc true q r = refl
+    or-assoc false q r = refl
+
+    go : (j : ℕ) → ((f j || uneven h B first c skip (lane x j)) || odd (inside h B c (lane x j))) ≡ (f j || uneven h B first (suc c) skip (lane x j))
+    go j = rw (q, le-leb first c k) (or-assoc (f j) _ _)
+
+pub tested-skip : (h : Matrix) (B first c : ℕ) (skip : ℕ → Bool) (x : Matrix) (f g : ℕ → Bool) → Tested h B first c skip x f g → skip c ≡ true → Tested h B first (c + 1) skip x f g
+unfolding uneven any
+tested-skip h B first c skip x f g T q = rw (add-one c) record { at = λ j. T .at j ∙ go j }
+  where
+    go : (j : ℕ) → (f j || uneven h B first c skip (lane x j)) ≡ (f j || uneven h B first (suc c) skip (lane x j))
+    go j = rw (q, and-false, or-false)
+
+pub either-row : (r : ℕ → Bool) (y z : Matrix) → z ≡ either 0 r y → (j : ℕ) → z 0 j ≡ (y 0 j || r j)
+either-row r y z e j = ap (λ (g : Matrix). g 0 j) e ∙ either-at 0 r y j

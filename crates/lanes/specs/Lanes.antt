@@ -1,0 +1,85 @@
+-- Rows of lanes: bit j of row b is bit b of lane j. Steps that are taken in all lanes at once, in the checks of a matrix h of B bits. Assumes nothing.
+use mathlib.Core.Path.{_≡_}
+use mathlib.Core.Bool.{Bool, false, not, cond, _&&_, _||_, xor}
+use mathlib.Core.List.{List}
+use Prim.Native.Nat.{ℕ, zero, suc, _+_, _*_, _<_}
+use lib.Dec.{eqb, leb}
+use lib.ListN.{getD}
+use Rattle.parity.specs.Finite.{count, any}
+use Rattle.parity.specs.Matrix.{Matrix, bitOf}
+use Rattle.parity.specs.Words.{inside, odd}
+
+-- lane j of the rows x, as the set of its ones
+abbrev pub lane : Matrix → ℕ → ℕ → Bool
+lane x j b = x b j
+
+-- To the lanes a are added the rows of x at the ones of w, word i of a check.
+pub record WordAdded (x : Matrix) (i w : ℕ) (a a′ : ℕ → Bool) : Type 0 where
+  pub at : (j : ℕ) → a′ j ≡ xor (a j) (odd (count 64 (λ t. bitOf w t && x (i * 64 + t) j)))
+
+-- s has, in each lane, the sum modulo 2 of the bits that check c contains
+pub record SumOf (h : Matrix) (B c : ℕ) (x : Matrix) (s : ℕ → Bool) : Type 0 where
+  pub at : (j : ℕ) → s j ≡ odd (inside h B c (lane x j))
+
+-- row c with the bits of a row besides
+unfoldable pub either : ℕ → (ℕ → Bool) → Matrix → Matrix
+either c row x b j = cond (eqb b c) (x b j || row j) (x b j)
+
+-- Bit b of the set o is solved by check c: it enters if the check contains an odd number of the set's bits.
+unfoldable pub solvedBy : Matrix → ℕ → ℕ → ℕ → (ℕ → Bool) → ℕ → Bool
+solvedBy h B c b o a = o a || (eqb a b && odd (inside h B c o))
+
+-- the set after s steps: step i solves bit `at i` by check `of i`, as the two lists have them
+unfoldable pub ran : Matrix → ℕ → List ℕ → List ℕ → ℕ → (ℕ → Bool) → ℕ → Bool
+ran h B of at zero o = o
+ran h B of at (suc s) o = solvedBy h B (getD of s 0) (getD at s 0) (ran h B of at s o)
+
+-- the same in every lane
+pub record Ran (h : Matrix) (B : ℕ) (of at : List ℕ) (s : ℕ) (x x′ : Matrix) : Type 0 where
+  pub each : (j b : ℕ) → x′ b j ≡ ran h B of at s (lane x j) b
+
+-- Some check from `first` up to `end` that is not skipped contains an odd number of the set's bits.
+unfoldable pub uneven : Matrix → ℕ → ℕ → ℕ → (ℕ → Bool) → (ℕ → Bool) → Bool
+uneven h B first end skip o = any end (λ c. leb first c && (not (skip c) && odd (inside h B c o)))
+
+-- the lanes where this is so are flagged besides
+pub record Tested (h : Matrix) (B first end : ℕ) (skip : ℕ → Bool) (x : Matrix) (f f′ : ℕ → Bool) : Type 0 where
+  pub at : (j : ℕ) → f′ j ≡ (f j || uneven h B first end skip (lane x j))
+
+-- the first s numbers of a list are below n
+pub record Low (s n : ℕ) (at : List ℕ) : Type 0 where
+  pub low : (i : ℕ) → i < s → getD at i 0 < n
+
+-- The lists of a plan: s steps by checks of h and t steps by rows of k, of B bits. Checks of h below M that are not skipped are tested between, and so are
+-- the rows of k from r up to L, none of which is skipped.
+pub record Lists : Type 0 where
+  pub of : List ℕ
+  pub at : List ℕ
+  pub s : ℕ
+  pub skip : ℕ → Bool
+  pub none : ℕ → Bool
+  pub r : ℕ
+  pub L : ℕ
+  pub rows : List ℕ
+  pub bits : List ℕ
+  pub t : ℕ
+
+-- the ones of a lane after the first steps, and after all
+unfoldable pub peeling : Matrix → ℕ → Lists → (ℕ → Bool) → ℕ → Bool
+peeling h B p o = ran h B (p .of) (p .at) (p .s) o
+
+unfoldable pub mending : Matrix → Matrix → ℕ → Lists → (ℕ → Bool) → ℕ → Bool
+mending h k B p o = ran k B (p .rows) (p .bits) (p .t) (peeling h B p o)
+
+-- whether a check or a row that is tested is odd in the lane
+unfoldable pub contradicted : Matrix → Matrix → ℕ → ℕ → Lists → (ℕ → Bool) → Bool
+contradicted h k B M p o = uneven h B 0 M (p .skip) (peeling h B p o) || uneven k B (p .r) (p .L) (p .none) (peeling h B p o)
+
+-- as the machine has them; no row is skipped
+abbrev pub listsOf : List ℕ → List ℕ → ℕ → (ℕ → Bool) → ℕ → ℕ → List ℕ → List ℕ → ℕ → Lists
+listsOf of at s skip r L rows bits t = record { of = of; at = at; s = s; skip = skip; none = λ c. false; r = r; L = L; rows = rows; bits = bits; t = t }
+
+-- the plan carried out in every lane of the rows x, where lanes are flagged
+pub record Mends (h k : Matrix) (B M : ℕ) (p : Lists) (x x′ : Matrix) (f f′ : ℕ → Bool) : Type 0 where
+  pub each : (j b : ℕ) → x′ b j ≡ mending h k B p (lane x j) b
+  pub flags : (j : ℕ) → f′ j ≡ (f j || contradicted h k B M p (lane x j))

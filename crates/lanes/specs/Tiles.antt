@@ -1,0 +1,93 @@
+-- Tiles: some words of every packet, from a word on, that are brought into rows, mended and put back. A packet has len words; lane i of the packets is
+-- lane i - 64 from of the tile. Assumes nothing.
+use mathlib.Core.Path.{_≡_}
+use mathlib.Core.Bool.{Bool, false, not, cond, _&&_}
+use Prim.Native.Nat.{ℕ, _+_, _*_, _≤_, _<_}
+use Rattle.parity.specs.Matrix.{Matrix}
+use mathlib.Core.List.{List}
+use lib.ListN.{length}
+use Rattle.lanes.specs.Lanes.{Lists, listsOf, mending, contradicted, Low}
+use Rattle.lanes.specs.declared.mend.Plan.{Plan}
+
+-- the ones of lane i of the packets x that arrived, those that are not lost
+unfoldable pub arrived : Matrix → (ℕ → Bool) → ℕ → ℕ → Bool
+arrived x lost i b = not (lost b) && x b i
+
+-- Row b has the first count words of packet b's part, and the other rows are as they were.
+pub record Taken (x : Matrix) (from count b : ℕ) (t t′ : Matrix) : Type 0 where
+  pub here : (j : ℕ) → j < count * 64 → t′ b j ≡ x b (from * 64 + j)
+  pub else : (a j : ℕ) → (a ≡ b → ⊥) → t′ a j ≡ t a j
+
+-- row b is empty
+pub record Blanked (b : ℕ) (t t′ : Matrix) : Type 0 where
+  pub here : (j : ℕ) → t′ b j ≡ false
+  pub else : (a j : ℕ) → (a ≡ b → ⊥) → t′ a j ≡ t a j
+
+-- the first n rows have what arrived
+pub record Loaded (x : Matrix) (lost : ℕ → Bool) (from count n : ℕ) (t t′ : Matrix) : Type 0 where
+  pub here : (b j : ℕ) → b < n → j < count * 64 → t′ b j ≡ arrived x lost (from * 64 + j) b
+  pub else : (b j : ℕ) → n ≤ b → t′ b j ≡ t b j
+
+-- The part of packet b becomes row b of the tile, in the lanes that are not flagged.
+pub record Returned (from count b : ℕ) (t : Matrix) (f : ℕ → Bool) (x x′ : Matrix) : Type 0 where
+  pub here : (j : ℕ) → j < count * 64 → x′ b (from * 64 + j) ≡ cond (f j) (x b (from * 64 + j)) (t b j)
+  pub before : (i : ℕ) → i < from * 64 → x′ b i ≡ x b i
+  pub behind : (i : ℕ) → (from + count) * 64 ≤ i → x′ b i ≡ x b i
+  pub else : (a i : ℕ) → (a ≡ b → ⊥) → x′ a i ≡ x a i
+
+-- and so do the parts of the first n packets that were lost and are not left
+pub record Stored (lost left : ℕ → Bool) (from count n : ℕ) (t : Matrix) (f : ℕ → Bool) (x x′ : Matrix) : Type 0 where
+  pub here : (b j : ℕ) → b < n → j < count * 64 → x′ b (from * 64 + j) ≡ cond (lost b && (not (left b) && not (f j))) (t b j) (x b (from * 64 + j))
+  pub before : (b i : ℕ) → i < from * 64 → x′ b i ≡ x b i
+  pub behind : (b i : ℕ) → (from + count) * 64 ≤ i → x′ b i ≡ x b i
+  pub else : (b i : ℕ) → n ≤ b → x′ b i ≡ x b i
+
+-- the flags of the tile's lanes are put among those of all lanes
+pub record Flagged (from count : ℕ) (f : ℕ → Bool) (y y′ : ℕ → Bool) : Type 0 where
+  pub here : (j : ℕ) → j < count * 64 → y′ (from * 64 + j) ≡ f j
+  pub before : (i : ℕ) → i < from * 64 → y′ i ≡ y i
+
+-- The lanes below `to` are mended, of the first n packets: a packet that was lost and is not left has, in each lane that is not contradicted, the bit that the plan
+-- gives; the contradicted lanes are flagged. The lanes from `to` on are as they were.
+pub record Mended (h k : Matrix) (B M : ℕ) (p : Lists) (lost left : ℕ → Bool) (n to : ℕ) (x x′ : Matrix) (y′ : ℕ → Bool) : Type 0 where
+  pub bits : (b i : ℕ) → b < n → i < to → x′ b i ≡ cond (lost b && (not (left b) && not (contradicted h k B M p (arrived x lost i)))) (mending h k B p (arrived x lost i) b) (x b i)
+  pub flags : (i : ℕ) → i < to → y′ i ≡ contradicted h k B M p (arrived x lost i)
+  pub later : (b i : ℕ) → to ≤ i → x′ b i ≡ x b i
+
+-- the rows from n on are empty
+pub record Empty (n : ℕ) (t : Matrix) : Type 0 where
+  pub none : (b j : ℕ) → n ≤ b → t b j ≡ false
+
+-- the lists name checks below M and rows below L, and bits below n
+pub record Ready (n M : ℕ) (p : Lists) : Type 0 where
+  pub checks : Low (p .s) M (p .of)
+  pub bits : Low (p .s) n (p .at)
+  pub rows : Low (p .t) (p .L) (p .rows)
+  pub places : Low (p .t) n (p .bits)
+  pub first : p .r ≤ p .L
+
+-- The lanes of a tile are mended, and its flags put; the lanes before and behind it are as they were.
+pub record TileMended (h k : Matrix) (B M : ℕ) (p : Lists) (lost left : ℕ → Bool) (n from count : ℕ) (x x′ : Matrix) (y y′ : ℕ → Bool) : Type 0 where
+  pub bits : (b j : ℕ) → b < n → j < count * 64
+      → x′ b (from * 64 + j) ≡ cond (lost b && (not (left b) && not (contradicted h k B M p (arrived x lost (from * 64 + j))))) (mending h k B p (arrived x lost (from * 64 + j)) b) (x b (from * 64 + j))
+  pub flags : (j : ℕ) → j < count * 64 → y′ (from * 64 + j) ≡ contradicted h k B M p (arrived x lost (from * 64 + j))
+  pub before : (b i : ℕ) → i < from * 64 → x′ b i ≡ x b i
+  pub behind : (b i : ℕ) → (from + count) * 64 ≤ i → x′ b i ≡ x b i
+  pub flagged : (i : ℕ) → i < from * 64 → y′ i ≡ y i
+
+-- the lists of a plan, from its numbers and the machine's lists
+abbrev pub planLists : Plan → (ℕ → Bool) → List ℕ → List ℕ → List ℕ → List ℕ → Lists
+planLists p skip of at by into = listsOf of at (p .steps) skip (p .first) (p .end) by into (p .more)
+
+-- the lists that a plan names have room for it
+pub record Fitting (p : Plan) (ws ss of at rs by into : List ℕ) : Type 0 where
+  pub words : length ws ≡ 4096
+  pub used : p .used ≤ 8
+  pub checks : p .checks ≤ 512
+  pub skip : length ss ≡ 8
+  pub checks-of : p .steps ≤ length of
+  pub bits-at : p .steps ≤ length at
+  pub rows : p .end * p .used ≤ length rs
+  pub end : p .end ≤ 512
+  pub rows-by : p .more ≤ length by
+  pub bits-into : p .more ≤ length into

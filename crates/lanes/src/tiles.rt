@@ -1,0 +1,117 @@
+// Tiles: a few words of every packet are brought into rows side by side, and put back.
+use rows::contains;
+ghost use mathlib.Core.Path.{_≡_};
+ghost use Prim.Native.Nat.{_+_, _*_, _≤_};
+ghost use lib.ListN.{length};
+ghost use Rattle.parity.specs.Matrix.{lent};
+ghost use Rattle.lanes.specs.Tiles.{Taken, Blanked, Loaded, Returned, Stored, Flagged};
+
+// The `count` words of packet `b` from `from` on become the first of row `b`.
+fn take_row(
+    packets: &[u64],
+    len: usize,
+    from: usize,
+    count: usize,
+    b: usize,
+    tile: &mut [u64],
+    lanes: usize,
+)
+    requires { ⌜ (b * len + len ≤ length (now packets)) × (from + count ≤ len) × (count ≤ lanes) × (b * lanes + lanes ≤ length (now tile)) ⌝ }
+    ensures { λ _. ⌜ Taken (lent len (now (packets .entry))) from count b (lent lanes (now (tile .entry))) (lent lanes (now (tile .exit))) ⌝ }
+{
+    let first = b * len + from;
+    let row = b * lanes;
+    for i in 0..count {
+        tile[row + i] = packets[first + i];
+    }
+}
+
+// Row `b` becomes empty.
+fn blank_row(b: usize, tile: &mut [u64], lanes: usize)
+    requires { ⌜ b * lanes + lanes ≤ length (now tile) ⌝ }
+    ensures { λ _. ⌜ Blanked b (lent lanes (now (tile .entry))) (lent lanes (now (tile .exit))) ⌝ }
+{
+    let row = b * lanes;
+    for i in 0..lanes {
+        tile[row + i] = 0;
+    }
+}
+
+// The words of the first `bits` packets from `from` on become rows; a packet that is lost has an empty row.
+pub fn load(
+    packets: &[u64],
+    len: usize,
+    bits: usize,
+    lost: &[u64],
+    from: usize,
+    count: usize,
+    tile: &mut [u64],
+    lanes: usize,
+)
+    requires { ⌜ (bits * len ≤ length (now packets)) × (bits ≤ 512) × (length (now lost) ≡ 8) × (from + count ≤ len) × (count ≤ lanes) × (bits * lanes ≤ length (now tile)) ⌝ }
+    ensures { λ _. ⌜ Loaded (lent len (now (packets .entry))) (lent 8 (now (lost .entry)) 0) from count bits (lent lanes (now (tile .entry))) (lent lanes (now (tile .exit))) ⌝ }
+{
+    for b in 0..bits {
+        if contains(lost, 8, 0, b) {
+            blank_row(b, tile, lanes);
+        } else {
+            take_row(packets, len, from, count, b, tile, lanes);
+        }
+    }
+}
+
+// Row `b` is put back into its packet, in the lanes that are not flagged.
+fn return_row(
+    packets: &mut [u64],
+    len: usize,
+    from: usize,
+    count: usize,
+    b: usize,
+    tile: &[u64],
+    lanes: usize,
+    flags: &[u64],
+)
+    requires { ⌜ (b * len + len ≤ length (now packets)) × (from + count ≤ len) × (count ≤ lanes) × (b * lanes + lanes ≤ length (now tile)) × (lanes ≤ length (now flags)) ⌝ }
+    ensures { λ _. ⌜ Returned from count b (lent lanes (now (tile .entry))) (lent lanes (now (flags .entry)) 0) (lent len (now (packets .entry))) (lent len (now (packets .exit))) ⌝ }
+{
+    let first = b * len + from;
+    let row = b * lanes;
+    for i in 0..count {
+        packets[first + i] = (packets[first + i] & flags[i]) | (tile[row + i] & !flags[i]);
+    }
+}
+
+// The rows of the packets that were lost and are not left are put back, in the lanes that are not flagged.
+pub fn store(
+    packets: &mut [u64],
+    len: usize,
+    bits: usize,
+    lost: &[u64],
+    left: &[u64],
+    from: usize,
+    count: usize,
+    tile: &[u64],
+    lanes: usize,
+    flags: &[u64],
+)
+    requires { ⌜ (bits * len ≤ length (now packets)) × (bits ≤ 512) × (length (now lost) ≡ 8) × (length (now left) ≡ 8) × (from + count ≤ len) × (count ≤ lanes) × (bits * lanes ≤ length (now tile)) × (lanes ≤ length (now flags)) ⌝ }
+    ensures { λ _. ⌜ Stored (lent 8 (now (lost .entry)) 0) (lent 8 (now (left .entry)) 0) from count bits (lent lanes (now (tile .entry))) (lent lanes (now (flags .entry)) 0) (lent len (now (packets .entry))) (lent len (now (packets .exit))) ⌝ }
+{
+    for b in 0..bits {
+        if contains(lost, 8, 0, b) {
+            if !contains(left, 8, 0, b) {
+                return_row(packets, len, from, count, b, tile, lanes, flags);
+            }
+        }
+    }
+}
+
+// The flags of a tile's lanes are put among those of all lanes.
+pub fn put_flags(odd: &mut [u64], from: usize, count: usize, flags: &[u64], lanes: usize)
+    requires { ⌜ (from + count ≤ length (now odd)) × (count ≤ lanes) × (lanes ≤ length (now flags)) ⌝ }
+    ensures { λ _. ⌜ Flagged from count (lent lanes (now (flags .entry)) 0) (lent (length (now (odd .entry))) (now (odd .entry)) 0) (lent (length (now (odd .entry))) (now (odd .exit)) 0) ⌝ }
+{
+    for i in 0..count {
+        odd[from + i] = flags[i];
+    }
+}

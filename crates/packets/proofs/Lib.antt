@@ -1,0 +1,4 @@
+pub mod Setting
+pub mod Ending
+pub mod Readying
+pub mod Refusing

@@ -1,0 +1,3 @@
+pub mod Ordering
+pub mod Aloning
+pub mod Planning

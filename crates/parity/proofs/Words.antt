@@ -1,5 +1,5 @@
 -- Document 01, 'Words, peeling': laws of lists of bytes, verifying, extending, stopping sets, the residue and peeling;
--- and of document 02's determining and small stopping sets. Assumes nothing.
+-- of document 02's determining and small stopping sets; and, ours, of packets. Assumes nothing.
 pub mod Sets
 pub mod Extend
 pub mod Residue
@@ -14,3 +14,4 @@ pub mod Solving
 pub mod StoppingSets
 pub mod SetsListed
 pub mod Packets
+pub mod PacketsMended

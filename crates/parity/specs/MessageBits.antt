@@ -18,7 +18,6 @@ messageBitsReply ws n m k set = accepting ws n m k (refuse (ltb 0 k) (refusal 13
 unfoldable pub messageBitsOutcome : List ℕ → ℕ → ℕ → ℕ → List ℕ → Outcome
 messageBitsOutcome ws n m k set = leaving set (messageBitsReply ws n m k set) (listFrom 0 n (λ b. one (dependent (lent 8 ws) m b)))
 
-
 -- The parity bits are as many as the rank answers.
 abbrev pub RankOfMarks : Type 0
 RankOfMarks = (ws : List ℕ) (n m k : ℕ) (set : List ℕ) → messageBitsOutcome ws n m k set .reply ≡ answer []

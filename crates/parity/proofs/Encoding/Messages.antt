@@ -49,6 +49,10 @@ place-of p (suc n) i k =
       ]
     ]
 
+-- and the number of one that passes is below the count
+pub place-below : (p : ℕ → Bool) (n b : ℕ) → b < n → p b ≡ true → count b p < count n p
+place-below p n b k d = omega (arith, rw d at (count-suc b p), count-mono (suc b) n p k)
+
 module _ (h : Matrix) (n m : ℕ) where
   abbrev D : ℕ → Bool
   D = dependent h m
@@ -80,10 +84,7 @@ module _ (h : Matrix) (n m : ℕ) where
 
   -- a codeword is the encoding of any message that its other bits hold
   pub codeword-of : (x : ℕ → Bool) → Even h n m x → (p : ℕ → Bool) → ((i : ℕ) → i < count n D → p i ≡ messageOf x i) → (b : ℕ) → b < n → x b ≡ encoded h n m p b
-  codeword-of x e p f = encodes h n m p .2 x e (λ b k d. sym (message-at x b k d) ∙ sym (f (count b D) (before b k d)))
-    where
-      before : (b : ℕ) → b < n → D b ≡ true → count b D < count n D
-      before b k d = omega (arith, rw d at (count-suc b D), count-mono (suc b) n D k)
+  codeword-of x e p f = encodes h n m p .2 x e (λ b k d. sym (message-at x b k d) ∙ sym (f (count b D) (place-below D n b k d)))
 
 one-only : (x y : Bool) → one x ≡ one y → x ≡ y
 one-only x y e = sym (eqb-one x) ∙ ap (λ a. eqb a 1) e ∙ eqb-one y
@@ -130,20 +131,22 @@ module _ (ws : List ℕ) (n m : ℕ) (A : Accepted ws n m 0) where
   r = rankOf h n m
 
   -- the bits that are no parity bits
-  others : count n (dependent h m) ≡ n - r
+  pub others : count n (dependent h m) ≡ n - r
   others = omega (arith, lengths h n m (λ b. false))
 
-  -- The rank and the length of a message that is encoded make n.
-  pub message-length : (message held : List ℕ) → encodeReply ws n m 0 message held .number ≡ 0 → r + length message ≡ n
+  -- a message that is encoded, and the word that it is encoded into
+  pub encode-taken : (message held : List ℕ) → encodeReply ws n m 0 message held .number ≡ 0 → Word (n - r) 1 message × (length held ≡ n)
   unfolding encodeReply
-  message-length message held e =
+  encode-taken message held e =
       let f = rw (passes ws n m 0 A _) at e in
       elim (is (eqb (length held) n)) [
         | is-false p ↦ absurd (omega (arith, rw p at f))
-        | is-true p ↦
-            let (W, _) = read-word (n - r) 1 message (answer []) (rw p at f) in
-            omega (arith, W .size, lengths h n m (λ b. false))
+        | is-true p ↦ (read-word (n - r) 1 message (answer []) (rw p at f) .0, eqb-true (length held) n p)
       ]
+
+  -- The rank and the length of a message that is encoded make n.
+  pub message-length : (message held : List ℕ) → encodeReply ws n m 0 message held .number ≡ 0 → r + length message ≡ n
+  message-length message held e = omega (arith, encode-taken message held e .0 .size, lengths h n m (λ b. false))
 
   module _ (message : List ℕ) (W : Word (n - r) 1 message) (held : List ℕ) (l : length held ≡ n) where
     abbrev after : List ℕ

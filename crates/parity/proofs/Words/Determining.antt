@@ -187,7 +187,7 @@ module _ (ws : List ℕ) (n m k : ℕ) (w : List ℕ) where
       },
     )
 
-    again : determineOutcome ws n m k (o .after)
+    pub again : determineOutcome ws n m k (o .after)
         ≡ record { reply = answer (0 ∷ 0 ∷ count n (erased (determined h N M (byteOf w))) ∷ count k (λ j. erased (determined h N M (byteOf w)) (n + j)) ∷ []); after = o .after }
     unfolding determineOutcome determineReply losses recovered
     again =

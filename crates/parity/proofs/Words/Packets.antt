@@ -1,34 +1,34 @@
 -- Mending packets determines every lane. Assumes nothing.
 use mathlib.Core.Path.{_≡_, refl, sym, ap, _∙_}
 use mathlib.Core.Logic.{_↔_}
-use mathlib.Core.Bool.{Bool, true, false, not, cond, _&&_, _||_, xor, and-false, true≢false, false≢true}
-use mathlib.Core.List.{List, [], _∷_, _++_}
+use mathlib.Core.Bool.{Bool, true, false, not, cond, _&&_, xor, and-false}
+use mathlib.Core.List.{List}
 use Prim.Native.Nat.{ℕ, _+_, _*_, _/_, _%_, _^_, _≤_, _<_}
-use native.Mathlib.Nat.{zero-add, one-mul, mod-lt, div-lt-iff-lt-mul}
+use native.Mathlib.Nat.{zero-add, mod-lt, div-lt-iff-lt-mul}
 use native.Mathlib.Omega.{arith}
 use native.Mathlib.Decide.{ℕ-discrete}
 use lib.Arith.{digits-div, digits-mod, digits-lt}
 use lib.Dec.{eqb}
 use lib.ListN.{length, getD}
 use lib.Seq.{ext-getD}
-use borrow.Author.Tests.{eq-eqb, ne-eqb, eqb-true, eqb-false, lt-ltb, not-false, not-true}
+use borrow.Author.Tests.{eq-eqb, ne-eqb, eqb-true, lt-ltb, not-false, not-true}
 use Rattle.parity.specs.Finite.{one, count, listFrom}
-use Rattle.parity.specs.Matrix.{Matrix, lent, wordOf, cause}
+use Rattle.parity.specs.Matrix.{Matrix, lent, wordOf}
 use Rattle.parity.specs.Words.{erased, isOne, inside}
 use Rattle.parity.specs.Determining.{someAgrees, determined}
-use Rattle.parity.specs.Causes.{Reply, Outcome, answer, refusal}
-use Rattle.parity.specs.Calls.{byteOf, wrongByte, wrongLength, determineOutcome}
-use Rattle.parity.specs.Packets.{laneWord, lostWord, laneOutcome, oddLane, mendedBit, stillLost, wordsOf, packetsReply, packetsOutcome, LaneMended, PacketsAsLanes, StillLost}
+use Rattle.parity.specs.Causes.{Outcome}
+use Rattle.parity.specs.Calls.{byteOf}
+use Rattle.parity.specs.Packets.{laneWord, lostWord, laneOutcome, oddLane, mendedBit, stillLost, wordsOf, packetsReply, packetsOutcome, PacketsAsLanes, StillLost}
 use Rattle.parity.specs.Promises.{Agreeing}
-use Rattle.parity.proofs.Finite.Bools.{same-test, or-false-both}
-use Rattle.parity.proofs.Finite.Sums.{is-true, is-false, is, byte-one, eqb-one, eqb-two, one≤1, sum-zero}
+use Rattle.parity.proofs.Finite.Bools.{same-test}
+use Rattle.parity.proofs.Finite.Sums.{is-true, is-false, is, byte-one, sum-zero}
 use Rattle.parity.proofs.Matrix.Digits.{same-bits}
 use Rattle.parity.proofs.Matrix.Packing.{length-listFrom, at-listFrom, word-lt, word-bit, lent-flat}
-use Rattle.parity.proofs.Matrix.Accept.{Accepted, accepts, passes}
+use Rattle.parity.proofs.Matrix.Accept.{Accepted}
 use Rattle.parity.proofs.Causes.Admit.{accepted-number}
 use Rattle.parity.proofs.Words.Residue.{inside-xor}
-use Rattle.parity.proofs.Words.Agreeing.{Agree, some-of, some-at, open-at, stays-open, determined-byte}
-use Rattle.parity.proofs.Words.Bytes.{Word, right-bytes}
+use Rattle.parity.proofs.Words.Agreeing.{Agree, some-of, some-at, open-at, stays-open, written-value, determined-byte}
+use Rattle.parity.proofs.Words.Bytes.{Word}
 use Rattle.parity.proofs.Words.Determining.{Taken, determine-made, determine-refused, answered, after-size, after-at, agreeing-at, agreeing-of, listed, listed-at}
 
 -- reading the words of rows
@@ -60,6 +60,11 @@ module _ (W R : ℕ) (g : Matrix) where
       positive : (i : ℕ) → i < R * W → 0 < W
       positive i k = elim (ℕ-discrete W 0) [ yes q ↦ absurd (omega (arith, rw q at k)) | no d ↦ omega arith ]
 
+-- words that hold the same rows
+pub words-cong : (W R : ℕ) (g h : Matrix) → ((c b : ℕ) → c < R → b < W * 64 → g c b ≡ h c b) → wordsOf W R g ≡ wordsOf W R h
+words-cong W R g h f =
+    words-made W R h (wordsOf W R g) (words-length W R g) (λ i l. rw (words-at W R g i l) (word-lt W g i)) (λ c b k l. lent-words W R g c b k l ∙ f c b k l)
+
 -- Which bits stay open depends on the erased bits alone: w₀ has zeros elsewhere, and some codeword agrees with w.
 module _ (h : Matrix) (N M : ℕ) (w w₀ : ℕ → ℕ) (same : (b : ℕ) → b < N → erased w₀ b ≡ erased w b) (zero : (b : ℕ) → b < N → erased w₀ b ≡ false → isOne w₀ b ≡ false) where
   sum : (ℕ → Bool) → (ℕ → Bool) → ℕ → Bool
@@ -83,6 +88,11 @@ module _ (h : Matrix) (N M : ℕ) (w w₀ : ℕ → ℕ) (same : (b : ℕ) → b
 
   pub zeros-agree : someAgrees h N M w₀ ≡ true
   zeros-agree = some-of h N M w₀ none agree-none
+
+  -- of what agrees, a bit that does not stay open is 0
+  pub zero-or-open : (b : ℕ) → b < N → (determined h N M w₀ b ≡ 2 → ⊥) → determined h N M w₀ b ≡ 0
+  unfolding none
+  zero-or-open b l d = written-value h N M w₀ b l none agree-none d
 
   -- a bit at which one that agrees has a one stays open
   pub open-of : (b : ℕ) → b < N → (y : ℕ → Bool) → Agree h N M w₀ y → y b ≡ true → determined h N M w₀ b ≡ 2
@@ -136,6 +146,15 @@ module _ (N L : ℕ) (lost packets : List ℕ) (i : ℕ) where
   pub lane-at : (b : ℕ) → b < N → byteOf (laneWord N L lost packets i) b ≡ cond (eqb (byteOf lost b) 1) 2 (one (lent L packets b i))
   unfolding laneWord
   lane-at b l = at-listFrom 0 N (λ b. cond (eqb (byteOf lost b) 1) 2 (one (lent L packets b i))) b l ∙ rw (zero-add b)
+
+  -- the packet's bit is read from the lane's word, or kept where that is 2
+  pub lane-bit : (b : ℕ) → b < N → let x = byteOf (laneWord N L lost packets i) b in cond (eqb x 2) (lent L packets b i) (eqb x 1) ≡ lent L packets b i
+  lane-bit b l = rw (lane-at b l) (go (eqb (byteOf lost b) 1) (lent L packets b i))
+    where
+      go : (x v : Bool) → cond (eqb (cond x 2 (one v)) 2) v (eqb (cond x 2 (one v)) 1) ≡ v
+      go true v = refl
+      go false true = refl
+      go false false = refl
 
   pub lane-size : length (laneWord N L lost packets i) ≡ N
   unfolding laneWord
@@ -206,19 +225,19 @@ module _ (ws : List ℕ) (n m k : ℕ) (lost packets odd : List ℕ) (e : packet
   unfolding packetsOutcome
   number = e
 
-  A : Accepted ws n m k
+  pub mending-accepted : Accepted ws n m k
   unfolding packetsReply
-  A = accepted-number ws n m k _ number
+  mending-accepted = accepted-number ws n m k _ number
 
-  lost-is : packetsOutcome ws n m k lost packets odd .lost ≡ listFrom 0 N (stillLost ws n m k lost)
+  pub lost-is : packetsOutcome ws n m k lost packets odd .lost ≡ listFrom 0 N (stillLost ws n m k lost)
   unfolding packetsOutcome
   lost-is = rw (eq-eqb (packetsReply ws n m k lost packets L .number) 0 number)
 
-  packets-is : packetsOutcome ws n m k lost packets odd .packets ≡ wordsOf L N (mendedBit ws n m k lost packets L)
+  pub packets-is : packetsOutcome ws n m k lost packets odd .packets ≡ wordsOf L N (mendedBit ws n m k lost packets L)
   unfolding packetsOutcome
   packets-is = rw (eq-eqb (packetsReply ws n m k lost packets L .number) 0 number)
 
-  odd-is : packetsOutcome ws n m k lost packets odd .odd ≡ wordsOf L 1 (λ c. oddLane ws n m k lost packets L)
+  pub odd-is : packetsOutcome ws n m k lost packets odd .odd ≡ wordsOf L 1 (λ c. oddLane ws n m k lost packets L)
   unfolding packetsOutcome
   odd-is = rw (eq-eqb (packetsReply ws n m k lost packets L .number) 0 number)
 
@@ -226,27 +245,27 @@ module _ (ws : List ℕ) (n m k : ℕ) (lost packets odd : List ℕ) (e : packet
   still-at b l = rw lost-is (at-listFrom 0 N (stillLost ws n m k lost) b l ∙ ap (stillLost ws n m k lost) (zero-add b))
 
   -- the word of zeros
-  T₀ : Taken ws n m k (lostWord N lost)
-  T₀ = record { accepted = A; word = lost-word N lost }
+  pub zeros-taken : Taken ws n m k (lostWord N lost)
+  zeros-taken = record { accepted = mending-accepted; word = lost-word N lost }
+
+  pub zeros-agreed : someAgrees h N (m + k) (byteOf (lostWord N lost)) ≡ true
+  zeros-agreed = zeros-agree h N (m + k) (byteOf (lostWord N lost)) (byteOf (lostWord N lost)) (λ b l. refl) (λ b l q. lost-zero N lost b l)
 
   -- a packet is still lost where a codeword of the losses has a one
-  s₁ : someAgrees h N (m + k) (byteOf (lostWord N lost)) ≡ true
-  s₁ = zeros-agree h N (m + k) (byteOf (lostWord N lost)) (byteOf (lostWord N lost)) (λ b l. refl) (λ b l q. lost-zero N lost b l)
-
-  still : (b : ℕ) → b < N → byteOf (packetsOutcome ws n m k lost packets odd .lost) b ≡ one (eqb (determined h N (m + k) (byteOf (lostWord N lost)) b) 2)
+  pub still : (b : ℕ) → b < N → byteOf (packetsOutcome ws n m k lost packets odd .lost) b ≡ one (eqb (determined h N (m + k) (byteOf (lostWord N lost)) b) 2)
   unfolding stillLost
-  still b l = still-at b l ∙ rw (after-at ws n m k (lostWord N lost) T₀ s₁ b l)
+  still b l = still-at b l ∙ rw (after-at ws n m k (lostWord N lost) zeros-taken zeros-agreed b l)
 
   lost-of : (b : ℕ) → b < N → (byteOf (packetsOutcome ws n m k lost packets odd .lost) b ≡ 1) ↔ ((x : List ℕ) × Agreeing ws n m k (lostWord N lost) x × (byteOf x b ≡ 1))
   lost-of b l = (
     λ q.
         let d = eqb-true (determined h N (m + k) (byteOf (lostWord N lost)) b) 2 (one-true _ (sym (still b l) ∙ q)) in
         let (y, z, u, v, p, r) = open-at h N (m + k) (byteOf (lostWord N lost)) b d in
-        (listed ws n m k (lostWord N lost) y, agreeing-of ws n m k (lostWord N lost) T₀ y u, listed-at ws n m k (lostWord N lost) y b l ∙ rw p),
+        (listed ws n m k (lostWord N lost) y, agreeing-of ws n m k (lostWord N lost) zeros-taken y u, listed-at ws n m k (lostWord N lost) y b l ∙ rw p),
     λ c.
         let (x, a, p) = c in
         still b l ∙ rw (open-of h N (m + k) (byteOf (lostWord N lost)) (byteOf (lostWord N lost)) (λ b l. refl) (λ b l q. lost-zero N lost b l) b l (isOne (byteOf x))
-        (agreeing-at ws n m k (lostWord N lost) A x a) (eq-eqb (byteOf x b) 1 p)),
+        (agreeing-at ws n m k (lostWord N lost) mending-accepted x a) (eq-eqb (byteOf x b) 1 p)),
   )
 
   module _ (i : ℕ) (u : i < L * 64) where
@@ -256,13 +275,13 @@ module _ (ws : List ℕ) (n m k : ℕ) (lost packets odd : List ℕ) (e : packet
     abbrev o : Outcome
     o = laneOutcome ws n m k lost packets L i
 
-    T : Taken ws n m k w
-    T = record { accepted = A; word = lane-word N L lost packets i }
+    pub lane-taken : Taken ws n m k w
+    lane-taken = record { accepted = mending-accepted; word = lane-word N L lost packets i }
 
-    bit-is : (b : ℕ) → b < N → lent L (packetsOutcome ws n m k lost packets odd .packets) b i ≡ mendedBit ws n m k lost packets L b i
+    pub bit-is : (b : ℕ) → b < N → lent L (packetsOutcome ws n m k lost packets odd .packets) b i ≡ mendedBit ws n m k lost packets L b i
     bit-is b l = rw packets-is (lent-words L N (mendedBit ws n m k lost packets L) b i l u)
 
-    flag-is : lent L (packetsOutcome ws n m k lost packets odd .odd) 0 i ≡ oddLane ws n m k lost packets L i
+    pub flag-is : lent L (packetsOutcome ws n m k lost packets odd .odd) 0 i ≡ oddLane ws n m k lost packets L i
     flag-is = rw odd-is (lent-words L 1 (λ c. oddLane ws n m k lost packets L) 0 i (omega arith) u)
 
     flag : (lent L (packetsOutcome ws n m k lost packets odd .odd) 0 i ≡ false) ↔ (o .reply .number ≡ 0)
@@ -275,14 +294,11 @@ module _ (ws : List ℕ) (n m k : ℕ) (lost packets odd : List ℕ) (e : packet
     same : (b : ℕ) → b < N → erased (byteOf (lostWord N lost)) b ≡ erased (byteOf w) b
     same b l = lost-erased N lost b l ∙ sym (lane-erased N L lost packets i b l)
 
-    s₀ : someAgrees h N (m + k) (byteOf (lostWord N lost)) ≡ true
-    s₀ = zeros-agree h N (m + k) (byteOf w) (byteOf (lostWord N lost)) same (λ b l q. lost-zero N lost b l)
-
     -- a packet is still lost exactly where the lane's bit stays open
     still-open : someAgrees h N (m + k) (byteOf w) ≡ true → (b : ℕ) → b < N → stillLost ws n m k lost b ≡ one (eqb (byteOf (o .after) b) 2)
     unfolding stillLost
     still-open t b l =
-        rw (after-at ws n m k (lostWord N lost) T₀ s₀ b l, after-at ws n m k w T t b l) (ap one (same-test _ _
+        rw (after-at ws n m k (lostWord N lost) zeros-taken zeros-agreed b l, after-at ws n m k w lane-taken t b l) (ap one (same-test _ _
         (λ q. eq-eqb _ 2 (open-more h N (m + k) (byteOf w) (byteOf (lostWord N lost)) same (λ b l q. lost-zero N lost b l) t b l (eqb-true _ 2 q)))
         (λ q. eq-eqb _ 2 (open-less h N (m + k) (byteOf w) (byteOf (lostWord N lost)) same (λ b l q. lost-zero N lost b l) b l (eqb-true _ 2 q)))))
 
@@ -290,10 +306,10 @@ module _ (ws : List ℕ) (n m k : ℕ) (lost packets odd : List ℕ) (e : packet
     unfolding mendedBit
     mended q =
         let (T′, t) = answered ws n m k w q in
-        ext-getD 0 _ (o .after) (lane-size N L _ _ i ∙ sym (after-size ws n m k w T t)) (λ b l.
+        ext-getD 0 _ (o .after) (lane-size N L _ _ i ∙ sym (after-size ws n m k w lane-taken t)) (λ b l.
         let l′ : b < N = rw (lane-size N L (packetsOutcome ws n m k lost packets odd .lost) (packetsOutcome ws n m k lost packets odd .packets) i) at l in
         lane-at N L _ _ i b l′ ∙ rw (still-at b l′, bit-is b l′, still-open t b l′)
-        (go (byteOf (o .after) b) (lent L packets b i) (rw (after-at ws n m k w T t b l′) (determined-byte h N (m + k) (byteOf w) b))))
+        (go (byteOf (o .after) b) (lent L packets b i) (rw (after-at ws n m k w lane-taken t b l′) (determined-byte h N (m + k) (byteOf w) b))))
       where
         go : (x : ℕ) (v : Bool) → x ≤ 2 → cond (eqb (one (eqb x 2)) 1) 2 (one (cond (eqb x 2) v (eqb x 1))) ≡ x
         go x v l = elim (ℕ-discrete x 2) [
@@ -304,14 +320,9 @@ module _ (ws : List ℕ) (n m k : ℕ) (lost packets odd : List ℕ) (e : packet
     kept : (o .reply .number ≡ 0 → ⊥) → (b : ℕ) → b < N → lent L (packetsOutcome ws n m k lost packets odd .packets) b i ≡ lent L packets b i
     unfolding mendedBit
     kept d b l = elim (is (someAgrees h N (m + k) (byteOf w))) [
-      | is-true t ↦ absurd (d (ap (λ (o : Outcome). o .reply .number) (determine-made ws n m k w T t)))
-      | is-false t ↦ bit-is b l ∙ rw (determine-refused ws n m k w T t, lane-at N L lost packets i b l) (go (eqb (byteOf lost b) 1) (lent L packets b i))
+      | is-true t ↦ absurd (d (ap (λ (o : Outcome). o .reply .number) (determine-made ws n m k w lane-taken t)))
+      | is-false t ↦ bit-is b l ∙ rw (determine-refused ws n m k w lane-taken t) (lane-bit N L lost packets i b l)
     ]
-      where
-        go : (x v : Bool) → cond (eqb (cond x 2 (one v)) 2) v (eqb (cond x 2 (one v)) 1) ≡ v
-        go true v = refl
-        go false true = refl
-        go false false = refl
 
     left : (b : ℕ) → b < N → byteOf (packetsOutcome ws n m k lost packets odd .lost) b ≡ 1 → lent L (packetsOutcome ws n m k lost packets odd .packets) b i ≡ lent L packets b i
     unfolding mendedBit

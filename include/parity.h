@@ -323,24 +323,35 @@ uint32_t parity_determine(const uint64_t *words, size_t words_len,
                           uint8_t *word, size_t word_len,
                           uint64_t *values, size_t values_len);
 
-/* Packets: the link loses packets, and each bit of the code is a packet of L words,
- * where L is odd_len. Packet b is packets[b*L] to packets[b*L+L-1]. Lane i, for
- * i < 64 L, is bit i mod 64 of word i div 64 of every packet: a word of n+k bits of
- * its own, erased where its packet is lost. One call is a call of parity_determine
- * for each lane: a lane in which that would answer holds its bits afterwards, and a
- * lane in which it would be refused 12 is left as it was and flagged. Which packets
- * are recovered depends on the losses alone; with L = 0 the call only tells this.
+/* Packets, beyond the papers: one pattern of losses, many words. If bit b of the code
+ * travels in packet b, a lost packet erases bit b of all words at once. A packet has
+ * L words of 64 bits, where L is odd_len:
+ *
+ *                  word 0               word 1              ..  word L-1
+ *   packet 0       packets[0]           packets[1]          ..  packets[L-1]
+ *   packet 1       packets[L]           packets[L+1]        ..  packets[2*L-1]
+ *   ..
+ *   packet n+k-1   packets[(n+k-1)*L]   ..                  ..  packets[(n+k)*L-1]
+ *   odd lanes      odd[0]               odd[1]              ..  odd[L-1]
+ *
+ * Lane i, for i < 64*L, is bit i mod 64 of word i div 64 of every packet: a column of
+ * the picture, one bit wide. It is a word of n+k bits of its own, erased where the
+ * packet is lost. One call is a call of parity_determine for each lane. Where that
+ * would answer, the lane holds its bits afterwards; where it would be refused 12, the
+ * lane is left as it was, and is odd. Which packets are recovered depends on the losses
+ * alone: with L = 0 the call tells what a pattern of losses would leave. A sender makes
+ * parity packets by marking them lost (parity_message_bits tells which they are).
  *
  * words: read.
  * lost: n+k bytes, 1 where the packet is lost and 0 elsewhere. An answer leaves 1
- *   where some codeword that is zero in every packet that arrived has a one: such
- *   packets are left as they were.
- * packets: (n+k)*L words. An answer writes the packets that are lost no more, in the
- *   lanes that are not flagged.
+ *   where a packet is still lost: some codeword that is zero in every packet that
+ *   arrived has a one there. Such packets are left as they were.
+ * packets: (n+k)*L words; what a lost packet holds has no influence. An answer writes
+ *   the packets that are lost no more, in the lanes that are not odd.
  * odd: L words, whatever they hold. An answer sets bit i mod 64 of word i div 64 where
- *   lane i is flagged, and clears the others.
- * Values of the answer, 5: the recovered sent packets, the recovered added packets,
- *   the sent packets left, the added packets left; the flagged lanes.
+ *   lane i is odd, and clears the others.
+ * Values of the answer, 5: the sent packets recovered, the added packets recovered,
+ *   the sent packets left, the added packets left; the odd lanes.
  * Refusals: 1, 2, 3, 4; 10 where lost or packets has another length, or L is above
  *   2^57; 11 with the place in `lost` of a byte above 1.
  */

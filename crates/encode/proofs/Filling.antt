@@ -51,6 +51,13 @@ module _ (n r : ℕ) (pivots : List ℕ) (A : Rising n r pivots) (message : ℕ 
   others-next : (b : ℕ) → count (b + 1) (λ i. not (pivot r at i)) ≡ count b (λ i. not (pivot r at i)) + one (not (pivot r at b))
   others-next b = rw (add-one b) (count-suc b (λ i. not (pivot r at i)))
 
+  -- the message has a byte for each bit that is no pivot
+  pub room : (b : ℕ) → b < n → pivot r at b ≡ false → (L : ℕ) → L + r ≡ n → count b (λ i. not (pivot r at i)) < L
+  room b bn q L e =
+      let a = count-mono (b + 1) n (λ i. not (pivot r at i)) (omega arith) in
+      let o = rw q at (others-next b) in
+      omega (arith, count-not n (pivot r at), pivot-count n r at (λ c k. A .low c k) (λ c d k l. A .rise c d k l))
+
   module _ (u : List ℕ) (b p q : ℕ) (P : Placing n r pivots message u b p q) (bn : b < n) where
     module _ (t : ltb p r && eqb (at p) b ≡ true) where
       here : (p < r) × (at p ≡ b)
@@ -91,12 +98,8 @@ module _ (n r : ℕ) (pivots : List ℕ) (A : Rising n r pivots) (message : ℕ 
             ])
       ]
 
-      -- the message has a byte for it
       pub place-room : (L : ℕ) → L + r ≡ n → q < L
-      place-room L e =
-          let a = count-mono (b + 1) n (λ i. not (pivot r at i)) (omega arith) in
-          let o = rw no-pivot at (others-next b) in
-          omega (arith, P .others, count-not n (pivot r at), pivot-count n r at (λ c k. A .low c k) (λ c d k l. A .rise c d k l))
+      place-room L e = rw (P .others) (room b bn no-pivot L e)
 
       pub place-other : Placing n r pivots message (set u b (message q)) (b + 1) p (q + 1)
       unfolding placed

@@ -1,4 +1,4 @@
--- What is read off the reduced rows, and what rank and encoding answer. Assumes nothing.
+-- What is read off the reduced rows, and what rank, encoding and marking the message's bits answer. Assumes nothing.
 use mathlib.Core.Path.{_≡_, refl, sym, ap, _∙_}
 use mathlib.Core.Bool.{Bool, true, false, not, false≢true}
 use mathlib.Core.List.{List, [], _∷_}
@@ -6,14 +6,16 @@ use Prim.Native.Nat.{ℕ, _+_, _*_, _-_, _%_, _≤_, _<_}
 use native.Mathlib.Omega.{arith}
 use native.Mathlib.Decide.{decLt}
 use lib.Dec.{eqb}
-use lib.ListN.{getD, length, List·getD-eq-default}
+use lib.ListN.{getD, length, take, replicate, getD-replicate, List·getD-eq-default}
+use lib.Seq.{getD-take}
 use borrow.Author.Tests.{eq-eqb, ne-eqb, lt-ltb}
 use Rattle.parity.specs.Finite.{one, count, listFrom}
 use Rattle.parity.specs.Matrix.{Matrix, lent}
 use Rattle.parity.specs.Words.{isOne, inside, evenChecks}
-use Rattle.parity.specs.Encoding.{rankOf, encoded}
-use Rattle.parity.specs.Causes.{Reply, answer, refusalOf}
+use Rattle.parity.specs.Encoding.{dependent, rankOf, encoded}
+use Rattle.parity.specs.Causes.{Reply, answer, refusalOf, leaving}
 use Rattle.parity.specs.Calls.{byteOf, wrongByte, wrongPlace, acceptReply, rankReply, encodeReply, encodeOutcome}
+use Rattle.parity.specs.MessageBits.{messageBitsReply, messageBitsOutcome}
 use Rattle.parity.specs.declared.Refusal.{Refusal}
 use Rattle.parity.specs.declared.Refusal.the-variants.{WrongLength, WrongByte, AddedBits}
 use Rattle.parity.proofs.Finite.Sums.{is-true, is-false, is, count-cong, byte-one}
@@ -25,16 +27,16 @@ use Rattle.parity.proofs.Matrix.Accept.{Accepted, passes}
 use Rattle.parity.proofs.Causes.Refused.{refused-number, refused-same}
 use Rattle.parity.proofs.Words.Bytes.{right-bytes}
 use Rattle.parity.proofs.Encoding.Messages.{ranks}
-use Rattle.parity.proofs.Matrix.Packing.{at-listFrom}
+use Rattle.parity.proofs.Matrix.Packing.{length-listFrom, at-listFrom}
 use Rattle.elimination.specs.Reduction.{Same, Reduced, pivot, everyBit, Echelon}
 use Rattle.elimination.specs.Rows.{SameRows}
 use Rattle.elimination.proofs.Clearing.{same-at, same-trans}
 use Rattle.elimination.proofs.Copying.{rows-lent}
 use Rattle.elimination.proofs.Reduced.{pivot-at, pivot-of}
-use Rattle.encode.specs.Answers.{givenOutcome}
+use Rattle.encode.specs.Answers.{givenOutcome, marks}
 use Rattle.encode.specs.Filling.{pivotAt, Rising, placed, Open, Filled}
 use Rattle.encode.proofs.Pivots as pivots
-use Rattle.encode.proofs.Filling.{is-listFrom}
+use Rattle.encode.proofs.Filling.{is-listFrom, room}
 
 -- a copy has the codewords of the lent matrix
 copy-same : (U W : ℕ) → W ≤ U → (ws w u : List ℕ) (n m : ℕ) → n ≤ W * 64 → SameRows U W ws w u 0 m → Same (lent U ws) (lent W u) n m
@@ -62,6 +64,9 @@ module _ (h g : Matrix) (n m r : ℕ) (at : List ℕ) (E : Echelon h g n m n r a
   pub is-rank : r ≡ rankOf h n m
   is-rank = sym (pivots.ranks h (E .whole) n m r (pivotAt at) R (E .reduction .same))
 
+  pub few : r ≤ n
+  few = omega (arith, is-rank, lengths h n m (λ b. false))
+
   pub rising : Rising n r at
   rising = record { low = R .low; rise = R .rise }
 
@@ -85,6 +90,15 @@ module _ (h g : Matrix) (n m r : ℕ) (at : List ℕ) (E : Echelon h g n m n r a
     unfolding placed
     at-else b k q = word-at b k ∙ rw q
 
+    -- a message of ones stands at the bits that are no parity bits
+    pub marked : ((i : ℕ) → i < n - r → byteOf message i ≡ 1) → w ≡ listFrom 0 n (λ b. one (dependent h m b))
+    unfolding placed
+    marked f = is-listFrom n (λ b. one (dependent h m b)) w (ap length W ∙ length-listFrom 0 n (placed r at (byteOf message))) (λ b k.
+        rw (pivots.dependents h (E .whole) n m r (pivotAt at) R (E .reduction .same) b k) (elim (is (pivot r (pivotAt at) b)) [
+          | is-true q ↦ word-at b k ∙ rw q
+          | is-false q ↦ at-else b k q ∙ f _ (room n r at rising (byteOf message) b k q (n - r) (omega (arith, few))) ∙ rw q
+        ]))
+
     pub opened : Open g n r at (byteOf w)
     opened = record { rising = rising; own = E .own; first = E .first; none = at-pivot }
 
@@ -107,6 +121,10 @@ module _ (h g : Matrix) (n m r : ℕ) (at : List ℕ) (E : Echelon h g n m n r a
             | is-true q ↦ let (c, i, e) = pivot-of r (pivotAt at) b q in rw (← e) (F .bit c (omega arith) i)
             | is-false q ↦ rw (F .else b q, at-else b k q) (message-small _)
           ]
+
+-- the front of a message of ones
+pub front-ones : (message : List ℕ) → message ≡ replicate 120 1 → (j : ℕ) → j ≤ 120 → (i : ℕ) → i < j → byteOf (take j message) i ≡ 1
+front-ones message e j k i l = getD-take j message i 0 l ∙ ap (λ (u : List ℕ). getD u i 0) e ∙ getD-replicate 120 i 1 0 (omega arith)
 
 -- encoding with an accepted matrix that has k = 0
 module _ (ws : List ℕ) (m : ℕ) (message w : List ℕ) (r : ℕ) (e : r ≡ rankOf (lent 8 ws) (length w) m) where
@@ -137,6 +155,10 @@ module _ (ws : List ℕ) (m : ℕ) (message w : List ℕ) (r : ℕ) (e : r ≡ r
       let f = eq-eqb (length message) (length w - rankOf (lent 8 ws) (length w) m) (whole-length q) in
       (rw (f, t), s ∙ rw (f, t))
 
+-- a refusal leaves the list as it was
+left : (r : Refusal) (reply : Reply) (old new : List ℕ) → refusalOf r ≡ reply → (refusalOf r ≡ leaving old reply new .reply) × (old ≡ leaving old reply new .after)
+left r reply old new e = (e, rw (← e, ne-eqb (refusalOf r .number) 0 (refused-number r)))
+
 -- the calls
 module _ (ws : List ℕ) (n m k : ℕ) where
   pub rank-first : (r : Refusal) → refusalOf r ≡ acceptReply ws n m k → refusalOf r ≡ rankReply ws n m k
@@ -156,10 +178,9 @@ module _ (ws : List ℕ) (n m k : ℕ) where
     abbrev Told : Reply → List ℕ → Type 0
     Told r u = (r ≡ encodeOutcome ws n m k message w .reply) × (u ≡ encodeOutcome ws n m k message w .after)
 
-    -- a refusal leaves the word as it was
     refused : (r : Refusal) → refusalOf r ≡ encodeReply ws n m k message w → Told (refusalOf r) w
     unfolding encodeOutcome
-    refused r e = (e, rw (← e, ne-eqb (refusalOf r .number) 0 (refused-number r)))
+    refused r e = left r (encodeReply ws n m k message w) w _ e
 
     pub encode-first : (r : Refusal) → refusalOf r ≡ acceptReply ws n m k → Told (refusalOf r) w
     encode-first r e = refused r (unfold encodeReply in refused-same ws n m k r _ e)
@@ -174,3 +195,25 @@ module _ (ws : List ℕ) (n m k : ℕ) where
       pub encode-given : k ≡ 0 → length w ≡ n → givenOutcome ws m message w ≡ encodeOutcome ws n m k message w
       unfolding givenOutcome encodeOutcome encodeReply
       encode-given e l = rw (passes ws n m k A _, e, l, eq-eqb n n refl)
+
+  module _ (set : List ℕ) where
+    abbrev Marked : Reply → List ℕ → Type 0
+    Marked r u = (r ≡ messageBitsOutcome ws n m k set .reply) × (u ≡ messageBitsOutcome ws n m k set .after)
+
+    unmarked : (r : Refusal) → refusalOf r ≡ messageBitsReply ws n m k set → Marked (refusalOf r) set
+    unfolding messageBitsOutcome
+    unmarked r e = left r (messageBitsReply ws n m k set) set _ e
+
+    pub mark-first : (r : Refusal) → refusalOf r ≡ acceptReply ws n m k → Marked (refusalOf r) set
+    mark-first r e = unmarked r (unfold messageBitsReply in refused-same ws n m k r _ e)
+
+    module _ (A : Accepted ws n m k) where
+      pub mark-added : (k ≡ 0 → ⊥) → Marked (refusalOf AddedBits) set
+      mark-added d = unmarked AddedBits (unfold messageBitsReply in rw (passes ws n m k A _, lt-ltb 0 k (omega (arith, d))))
+
+      pub mark-length : k ≡ 0 → (length set ≡ n → ⊥) → Marked (refusalOf WrongLength) set
+      mark-length e d = unmarked WrongLength (unfold messageBitsReply in rw (passes ws n m k A _, e, ne-eqb (length set) n d))
+
+      pub mark-made : k ≡ 0 → length set ≡ n → (u : List ℕ) → u ≡ marks ws (length set) m → Marked (answer []) u
+      unfolding messageBitsOutcome messageBitsReply
+      mark-made e l u q = (rw (passes ws n m k A _, e, l, eq-eqb n n refl), q ∙ rw (passes ws n m k A _, e, l, eq-eqb n n refl))

@@ -1,4 +1,4 @@
-// The rank of a matrix with k = 0, and encoding: the codeword whose bits that are no parity bits hold a message.
+// The rank of a matrix with k = 0; encoding: the codeword whose bits that are no parity bits hold a message; and which bits these are.
 mod message;
 
 use crate::message::fill;
@@ -10,12 +10,13 @@ use parity::Refusal;
 use word::bytes::first_above;
 ghost use mathlib.Core.Path.{_≡_};
 ghost use Prim.Native.Nat.{_≤_};
-ghost use lib.ListN.{length};
+ghost use lib.ListN.{length, replicate};
 ghost use Rattle.parity.specs.Matrix.{lent};
 ghost use Rattle.parity.specs.Encoding.{rankOf};
 ghost use Rattle.parity.specs.Calls.{rankReply, encodeOutcome};
+ghost use Rattle.parity.specs.MessageBits.{messageBitsOutcome};
 ghost use Rattle.elimination.specs.Reduction.{Echelon};
-ghost use Rattle.encode.specs.Answers.{rankingReply, encodingReply, givenOutcome};
+ghost use Rattle.encode.specs.Answers.{rankingReply, encodingReply, givenOutcome, markingReply, marks};
 
 // What the rank call answers.
 pub enum Ranking {
@@ -26,6 +27,12 @@ pub enum Ranking {
 // What encoding answers.
 pub enum Encoding {
     Written,
+    Refused(Refusal),
+}
+
+// What the call that marks the message's bits answers.
+pub enum Marking {
+    Made,
     Refused(Refusal),
 }
 
@@ -111,6 +118,47 @@ pub fn encode(
                 return Encoding::Refused(Refusal::WrongLength);
             }
             encode_given(words, m, message, word)
+        }
+    }
+}
+
+// The longest message, all ones.
+fn all_ones() -> [u8; 120]
+    ensures { λ r. ⌜ r ≡ replicate 120 1 ⌝ }
+{
+    [1u8; 120]
+}
+
+// Marks the bits of the given checks that hold a message: a message of ones is placed.
+fn mark(words: &[u64], m: usize, set: &mut [u8])
+    requires { ⌜ (length (now words) ≡ 4096) × (m ≤ 120) × (length (now set) ≤ 120) ⌝ }
+    ensures { λ _. ⌜ now (set .exit) ≡ marks (now (words .entry)) (length (now (set .entry))) m ⌝ }
+{
+    let mut rows = [0u64; 240];
+    let mut pivots = [0usize; 120];
+    let n = set.len();
+    let r = eliminate(words, n, m, &mut rows, &mut pivots);
+    let message = all_ones();
+    place(&pivots, r, &message[..n - r], set);
+}
+
+// Marks the bits that hold a message with 1, and the parity bits with 0.
+pub fn message_bits(words: &[u64], n: usize, m: usize, k: usize, set: &mut [u8]) -> Marking
+    ensures { λ r. ⌜ markingReply r ≡ messageBitsOutcome (now (words .entry)) n m k (now (set .entry)) .reply ⌝ }
+    ensures { λ _. ⌜ now (set .exit) ≡ messageBitsOutcome (now (words .entry)) n m k (now (set .entry)) .after ⌝ }
+{
+    let accepted = matrix::accept(words, n, m, k);
+    match accepted {
+        Accepting::Refused(r) => Marking::Refused(r),
+        Accepting::Accepted => {
+            if k != 0 {
+                return Marking::Refused(Refusal::AddedBits);
+            }
+            if set.len() != n {
+                return Marking::Refused(Refusal::WrongLength);
+            }
+            mark(words, m, set);
+            Marking::Made
         }
     }
 }

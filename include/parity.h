@@ -101,7 +101,7 @@ extern "C" {
 #define PARITY_BYTE 11
 /* Contradiction: checks that cannot be made even. */
 #define PARITY_CONTRADICTION 12
-/* k is above 0 in rank, encoding, mending or joining. */
+/* k is above 0 in rank, encoding, message bits, mending a block or joining. */
 #define PARITY_EXTENDED 13
 /* k = 0: there is nothing to take back. */
 #define PARITY_NOTHING_TO_TAKE_BACK 15
@@ -408,6 +408,24 @@ uint32_t parity_encode(const uint64_t *words, size_t words_len,
                        const uint8_t *message, size_t message_len,
                        uint8_t *word, size_t word_len,
                        uint64_t *values, size_t values_len);
+
+/* Which bits of a matrix with k = 0 hold the message, and which are parity bits.
+ * (Beyond documents 01 and 02.) Parity bits are chosen from bit 0 upwards, and bit 0
+ * is a parity bit if any check contains it: so with checks [A|I] the message does not
+ * stand first; with [I|A] it stands last. The zeros are as many as parity_rank
+ * answers. Of a word that parity_encode writes, the bytes at the ones, rising, are the
+ * message: so a receiver takes the message out of a mended word.
+ *
+ * words: read.
+ * set: n bytes, whatever they hold, all written by an answer: 0 for a parity bit, 1
+ *   for a bit that holds the message.
+ * Values of the answer: none.
+ * Refusals: 1, 2, 3, 4, 13, 10.
+ */
+uint32_t parity_message_bits(const uint64_t *words, size_t words_len,
+                             size_t n, size_t m, size_t k,
+                             uint8_t *set, size_t set_len,
+                             uint64_t *values, size_t values_len);
 
 /* Copies a house code into a matrix with k = 0. PARITY_HOUSE_CIRCULANT: check c
  * contains (c+e) mod 23 for e in 0, 1, 2, 3, 4, 7, 10, 12. The others, the

@@ -115,6 +115,13 @@ extern "C" {
         values: *mut u64, values_len: usize,
     ) -> u32;
 
+    pub fn parity_message_bits(
+        words: *const u64, words_len: usize,
+        n: usize, m: usize, k: usize,
+        set: *mut u8, set_len: usize,
+        values: *mut u64, values_len: usize,
+    ) -> u32;
+
     pub fn parity_house_code(
         name: usize,
         words: *mut u64, words_len: usize,

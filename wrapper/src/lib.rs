@@ -613,6 +613,27 @@ pub fn encode(words: &[u64], n: usize, m: usize, k: usize, message: &[u8], word:
     reply(number, values).map(|_| ())
 }
 
+/// Marks the n bits of a matrix with k = 0: 1 for a bit that holds the message, 0 for a parity bit. Parity bits are chosen from
+/// bit 0 upwards, so that the message need not stand first. Of a word that [`encode`] writes, the bytes at the ones are the message.
+/// This call is beyond documents 01 and 02.
+pub fn message_bits(words: &[u64], n: usize, m: usize, k: usize, set: &mut [u8]) -> Result<(), Refusal> {
+    let mut values: Values = [0; VALUES_MOST];
+    let number = unsafe {
+        ffi::parity_message_bits(
+            words.as_ptr(),
+            words.len(),
+            n,
+            m,
+            k,
+            set.as_mut_ptr(),
+            set.len(),
+            values.as_mut_ptr(),
+            values.len(),
+        )
+    };
+    reply(number, values).map(|_| ())
+}
+
 /// Copies the house code of a name ([`HOUSE_CIRCULANT`] to [`HOUSE_HAMMING_31`], or any other number, which is refused) into
 /// `words`, all of which are written; it is a matrix with k = 0.
 pub fn house_code(name: usize, words: &mut [u64]) -> Result<HouseCode, Refusal> {

@@ -58,7 +58,7 @@ fn no_heap_and_no_state() {
             }
         }
     }
-    assert_eq!(defined.iter().filter(|name| name.starts_with("parity_")).count(), 21, "{defined:?}");
+    assert_eq!(defined.iter().filter(|name| name.starts_with("parity_")).count(), 22, "{defined:?}");
     wanted.retain(|name| !defined.contains(name) && !OUTSIDE.contains(&name.as_str()));
     assert_eq!(wanted, Vec::<String>::new());
 }

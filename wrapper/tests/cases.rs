@@ -373,6 +373,22 @@ fn j() {
     let mut word = [9; 7];
     assert_eq!(parity::encode(&a(), 7, 3, 0, &[1, 0, 0, 0], &mut word), Ok(()));
     assert_eq!(word, [1, 1, 0, 1, 0, 0, 0]);
+    let mut set = [9; 7];
+    assert_eq!(parity::message_bits(&a(), 7, 3, 0, &mut set), Ok(()));
+    assert_eq!(set, [0, 0, 0, 1, 1, 1, 1]);
+    assert_eq!(parity::message_bits(&a(), 7, 3, 0, &mut set[..6]), Err(Refusal::Length));
+}
+
+/// The message bits are last with [I|A], and not first with [A|I].
+#[test]
+fn message_bits() {
+    let mut set = [9; 4];
+    assert_eq!(parity::message_bits(&matrix(&[&[0, 2, 3], &[1, 2, 3]]), 4, 2, 0, &mut set), Ok(()));
+    assert_eq!(set, [0, 0, 1, 1]);
+    assert_eq!(parity::message_bits(&matrix(&[&[0, 1, 2], &[0, 1, 3]]), 4, 2, 0, &mut set), Ok(()));
+    assert_eq!(set, [0, 1, 0, 1]);
+    assert_eq!(parity::message_bits(&matrix(&[&[0, 1, 4]]), 4, 0, 1, &mut set), Err(Refusal::Extended));
+    assert_eq!(set, [0, 1, 0, 1]);
 }
 
 #[test]

@@ -106,10 +106,10 @@ fn read(path: &str) -> String {
 #[test]
 fn header_wrapper_and_crate_agree() {
     let header = of_header(&read("../include/parity.h"));
-    assert_eq!(header.len(), 21);
+    assert_eq!(header.len(), 22);
     assert_eq!(header, of_wrapper(&read("src/ffi.rs")));
     let text = read("../crates/capi/src/lib.rt");
-    assert_eq!(text.matches("extern \"C\"").count(), 21);
+    assert_eq!(text.matches("extern \"C\"").count(), 22);
     assert_eq!(header, of_crate(&text));
 }
 

@@ -3,6 +3,7 @@
 use parity::Bit;
 ghost use mathlib.Core.Path.{_≡_};
 ghost use Rattle.parity.specs.Packets.{packetsOutcome};
+ghost use Rattle.parity.specs.MessageBits.{messageBitsOutcome};
 ghost use Rattle.parity.specs.Calls.{loadOutcome, writeOutcome, shareReply, countReply, splitOutcome, takeBackOutcome, orthogonaliseOutcome, verifyReply, extendOutcome, isStoppingReply, peelOutcome, rankReply, encodeOutcome, houseOutcome, determineOutcome, stoppingSetsOutcome, joinOutcome};
 ghost use Rattle.parity.specs.Block.{blockOutcome};
 ghost use Rattle.parity.specs.SoftCall.{minSumOutcome};
@@ -287,6 +288,24 @@ pub extern "C" fn parity_encode(
 {
     let encoding = encode::encode(words, n, m, k, message, word);
     let numbered = reply::encoding(encoding);
+    reply::pass(numbered, values)
+}
+
+// Carries nothing.
+#[no_mangle]
+pub extern "C" fn parity_message_bits(
+    words: &[u64],
+    n: usize,
+    m: usize,
+    k: usize,
+    set: &mut [u8],
+    values: &mut [u64],
+) -> u32
+    ensures { λ r. ⌜ Passed (messageBitsOutcome (now (words .entry)) n m k (now (set .entry)) .reply) (now (values .entry)) (now (values .exit)) r ⌝ }
+    ensures { λ r. ⌜ now (set .exit) ≡ messageBitsOutcome (now (words .entry)) n m k (now (set .entry)) .after ⌝ }
+{
+    let marking = encode::message_bits(words, n, m, k, set);
+    let numbered = reply::marking(marking);
     reply::pass(numbered, values)
 }
 

@@ -4,6 +4,7 @@ use cycles::Counting;
 use cycles::Sharing;
 use determine::Determining;
 use encode::Encoding;
+use encode::Marking;
 use encode::Ranking;
 use house::Copying;
 use join::Joining;
@@ -34,7 +35,7 @@ ghost use Rattle.word.specs.Answers.{verifyingReply, stoppingReply};
 ghost use Rattle.word.specs.Answers.{extendingReply};
 ghost use Rattle.peel.specs.Answers.{peelingReply};
 ghost use Rattle.determine.specs.Answers.{determiningReply};
-ghost use Rattle.encode.specs.Answers.{rankingReply, encodingReply};
+ghost use Rattle.encode.specs.Answers.{rankingReply, encodingReply, markingReply};
 ghost use Rattle.house.specs.Answers.{copyingReply};
 ghost use Rattle.stopping_sets.specs.Answers.{listingReply};
 ghost use Rattle.block.specs.Answers.{mendingReply};
@@ -300,6 +301,16 @@ pub fn encoding(answer: Encoding) -> Numbered
     match answer {
         Encoding::Written => Numbered::Alone(0),
         Encoding::Refused(why) => refused(why),
+    }
+}
+
+// What the call that marks the message's bits answers.
+pub fn marking(answer: Marking) -> Numbered
+    ensures { λ r. ⌜ numberedReply r ≡ markingReply answer ⌝ }
+{
+    match answer {
+        Marking::Made => Numbered::Alone(0),
+        Marking::Refused(why) => refused(why),
     }
 }
 

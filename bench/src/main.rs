@@ -35,6 +35,7 @@ enum Call {
     MendBlock,
     Rank,
     Encode,
+    MessageBits,
     HouseCode,
     StoppingSets,
     Join,
@@ -86,6 +87,7 @@ fn in_plain(job: &mut Job) -> u32 {
         Call::MendBlock => plain::mend_block(&job.words, n, m, k, &mut job.word, values),
         Call::Rank => plain::rank(&job.words, n, m, k, values),
         Call::Encode => plain::encode(&job.words, n, m, k, &job.input, &mut job.word, values),
+        Call::MessageBits => plain::message_bits(&job.words, n, m, k, &mut job.word),
         Call::HouseCode => plain::house_code(job.name, &mut job.words, values),
         Call::StoppingSets => plain::stopping_sets(&job.words, n, m, k, job.t, &mut job.sets, values),
         Call::Join => plain::join(&job.words, n, m, k, &job.words2, n, job.m2, k, &mut job.words3, values),
@@ -139,6 +141,9 @@ fn in_library(job: &mut Job) -> u32 {
             Call::Rank => ffi::parity_rank(words, words_len, n, m, k, values, values_len),
             Call::Encode => {
                 ffi::parity_encode(words, words_len, n, m, k, input, input_len, word, word_len, values, values_len)
+            }
+            Call::MessageBits => {
+                ffi::parity_message_bits(words, words_len, n, m, k, word, word_len, values, values_len)
             }
             Call::HouseCode => ffi::parity_house_code(job.name, words, words_len, values, values_len),
             Call::StoppingSets => {
@@ -552,6 +557,9 @@ fn jobs(r: &mut Random, given: &Case, case: &Case) -> Vec<(String, Job)> {
         job.input = message;
         job.word = vec![0; case.n];
         row("encode", job);
+        let mut job = case.job(Call::MessageBits);
+        job.word = vec![0; case.n];
+        row("message_bits", job);
         // The circulant over the words of the matrix: what it takes does not depend on these.
         row("house_code", case.job(Call::HouseCode));
     }

@@ -1,6 +1,7 @@
-// Rank and encoding on case J's matrix, which is A's, for all 16 messages, on case L's circulant for some, and on bad input.
+// Rank and encoding on case J's matrix, which is A's, for all 16 messages, on case L's circulant for some, and on bad input; and the message's bits.
 // A message that is encoded is followed by its codeword, one that is refused by the number of its cause, and the place of cause 11.
 use encode::Encoding;
+use encode::Marking;
 use encode::Ranking;
 use samples::say::end_line;
 use samples::say::field;
@@ -133,6 +134,46 @@ fn ends() {
     coded(&words, 3, 0, b"", 3, &mut word);
 }
 
+fn marks(head: &[u8], words: &[u64], n: usize, m: usize, k: usize, set: &mut [u8]) {
+    io::write_all(1, head);
+    let answer = encode::message_bits(words, n, m, k, set);
+    match answer {
+        Marking::Made => {
+            io::write_all(1, b" marks ");
+            show(set);
+        }
+        Marking::Refused(r) => refused(b" refused ", r),
+    }
+    end_line();
+}
+
+fn marks_of_cases() {
+    let j = samples::cases::a();
+    let mut seven = [9u8; 7];
+    marks(b"J:", &j, 7, 3, 0, &mut seven);
+    let l = samples::cases::l();
+    let mut long = [9u8; 23];
+    marks(b"L:", &l, 23, 23, 0, &mut long);
+    marks(b"J, 23 bytes:", &j, 7, 3, 0, &mut long);
+    show(&long);
+    end_line();
+}
+
+// The checks {0, 1, 2} and {0, 1, 3}, which are [A|I]; no check; and an added check, {0, 1, 4}.
+fn marks_of_four() {
+    let mut words = [0u64; 4096];
+    let mut four = [9u8; 4];
+    marks(b"no check:", &words, 4, 0, 0, &mut four);
+    words[0] = 0x7;
+    words[8] = 0xb;
+    marks(b"[A|I]:", &words, 4, 2, 0, &mut four);
+    words[0] = 0x13;
+    words[8] = 0;
+    marks(b"k = 1:", &words, 4, 0, 1, &mut four);
+    show(&four);
+    end_line();
+}
+
 fn main() {
     let j = samples::cases::a();
     rank(b"J:", &j, 7, 3, 0);
@@ -148,4 +189,6 @@ fn main() {
     bad_words();
     added();
     ends();
+    marks_of_cases();
+    marks_of_four();
 }

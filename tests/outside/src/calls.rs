@@ -257,6 +257,7 @@ fn good(r: &mut Random, kind: Kind, sample: &Sample) -> Lent {
             lent.input = r.bits(matrix.n - matrix.rank());
             lent.word = r.bytes(matrix.n);
         }
+        Kind::MessageBits => lent.word = r.bytes(matrix.n),
         Kind::MinSum => {
             let codeword = elimination::combine(&sample.basis, bits, || r.chance(500));
             let mix = r.pick(&[Mix::Mixed, Mix::Mixed, Mix::Sure, Mix::Soft]);
@@ -336,6 +337,7 @@ pub fn damages(kind: Kind) -> Vec<Damage> {
         Kind::MinSum => &[Rounds, Rounds, Lengths, Lengths, Lengths, Bytes, Bytes, Floats, Floats, Floats],
         Kind::Rank => &[Extended, Extended],
         Kind::Encode => &[Extended, Lengths, Lengths, Bytes, Bytes],
+        Kind::MessageBits => &[Extended, Extended, Lengths, Lengths],
         Kind::StoppingSets => &[SetSize, SetSize, SetsShort, SetsShort, SetsShort],
     });
     list
@@ -617,7 +619,7 @@ pub fn apply(r: &mut Random, damage: Damage, matrix: &Matrix, lent: &mut Lent) {
         Damage::LowShare => (lent.u, lent.v) = (r.below(matrix.bits()), r.below(matrix.bits())),
         Damage::Lengths => match lent.kind {
             Kind::Verify | Kind::IsStopping => resized(r, &mut lent.input, matrix),
-            Kind::Peel | Kind::Determine | Kind::MendBlock => resized(r, &mut lent.word, matrix),
+            Kind::Peel | Kind::Determine | Kind::MendBlock | Kind::MessageBits => resized(r, &mut lent.word, matrix),
             Kind::MinSum => {
                 let length = r.pick(&[0, 512, min_sum::MESSAGES - 1, min_sum::MESSAGES + 1]);
                 match r.below(4) {
@@ -701,7 +703,7 @@ fn one_call(r: &mut Random, kind: Kind, pools: &Pools) -> Lent {
     if kind == Kind::Join {
         return joining::one_call(r, pools);
     }
-    let zero = matches!(kind, Kind::Rank | Kind::Encode | Kind::MendBlock);
+    let zero = matches!(kind, Kind::Rank | Kind::Encode | Kind::MessageBits | Kind::MendBlock);
     let usual = match kind {
         Kind::TakeBack => Added::Some,
         _ if zero => Added::None,
@@ -755,13 +757,17 @@ fn one_call(r: &mut Random, kind: Kind, pools: &Pools) -> Lent {
     lent
 }
 
-/// A call of rank, encode or mend_block with k above 0.
+/// A call of rank, encode, message_bits or mend_block with k above 0.
 fn lend_extended(r: &mut Random, kind: Kind, matrix: &Matrix) -> Lent {
     let mut lent = cases::lend(kind, matrix);
     match kind {
         Kind::Encode => {
             lent.input = r.bits(matrix.n - matrix.n.min(matrix.m));
             lent.word = r.bytes(matrix.n);
+        }
+        Kind::MessageBits => {
+            let length = r.pick(&[matrix.n, matrix.bits()]);
+            lent.word = r.bytes(length);
         }
         Kind::MendBlock => {
             let length = r.pick(&[matrix.n, matrix.bits()]);

@@ -178,7 +178,10 @@ fn bench(t: &mut Tally) -> Result<(), String> {
     lent.input = vec![1, 0, 0, 0];
     lent.word = vec![9; 7];
     t.same("J, encode", call(&mut lent), reply(0, &[]))?;
-    t.same("J, codeword", lent.word, vec![1, 1, 0, 1, 0, 0, 0])?;
+    t.same("J, codeword", lent.word.clone(), vec![1, 1, 0, 1, 0, 0, 0])?;
+    lent.kind = Kind::MessageBits;
+    t.same("J, message bits", call(&mut lent), reply(0, &[]))?;
+    t.same("J, marks", lent.word, vec![0, 0, 0, 1, 1, 1, 1])?;
 
     let mut lent = lend(Kind::Load, &Matrix::zero(1, 0, 0));
     lent.words = vec![5; WORDS];

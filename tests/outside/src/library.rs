@@ -103,6 +103,9 @@ pub fn call(lent: &mut Lent, values: &mut [u64]) -> Result<u32, String> {
                 Kind::Encode => ffi::parity_encode(
                     words_ptr, words_len, n, m, k, input_ptr, input_len, word_ptr, word_len, values_ptr, values_len,
                 ),
+                Kind::MessageBits => {
+                    ffi::parity_message_bits(words_ptr, words_len, n, m, k, word_ptr, word_len, values_ptr, values_len)
+                }
                 Kind::HouseCode => ffi::parity_house_code(name, words_ptr, words_len, values_ptr, values_len),
                 Kind::StoppingSets => ffi::parity_stopping_sets(
                     words_ptr, words_len, n, m, k, t, sets_ptr, sets_len, values_ptr, values_len,

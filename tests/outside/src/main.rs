@@ -1,5 +1,5 @@
 //! Tests of the library from outside. `outside` runs all parts; `outside model`, `calls`, `losses`, `records`,
-//! `taking_back`, `holders`, `determining`, `solving`, `sets`, `blocks`, `joining`, `soft`, `ranges`, `payloads`, `stack`, `demand3`, `codes`, `mend` run the parts named, and the name of a call, as `outside peel`, runs that kind of
+//! `taking_back`, `holders`, `determining`, `solving`, `sets`, `blocks`, `joining`, `marking`, `soft`, `ranges`, `payloads`, `stack`, `demand3`, `codes`, `mend` run the parts named, and the name of a call, as `outside peel`, runs that kind of
 //! call alone. Ends with a status that is not 0 at the first difference, with the whole input that shows it.
 //! OUTSIDE_LAST=FILE keeps the input of the last call in FILE.
 
@@ -18,6 +18,7 @@ mod holders;
 mod joining;
 mod library;
 mod losses;
+mod marking;
 mod mend;
 mod min_sum;
 mod model;
@@ -35,7 +36,7 @@ use model::{Kind, KINDS};
 use std::process::ExitCode;
 use std::time::Instant;
 
-const PARTS: [&str; 18] = [
+const PARTS: [&str; 19] = [
     "model",
     "calls",
     "losses",
@@ -47,6 +48,7 @@ const PARTS: [&str; 18] = [
     "sets",
     "blocks",
     "joining",
+    "marking",
     "soft",
     "ranges",
     "payloads",
@@ -93,6 +95,7 @@ fn run(part: &str, kinds: &[Kind]) -> Result<Outcome, String> {
         "sets" => noted(sets::run()),
         "blocks" => noted(blocks::run()),
         "joining" => noted(joining::run()),
+        "marking" => noted(marking::run()),
         "soft" => noted(soft::run()),
         "ranges" => noted(ranges::run()),
         "payloads" => noted(payloads::run()),

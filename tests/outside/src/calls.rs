@@ -7,6 +7,7 @@ use crate::generate;
 use crate::joining;
 use crate::min_sum;
 use crate::model::{self, Kind, Lent, Matrix, FORMS, KINDS, WORDS};
+use crate::packets;
 use crate::random::Random;
 use crate::soft::{self, Mix};
 use crate::stack;
@@ -151,7 +152,8 @@ impl Pools {
         } else {
             generate::small_given(r)
         };
-        if matches!(kind, Kind::Verify | Kind::Peel | Kind::Determine | Kind::MendBlock | Kind::MinSum) {
+        let spanned = [Kind::Verify, Kind::Peel, Kind::Determine, Kind::MendBlock, Kind::MinSum, Kind::MendPackets];
+        if spanned.contains(&kind) {
             Sample::new(matrix)
         } else {
             Sample { matrix, basis: Vec::new() }
@@ -264,6 +266,10 @@ fn good(r: &mut Random, kind: Kind, sample: &Sample) -> Lent {
             soft::fill(r, &mut lent, &codeword, mix);
             lent.rounds = soft::rounds(r, matrix);
         }
+        Kind::MendPackets => {
+            let length = r.pick(&[0, 1, 1, 1, 1, 1, 2, 2, 9]);
+            packets::fill(r, &mut lent, matrix, &sample.basis, length);
+        }
         Kind::HouseCode => {
             lent.name = r.below(5);
             lent.words = (0..WORDS).map(|_| r.next()).collect();
@@ -327,7 +333,7 @@ pub fn damages(kind: Kind) -> Vec<Damage> {
         Kind::Split => &[Pair, LowShare, LowShare, Full],
         Kind::TakeBack => &[Nothing, Nothing, NotBack, NotBack, NotBack],
         Kind::Orthogonalise => &[Full],
-        Kind::Verify | Kind::Extend | Kind::IsStopping => &[Lengths, Lengths, Bytes, Bytes, Bytes],
+        Kind::Verify | Kind::Extend | Kind::IsStopping | Kind::MendPackets => &[Lengths, Lengths, Bytes, Bytes, Bytes],
         Kind::Peel | Kind::Determine => {
             &[Lengths, Lengths, Bytes, Bytes, Contradiction, Contradiction, Contradiction, Contradiction]
         }
@@ -471,7 +477,7 @@ fn put_one_outside(r: &mut Random, matrix: &Matrix, words: &mut [u64]) {
     }
 }
 
-fn resized(r: &mut Random, bytes: &mut Vec<u8>, matrix: &Matrix) {
+pub fn resized(r: &mut Random, bytes: &mut Vec<u8>, matrix: &Matrix) {
     let now = bytes.len();
     let from = [
         0,
@@ -620,6 +626,7 @@ pub fn apply(r: &mut Random, damage: Damage, matrix: &Matrix, lent: &mut Lent) {
         Damage::Lengths => match lent.kind {
             Kind::Verify | Kind::IsStopping => resized(r, &mut lent.input, matrix),
             Kind::Peel | Kind::Determine | Kind::MendBlock | Kind::MessageBits => resized(r, &mut lent.word, matrix),
+            Kind::MendPackets => packets::resize(r, lent, matrix),
             Kind::MinSum => {
                 let length = r.pick(&[0, 512, min_sum::MESSAGES - 1, min_sum::MESSAGES + 1]);
                 match r.below(4) {
@@ -645,6 +652,7 @@ pub fn apply(r: &mut Random, damage: Damage, matrix: &Matrix, lent: &mut Lent) {
         },
         Damage::Bytes => match lent.kind {
             Kind::Peel | Kind::Determine | Kind::MendBlock => bad_bytes(r, &mut lent.word, 2),
+            Kind::MendPackets => bad_bytes(r, &mut lent.word, 1),
             Kind::MinSum => bad_bytes(r, &mut lent.word, 3),
             Kind::Verify => bad_bytes(r, &mut lent.input, 2),
             _ => bad_bytes(r, &mut lent.input, 1),
@@ -897,8 +905,10 @@ struct Tally {
     /// Answers whose first value is 1, and those whose first value is 0.
     yes: usize,
     no: usize,
-    /// Peelings and determinings that recover some sent bits and leave others, and those that do so in the added bits.
+    /// Peelings, determinings and blocks of packets that recover some sent bits and leave others, and those that do so in the added bits.
     partly: [usize; 2],
+    /// Blocks of packets with odd lanes.
+    odd: usize,
     /// Mended blocks by the stage named.
     stages: [usize; 3],
 }
@@ -916,6 +926,7 @@ pub fn run(named: &[Kind]) -> Result<usize, String> {
         pools.refresh(r);
         let mut tally = Tally::default();
         let mut done = CALLS;
+        let partial = matches!(kind, Kind::Peel | Kind::Determine | Kind::MendPackets);
         let mut one = |lent: &Lent, r: &mut Random| -> Result<(), String> {
             let (reply, _) = compare(lent, r)?;
             if reply.number == 0 {
@@ -925,10 +936,13 @@ pub fn run(named: &[Kind]) -> Result<usize, String> {
                     Some(1) => tally.yes += 1,
                     _ => {}
                 }
-                if matches!(kind, Kind::Peel | Kind::Determine) {
+                if partial {
                     for added in 0..2 {
                         tally.partly[added] += (reply.values[added] > 0 && reply.values[2 + added] > 0) as usize;
                     }
+                }
+                if kind == Kind::MendPackets {
+                    tally.odd += (reply.values[4] > 0) as usize;
                 }
                 if kind == Kind::MendBlock {
                     tally.stages[reply.values[0] as usize - 1] += 1;
@@ -970,6 +984,9 @@ pub fn run(named: &[Kind]) -> Result<usize, String> {
         if kind == Kind::MendBlock {
             println!("    by stage: {:?}", tally.stages);
         }
+        if kind == Kind::MendPackets {
+            println!("    with odd lanes: {}", tally.odd);
+        }
         // The inputs are good and bad in about equal parts, and every refusal was met.
         let yes_no = matches!(kind, Kind::Verify | Kind::IsStopping);
         let few = kind.refusals().iter().any(|&no| tally.refusals[no as usize] < 100)
@@ -977,7 +994,8 @@ pub fn run(named: &[Kind]) -> Result<usize, String> {
             || tally.answers > CALLS * 3 / 5
             || yes_no && (tally.yes < 1000 || tally.no < 1000)
             || kind == Kind::TakeBack && (tally.yes < 200 || tally.no < 200 || tally.refusals[16] < 500)
-            || matches!(kind, Kind::Peel | Kind::Determine) && (tally.partly[0] < 1000 || tally.partly[1] < 500)
+            || partial && (tally.partly[0] < 1000 || tally.partly[1] < 500)
+            || kind == Kind::MendPackets && tally.odd < 1000
             || kind == Kind::MendBlock && tally.stages.iter().any(|&number| number < 150);
         if few {
             return Err(format!("the inputs of {} are too much alike: a fault of this program", kind.name()));

@@ -69,6 +69,8 @@ pub fn lend(kind: Kind, matrix: &Matrix) -> Lent {
         floats: Vec::new(),
         message_bytes: Vec::new(),
         message_floats: Vec::new(),
+        packets: Vec::new(),
+        odd: Vec::new(),
     }
 }
 

@@ -28,6 +28,10 @@ pub fn describe(lent: &Lent) -> String {
         let (bytes, floats) = (&lent.message_bytes, &lent.message_floats);
         text += &format!("messages: {} bytes {:?}, {} floats {:08x?}\n", bytes.len(), bytes.first(), floats.len(), floats.first());
     }
+    if lent.kind == Kind::MendPackets {
+        text += &format!("packets, {}: {:016x?}\n", lent.packets.len(), lent.packets);
+        text += &format!("odd, {}: {:016x?}\n", lent.odd.len(), lent.odd);
+    }
     text
 }
 
@@ -80,6 +84,8 @@ pub fn compare_with(lent: &Lent, before: Vec<u64>) -> Result<(Reply, Lent), Stri
         first_difference("float", &found.floats, &due.floats),
         first_difference("message byte", &found.message_bytes, &due.message_bytes),
         first_difference("message float", &found.message_floats, &due.message_floats),
+        first_difference("word of the packets", &found.packets, &due.packets),
+        first_difference("word of the odd lanes", &found.odd, &due.odd),
     ];
     text.extend(places.into_iter().flatten());
     Err(text)

@@ -52,6 +52,8 @@ pub fn call(lent: &mut Lent, values: &mut [u64]) -> Result<u32, String> {
     let mut floats = Guarded::new(&lent.floats, guard as u32);
     let mut bytes = Guarded::new(&lent.message_bytes, guard as u8);
     let mut messages = Guarded::new(&lent.message_floats, guard as u32);
+    let mut packets = Guarded::new(&lent.packets, guard);
+    let mut odd = Guarded::new(&lent.odd, guard);
     let mut carried = Guarded::new(values, guard);
     let (n, m, k, u, v, name, t) = (lent.n, lent.m, lent.k, lent.u, lent.v, lent.name, lent.t);
     let rounds = lent.rounds;
@@ -66,6 +68,8 @@ pub fn call(lent: &mut Lent, values: &mut [u64]) -> Result<u32, String> {
     let (floats_ptr, floats_len) = (floats.content_mut() as *mut f32, floats.len());
     let (bytes_ptr, bytes_len) = (bytes.content_mut(), bytes.len());
     let (messages_ptr, messages_len) = (messages.content_mut() as *mut f32, messages.len());
+    let (packets_ptr, packets_len) = (packets.content_mut(), packets.len());
+    let (odd_ptr, odd_len) = (odd.content_mut(), odd.len());
     let (values_ptr, values_len) = (carried.content_mut(), carried.len());
     let mut number = 0;
     // Every pointer and length is that of a live vector's part, and no two overlap.
@@ -118,6 +122,10 @@ pub fn call(lent: &mut Lent, values: &mut [u64]) -> Result<u32, String> {
                     words_ptr, words_len, n, m, k, rounds, word_ptr, word_len, floats_ptr, floats_len, bytes_ptr, bytes_len,
                     messages_ptr, messages_len, values_ptr, values_len,
                 ),
+                Kind::MendPackets => ffi::parity_mend_packets(
+                    words_ptr, words_len, n, m, k, word_ptr, word_len, packets_ptr, packets_len, odd_ptr, odd_len,
+                    values_ptr, values_len,
+                ),
             }
         }
     });
@@ -131,12 +139,14 @@ pub fn call(lent: &mut Lent, values: &mut [u64]) -> Result<u32, String> {
     lent.floats.copy_from_slice(floats.content());
     lent.message_bytes.copy_from_slice(bytes.content());
     lent.message_floats.copy_from_slice(messages.content());
+    lent.packets.copy_from_slice(packets.content());
+    lent.odd.copy_from_slice(odd.content());
     values.copy_from_slice(carried.content());
     let joined = words2.intact() && words3.intact();
     let soft = floats.intact() && bytes.intact() && messages.intact();
     let intact =
         words.intact() && record.intact() && input.intact() && word.intact() && sets.intact() && carried.intact();
-    if !intact || !joined || !soft {
+    if !intact || !joined || !soft || !packets.intact() || !odd.intact() {
         return Err("the library wrote outside a lent slice".to_string());
     }
     held.map(|_| number)

@@ -1,5 +1,5 @@
 //! Tests of the library from outside. `outside` runs all parts; `outside model`, `calls`, `losses`, `records`,
-//! `taking_back`, `holders`, `determining`, `solving`, `sets`, `blocks`, `joining`, `marking`, `soft`, `ranges`, `payloads`, `stack`, `demand3`, `codes`, `mend` run the parts named, and the name of a call, as `outside peel`, runs that kind of
+//! `taking_back`, `holders`, `determining`, `solving`, `sets`, `blocks`, `joining`, `marking`, `soft`, `ranges`, `payloads`, `packets`, `stack`, `demand3`, `codes`, `mend` run the parts named, and the name of a call, as `outside peel`, runs that kind of
 //! call alone. Ends with a status that is not 0 at the first difference, with the whole input that shows it.
 //! OUTSIDE_LAST=FILE keeps the input of the last call in FILE.
 
@@ -23,6 +23,7 @@ mod mend;
 mod min_sum;
 mod model;
 mod payloads;
+mod packets;
 mod random;
 mod ranges;
 mod records;
@@ -36,7 +37,7 @@ use model::{Kind, KINDS};
 use std::process::ExitCode;
 use std::time::Instant;
 
-const PARTS: [&str; 19] = [
+const PARTS: [&str; 20] = [
     "model",
     "calls",
     "losses",
@@ -52,6 +53,7 @@ const PARTS: [&str; 19] = [
     "soft",
     "ranges",
     "payloads",
+    "packets",
     "stack",
     "demand3",
     "codes",
@@ -99,6 +101,7 @@ fn run(part: &str, kinds: &[Kind]) -> Result<Outcome, String> {
         "soft" => noted(soft::run()),
         "ranges" => noted(ranges::run()),
         "payloads" => noted(payloads::run()),
+        "packets" => noted(packets::run()),
         "stack" => noted(stack::run()),
         "demand3" => noted(demand3::run()),
         "codes" => noted(codes::run()),

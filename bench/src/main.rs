@@ -2,6 +2,9 @@
 //! prints tables in Markdown. Both sides are compared on every input before they are timed. Words of the command line are the
 //! starts of the rows' names that are wanted; without any, all rows are.
 
+mod lanes;
+mod packets;
+mod peers;
 mod plain;
 mod planes;
 mod program;
@@ -685,6 +688,10 @@ fn main() -> ExitCode {
     if result.is_ok() && wanted("min_sum_range") {
         println!("Ranges:\n");
         result = ranges::run(r);
+    }
+    if result.is_ok() && wanted("packets") {
+        println!("Packets:\n");
+        result = packets::run(r, &given);
     }
     match result {
         Ok(()) => ExitCode::SUCCESS,

@@ -1,6 +1,6 @@
 -- A plan carried out in the lanes of a tile, and tile by tile. Assumes nothing.
 use mathlib.Core.Path.{_≡_, refl, sym, _∙_, fun-ext}
-use mathlib.Core.Bool.{Bool, true, false, _||_, and-false}
+use mathlib.Core.Bool.{Bool, false, and-false}
 use mathlib.Core.List.{List}
 use Prim.Native.Nat.{ℕ, _+_, _*_, _-_, _/_, _%_, _^_, _≤_, _<_}
 use native.Mathlib.Nat.{mul-le-mul-right, zero-div}
@@ -13,18 +13,14 @@ use Rattle.lanes.specs.Lanes.{lane, Lists, listsOf, ran, Ran, Tested, pe
 use Rattle.lanes.specs.Tiles.{arrived, Loaded, Stored, Flagged, Mended, Empty, Ready, TileMended}
 use Rattle.lanes.proofs.Running.{ran-other}
 
-or-or : (a b c : Bool) → ((a || b) || c) ≡ (a || (b || c))
-or-or true b c = refl
-or-or false b c = refl
-
 -- the steps and tests in their order
 pub mends-all : (h k : Matrix) (B M : ℕ) (of at : List ℕ) (s : ℕ) (skip : ℕ → Bool) (none : List ℕ) (r L : ℕ) (rows bits : List ℕ) (t : ℕ) (x x₁ x₂ : Matrix) (f f₁ f₂ : ℕ → Bool)
-    → Ran h B of at s x x₁ → Tested h B 0 M skip x₁ f f₁ → none ≡ replicate 8 0 → Tested k B r L (lent 8 none 0) x₁ f₁ f₂ → Ran k B rows bits t x₁ x₂
-    → Mends h k B M (listsOf of at s skip r L rows bits t) x x₂ f f₂
+    → ((j : ℕ) → f j ≡ false) → Ran h B of at s x x₁ → Tested h B 0 M skip x₁ f f₁ → none ≡ replicate 8 0 → Tested k B r L (lent 8 none 0) x₁ f₁ f₂ → Ran k B rows bits t x₁ x₂
+    → Mends h k B M (listsOf of at s skip r L rows bits t) x x₂ f₂
 unfolding peeling mending contradicted
-mends-all h k B M of at s skip none r L rows bits t x x₁ x₂ f f₁ f₂ R T e U Z = record {
+mends-all h k B M of at s skip none r L rows bits t x x₁ x₂ f f₁ f₂ z R T e U Z = record {
   each = λ j b. Z .each j b ∙ rw (lanes j);
-  flags = λ j. U .at j ∙ rw (T .at j, empty, lanes j) (or-or (f j) _ _);
+  flags = λ j. U .at j ∙ rw (T .at j, z j, empty, lanes j);
 }
   where
     lanes : (j : ℕ) → lane x₁ j ≡ ran h B of at s (lane x j)
@@ -32,6 +28,10 @@ mends-all h k B M of at s skip none r L rows bits t x x₁ x₂ f f₁ f₂ R T 
 
     empty : lent 8 none 0 ≡ (λ c. false)
     empty = fun-ext (λ c. lent-empty 8 8 none e 0 c)
+
+-- a tile that is not used yet
+pub empty-tile : (n lanes : ℕ) (tile : List ℕ) → tile ≡ replicate 2048 0 → Empty n (lent lanes tile)
+empty-tile n lanes tile e = record { none = λ b j l. lent-empty lanes 2048 tile e b j }
 
 -- packets that are not there
 pub no-packet : (len n : ℕ) (xs : List ℕ) → length xs ≡ n * len → (b i : ℕ) → n ≤ b → lent len xs b i ≡ false
@@ -44,8 +44,8 @@ pub mending-other : (h k : Matrix) (B M n : ℕ) (p : Lists) → Ready n M p →
 unfolding mending peeling
 mending-other h k B M n p R o b l = ran-other k B (p .rows) (p .bits) (p .t) n _ (R .places) b l ∙ ran-other h B (p .of) (p .at) (p .s) n o (R .bits) b l
 
-module _ (h k : Matrix) (B M n : ℕ) (p : Lists) (R : Ready n M p) (lost left : ℕ → Bool) (from count : ℕ) (x x′ : Matrix) (t t₁ t₂ : Matrix) (f f′ : ℕ → Bool)
-    (E : Empty n t) (L : Loaded x lost from count n t t₁) (out : (b i : ℕ) → n ≤ b → x b i ≡ false) (X : Mends h k B M p t₁ t₂ f f′) (z : (j : ℕ) → f j ≡ false) where
+module _ (h k : Matrix) (B M n : ℕ) (p : Lists) (R : Ready n M p) (lost left : ℕ → Bool) (from count : ℕ) (x x′ : Matrix) (t t₁ t₂ : Matrix) (f′ : ℕ → Bool)
+    (E : Empty n t) (L : Loaded x lost from count n t t₁) (out : (b i : ℕ) → n ≤ b → x b i ≡ false) (X : Mends h k B M p t₁ t₂ f′) where
   pub empty-still : Empty n t₂
   empty-still = record { none = λ b j l. X .each j b ∙ mending-other h k B M n p R (lane t₁ j) b l ∙ L .else b j l ∙ E .none b j l }
 
@@ -58,7 +58,7 @@ module _ (h k : Matrix) (B M n : ℕ) (p : Lists) (R : Ready n M p) (lost left :
   ])
 
   flag-at : (j : ℕ) → j < count * 64 → f′ j ≡ contradicted h k B M p (arrived x lost (from * 64 + j))
-  flag-at j l = X .flags j ∙ rw (z j, lanes j l)
+  flag-at j l = X .flags j ∙ rw (lanes j l)
 
   pub tile-mended : Stored lost left from count n t₂ f′ x x′ → (y y′ : ℕ → Bool) → Flagged from count f′ y y′ → TileMended h k B M p lost left n from count x x′ y y′
   tile-mended S y y′ F = record {

@@ -13,27 +13,24 @@ use Rattle.parity.specs.Finite.{any}
 use Rattle.parity.specs.Matrix.{Matrix}
 use Rattle.parity.specs.Words.{inside, odd}
 use Rattle.parity.proofs.Finite.Firsts.{any-none}
-use Rattle.lanes.specs.Lanes.{lane, either, solvedBy, ran, Ran, uneven, Tested, SumOf, Low}
+use Rattle.lanes.specs.Lanes.{lane, either, Solved, solvedBy, ran, Ran, uneven, Checked, Tested, SumOf, Low}
 use Rattle.lanes.proofs.Putting.{either-at, either-else}
 
 pub ran-none : (h : Matrix) (B : ℕ) (of at : List ℕ) (x : Matrix) → Ran h B of at 0 x x
 unfolding ran
 ran-none h B of at x = record { each = λ j b. refl }
 
-pub ran-next : (h : Matrix) (B : ℕ) (of at : List ℕ) (s : ℕ) (x y z : Matrix) (r : ℕ → Bool) → Ran h B of at s x y → SumOf h B (getD of s 0) y r
-    → z ≡ either (getD at s 0) r y → Ran h B of at (s + 1) x z
+pub ran-next : (h : Matrix) (B : ℕ) (of at : List ℕ) (s : ℕ) (x y z : Matrix) → Ran h B of at s x y → Solved h B (getD of s 0) (getD at s 0) y z → Ran h B of at (s + 1) x z
 unfolding ran solvedBy
-ran-next h B of at s x y z r R S e = rw (add-one s) record {
-  each = λ j b. ap (λ (g : Matrix). g b j) e ∙ step j b;
-}
+ran-next h B of at s x y z R S = rw (add-one s) record { each = λ j b. step j b }
   where
     lanes : (j : ℕ) → lane y j ≡ ran h B of at s (lane x j)
     lanes j = fun-ext (R .each j)
 
-    step : (j b : ℕ) → either (getD at s 0) r y b j ≡ ran h B of at (suc s) (lane x j) b
+    step : (j b : ℕ) → z b j ≡ ran h B of at (suc s) (lane x j) b
     step j b = elim (ℕ-discrete b (getD at s 0)) [
-      | yes q ↦ rw (q, eq-eqb (getD at s 0) (getD at s 0) refl) (either-at (getD at s 0) r y j ∙ rw (S .at j, lanes j, R .each j (getD at s 0)))
-      | no d ↦ rw (ne-eqb b (getD at s 0) d, or-false) (either-else (getD at s 0) r y b j d ∙ R .each j b)
+      | yes q ↦ rw (q, eq-eqb (getD at s 0) (getD at s 0) refl) (S .here j ∙ rw (lanes j, R .each j (getD at s 0)))
+      | no d ↦ rw (ne-eqb b (getD at s 0) d, or-false) (S .else b j d ∙ R .each j b)
     ]
 
 -- bits that no step solves stay
@@ -51,10 +48,10 @@ tested-none h B first skip x f = record { at = λ j. sym (rw (any-none first (λ
     above : (c : ℕ) → c < first → leb first c ≡ false
     above c l = lt-leb first c l
 
-pub tested-next : (h : Matrix) (B first c : ℕ) (skip : ℕ → Bool) (x : Matrix) (f g g′ r : ℕ → Bool) → first ≤ c → Tested h B first c skip x f g → skip c ≡ false
-    → SumOf h B c x r → ((j : ℕ) → g′ j ≡ (g j || r j)) → Tested h B first (c + 1) skip x f g′
+pub tested-next : (h : Matrix) (B first c : ℕ) (skip : ℕ → Bool) (x : Matrix) (f g g′ : ℕ → Bool) → first ≤ c → Tested h B first c skip x f g → skip c ≡ false
+    → Checked h B c x g g′ → Tested h B first (c + 1) skip x f g′
 unfolding uneven any
-tested-next h B first c skip x f g g′ r k T q S e = rw (add-one c) record { at = λ j. e j ∙ rw (T .at j, S .at j) (go j) }
+tested-next h B first c skip x f g g′ k T q S = rw (add-one c) record { at = λ j. S .at j ∙ rw (T .at j) (go j) }
   where
     or-assoc : (p q r : Bool) → ((p || q) || r) ≡ (p || (q || r))
     or-assoc true q r = refl
@@ -70,5 +67,12 @@ tested-skip h B first c skip x f g T q = rw (add-one c) record { at = λ j. T .a
     go : (j : ℕ) → (f j || uneven h B first c skip (lane x j)) ≡ (f j || uneven h B first (suc c) skip (lane x j))
     go j = rw (q, and-false, or-false)
 
-pub either-row : (r : ℕ → Bool) (y z : Matrix) → z ≡ either 0 r y → (j : ℕ) → z 0 j ≡ (y 0 j || r j)
-either-row r y z e j = ap (λ (g : Matrix). g 0 j) e ∙ either-at 0 r y j
+-- what a sum that enters a row solves, and what it flags
+pub solved-by : (h : Matrix) (B c b : ℕ) (x x′ : Matrix) (r : ℕ → Bool) → SumOf h B c x r → x′ ≡ either b r x → Solved h B c b x x′
+solved-by h B c b x x′ r S e = record {
+  here = λ j. ap (λ (g : Matrix). g b j) e ∙ either-at b r x j ∙ rw (S .at j);
+  else = λ a j d. ap (λ (g : Matrix). g a j) e ∙ either-else b r x a j d;
+}
+
+pub checked-by : (h : Matrix) (B c : ℕ) (x : Matrix) (r : ℕ → Bool) (y z : Matrix) → SumOf h B c x r → z ≡ either 0 r y → Checked h B c x (y 0) (z 0)
+checked-by h B c x r y z S e = record { at = λ j. ap (λ (g : Matrix). g 0 j) e ∙ either-at 0 r y j ∙ rw (S .at j) }

@@ -25,6 +25,11 @@ pub record SumOf (h : Matrix) (B c : ℕ) (x : Matrix) (s : ℕ → Bool) : Type
 unfoldable pub either : ℕ → (ℕ → Bool) → Matrix → Matrix
 either c row x b j = cond (eqb b c) (x b j || row j) (x b j)
 
+-- Bit b is solved by check c in every lane: it enters if the check contains an odd number of the lane's bits.
+pub record Solved (h : Matrix) (B c b : ℕ) (x x′ : Matrix) : Type 0 where
+  pub here : (j : ℕ) → x′ b j ≡ (x b j || odd (inside h B c (lane x j)))
+  pub else : (a j : ℕ) → (a ≡ b → ⊥) → x′ a j ≡ x a j
+
 -- Bit b of the set o is solved by check c: it enters if the check contains an odd number of the set's bits.
 unfoldable pub solvedBy : Matrix → ℕ → ℕ → ℕ → (ℕ → Bool) → ℕ → Bool
 solvedBy h B c b o a = o a || (eqb a b && odd (inside h B c o))
@@ -41,6 +46,10 @@ pub record Ran (h : Matrix) (B : ℕ) (of at : List ℕ) (s : ℕ) (x x′ : Mat
 -- Some check from `first` up to `end` that is not skipped contains an odd number of the set's bits.
 unfoldable pub uneven : Matrix → ℕ → ℕ → ℕ → (ℕ → Bool) → (ℕ → Bool) → Bool
 uneven h B first end skip o = any end (λ c. leb first c && (not (skip c) && odd (inside h B c o)))
+
+-- the lanes in which check c contains an odd number of bits are flagged besides
+pub record Checked (h : Matrix) (B c : ℕ) (x : Matrix) (f f′ : ℕ → Bool) : Type 0 where
+  pub at : (j : ℕ) → f′ j ≡ (f j || odd (inside h B c (lane x j)))
 
 -- the lanes where this is so are flagged besides
 pub record Tested (h : Matrix) (B first end : ℕ) (skip : ℕ → Bool) (x : Matrix) (f f′ : ℕ → Bool) : Type 0 where
@@ -79,7 +88,7 @@ contradicted h k B M p o = uneven h B 0 M (p .skip) (peeling h B p o) || uneven 
 abbrev pub listsOf : List ℕ → List ℕ → ℕ → (ℕ → Bool) → ℕ → ℕ → List ℕ → List ℕ → ℕ → Lists
 listsOf of at s skip r L rows bits t = record { of = of; at = at; s = s; skip = skip; none = λ c. false; r = r; L = L; rows = rows; bits = bits; t = t }
 
--- the plan carried out in every lane of the rows x, where lanes are flagged
-pub record Mends (h k : Matrix) (B M : ℕ) (p : Lists) (x x′ : Matrix) (f f′ : ℕ → Bool) : Type 0 where
+-- the plan carried out in every lane of the rows x; the contradicted lanes are flagged
+pub record Mends (h k : Matrix) (B M : ℕ) (p : Lists) (x x′ : Matrix) (f : ℕ → Bool) : Type 0 where
   pub each : (j b : ℕ) → x′ b j ≡ mending h k B p (lane x j) b
-  pub flags : (j : ℕ) → f′ j ≡ (f j || contradicted h k B M p (lane x j))
+  pub flags : (j : ℕ) → f j ≡ contradicted h k B M p (lane x j)

@@ -7,7 +7,7 @@ use Rattle.parity.specs.Matrix.{Matrix}
 use mathlib.Core.List.{List}
 use lib.ListN.{length}
 use Rattle.lanes.specs.Lanes.{Lists, listsOf, mending, contradicted, Low}
-use Rattle.lanes.specs.declared.mend.Plan.{Plan}
+use Rattle.lanes.specs.declared.Plan.{Plan}
 
 -- the ones of lane i of the packets x that arrived, those that are not lost
 unfoldable pub arrived : Matrix → (ℕ → Bool) → ℕ → ℕ → Bool

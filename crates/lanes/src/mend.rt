@@ -1,4 +1,5 @@
 // A plan carried out in the lanes of packets, tile by tile.
+use crate::Plan;
 use crate::run::solve_in;
 use crate::run::test_in;
 use crate::tiles::load;
@@ -11,105 +12,29 @@ ghost use Rattle.parity.specs.Matrix.{lent};
 ghost use Rattle.lanes.specs.Lanes.{Mends};
 ghost use Rattle.lanes.specs.Tiles.{planLists, Fitting, Ready, Empty, TileMended, Mended};
 
-// The numbers of a plan, for `bits` bits and `checks` checks of which `used` words are in use: `steps` steps by checks, tests of the checks that are not skipped and of the rows
-// from `first` up to `end`, and then `more` steps by rows.
-pub struct Plan {
-    pub used: usize,
-    pub bits: usize,
-    pub checks: usize,
-    pub steps: usize,
-    pub first: usize,
-    pub end: usize,
-    pub more: usize,
-}
-
-// The plan is carried out in the lanes of a tile. Lanes in which a test fails are flagged.
+// The plan is carried out in the lanes of a tile. The answer has the lanes in which a test fails.
 fn run(
     words: &[u64],
     skip: &[u64],
-    of: &[u16],
-    at: &[u16],
-    rows: &[u64],
-    by: &[u16],
-    into: &[u16],
+    checks: &[u16],
+    bits: &[u16],
+    reduced: &[u64],
+    rows: &[u16],
+    pivots: &[u16],
     p: Plan,
     tile: &mut [u64],
-    lanes: usize,
-    flags: &mut [u64],
-)
-    requires { ⌜ Fitting p (now words) (now skip) (now of) (now at) (now rows) (now by) (now into) × Ready (p .used * 64) (p .checks) (planLists p (lent 8 (now skip) 0) (now of) (now at) (now by) (now into)) ⌝ }
-    requires { ⌜ (p .used * 64 * lanes ≤ length (now tile)) × (lanes ≤ 8) × (lanes ≤ length (now flags)) ⌝ }
-    ensures { λ _. ⌜ Mends (lent 8 (now (words .entry))) (lent (p .used) (now (rows .entry))) (p .used * 64) (p .checks) (planLists p (lent 8 (now (skip .entry)) 0) (now (of .entry)) (now (at .entry)) (now (by .entry)) (now (into .entry))) (lent lanes (now (tile .entry))) (lent lanes (now (tile .exit))) (lent lanes (now (flags .entry)) 0) (lent lanes (now (flags .exit)) 0) ⌝ }
+) -> [u64; 8]
+    requires { ⌜ Fitting p (now words) (now skip) (now checks) (now bits) (now reduced) (now rows) (now pivots) × Ready (p .used * 64) (p .checks) (planLists p (lent 8 (now skip) 0) (now checks) (now bits) (now rows) (now pivots)) ⌝ }
+    requires { ⌜ (p .used * 64 * p .lanes ≤ length (now tile)) × (p .lanes ≤ 8) ⌝ }
+    ensures { λ r. ⌜ (length r ≡ 8) × Mends (lent 8 (now (words .entry))) (lent (p .used) (now (reduced .entry))) (p .used * 64) (p .checks) (planLists p (lent 8 (now (skip .entry)) 0) (now (checks .entry)) (now (bits .entry)) (now (rows .entry)) (now (pivots .entry))) (lent (p .lanes) (now (tile .entry))) (lent (p .lanes) (now (tile .exit))) (lent (p .lanes) r 0) ⌝ }
 {
     let none = [0u64; 8];
-    solve_in(words, 8, p.used, of, at, p.steps, tile, lanes, p.checks);
-    test_in(words, 8, p.used, 0, p.checks, skip, tile, lanes, flags);
-    test_in(
-        rows,
-        p.used,
-        p.used,
-        p.first,
-        p.end,
-        &none,
-        tile,
-        lanes,
-        flags,
-    );
-    solve_in(rows, p.used, p.used, by, into, p.more, tile, lanes, p.end);
-}
-
-// The `count` words from `from` on of every packet are mended.
-fn mend_tile(
-    words: &[u64],
-    skip: &[u64],
-    of: &[u16],
-    at: &[u16],
-    rows: &[u64],
-    by: &[u16],
-    into: &[u16],
-    p: Plan,
-    lost: &[u64],
-    left: &[u64],
-    packets: &mut [u64],
-    len: usize,
-    from: usize,
-    count: usize,
-    odd: &mut [u64],
-    tile: &mut [u64],
-    lanes: usize,
-)
-    requires { ⌜ Fitting p (now words) (now skip) (now of) (now at) (now rows) (now by) (now into) × Ready (p .bits) (p .checks) (planLists p (lent 8 (now skip) 0) (now of) (now at) (now by) (now into)) ⌝ }
-    requires { ⌜ (p .bits ≤ p .used * 64) × (length (now lost) ≡ 8) × (length (now left) ≡ 8) × (length (now packets) ≡ p .bits * len) × (length (now odd) ≡ len) × (from + count ≤ len) × (count ≤ lanes) × (p .used * 64 * lanes ≤ length (now tile)) × (lanes ≤ 8) × Empty (p .bits) (lent lanes (now tile)) ⌝ }
-    ensures { λ _. ⌜ Empty (p .bits) (lent lanes (now (tile .exit))) × TileMended (lent 8 (now (words .entry))) (lent (p .used) (now (rows .entry))) (p .used * 64) (p .checks) (planLists p (lent 8 (now (skip .entry)) 0) (now (of .entry)) (now (at .entry)) (now (by .entry)) (now (into .entry))) (lent 8 (now (lost .entry)) 0) (lent 8 (now (left .entry)) 0) (p .bits) from count (lent len (now (packets .entry))) (lent len (now (packets .exit))) (lent len (now (odd .entry)) 0) (lent len (now (odd .exit)) 0) ⌝ }
-{
     let mut flags = [0u64; 8];
-    load(packets, len, p.bits, lost, from, count, tile, lanes);
-    run(
-        words,
-        skip,
-        of,
-        at,
-        rows,
-        by,
-        into,
-        p,
-        tile,
-        lanes,
-        &mut flags,
-    );
-    store(
-        packets,
-        len,
-        p.bits,
-        lost,
-        left,
-        from,
-        count,
-        tile,
-        lanes,
-        &flags,
-    );
-    put_flags(odd, from, count, &flags, lanes);
+    solve_in(words, 8, p.checks, checks, bits, p.steps, p, tile);
+    test_in(words, 8, 0, p.checks, skip, p, tile, &mut flags);
+    test_in(reduced, p.used, p.first, p.end, &none, p, tile, &mut flags);
+    solve_in(reduced, p.used, p.end, rows, pivots, p.more, p, tile);
+    flags
 }
 
 // How many words the tile from `from` on has.
@@ -124,50 +49,73 @@ fn part(len: usize, from: usize, lanes: usize) -> usize
     lanes
 }
 
-// The packets are mended, tile by tile. The tile's rows behind those of bits are empty.
-pub fn mend(
+// The words of every packet from `from` on that a tile takes are mended. The answer is their number.
+fn mend_tile(
     words: &[u64],
     skip: &[u64],
-    of: &[u16],
-    at: &[u16],
-    rows: &[u64],
-    by: &[u16],
-    into: &[u16],
+    checks: &[u16],
+    bits: &[u16],
+    reduced: &[u64],
+    rows: &[u16],
+    pivots: &[u16],
     p: Plan,
     lost: &[u64],
     left: &[u64],
     packets: &mut [u64],
     odd: &mut [u64],
     tile: &mut [u64],
-    lanes: usize,
-)
-    requires { ⌜ Fitting p (now words) (now skip) (now of) (now at) (now rows) (now by) (now into) × Ready (p .bits) (p .checks) (planLists p (lent 8 (now skip) 0) (now of) (now at) (now by) (now into)) ⌝ }
-    requires { ⌜ (p .bits ≤ p .used * 64) × (length (now lost) ≡ 8) × (length (now left) ≡ 8) × (length (now packets) ≡ p .bits * length (now odd)) × (0 < lanes) × (p .used * 64 * lanes ≤ length (now tile)) × (lanes ≤ 8) × Empty (p .bits) (lent lanes (now tile)) ⌝ }
-    ensures { λ _. ⌜ Mended (lent 8 (now (words .entry))) (lent (p .used) (now (rows .entry))) (p .used * 64) (p .checks) (planLists p (lent 8 (now (skip .entry)) 0) (now (of .entry)) (now (at .entry)) (now (by .entry)) (now (into .entry))) (lent 8 (now (lost .entry)) 0) (lent 8 (now (left .entry)) 0) (p .bits) (length (now (odd .entry)) * 64) (lent (length (now (odd .entry))) (now (packets .entry))) (lent (length (now (odd .entry))) (now (packets .exit))) (lent (length (now (odd .entry))) (now (odd .exit)) 0) ⌝ }
+    from: usize,
+) -> usize
+    requires { ⌜ Fitting p (now words) (now skip) (now checks) (now bits) (now reduced) (now rows) (now pivots) × Ready (p .bits) (p .checks) (planLists p (lent 8 (now skip) 0) (now checks) (now bits) (now rows) (now pivots)) ⌝ }
+    requires { ⌜ (p .bits ≤ p .used * 64) × (length (now lost) ≡ 8) × (length (now left) ≡ 8) × (length (now packets) ≡ p .bits * length (now odd)) × (0 < p .lanes) × (p .used * 64 * p .lanes ≤ length (now tile)) × (p .lanes ≤ 8) × Empty (p .bits) (lent (p .lanes) (now tile)) × (from < length (now odd)) ⌝ }
+    ensures { λ r. ⌜ (0 < r) × (from + r ≤ length (now (odd .entry))) × Empty (p .bits) (lent (p .lanes) (now (tile .exit))) × TileMended (lent 8 (now (words .entry))) (lent (p .used) (now (reduced .entry))) (p .used * 64) (p .checks) (planLists p (lent 8 (now (skip .entry)) 0) (now (checks .entry)) (now (bits .entry)) (now (rows .entry)) (now (pivots .entry))) (lent 8 (now (lost .entry)) 0) (lent 8 (now (left .entry)) 0) (p .bits) from r (lent (length (now (odd .entry))) (now (packets .entry))) (lent (length (now (odd .entry))) (now (packets .exit))) (lent (length (now (odd .entry))) (now (odd .entry)) 0) (lent (length (now (odd .entry))) (now (odd .exit)) 0) ⌝ }
 {
     let len = odd.len();
+    let count = part(len, from, p.lanes);
+    load(packets, len, p, lost, from, count, tile);
+    let flags = run(words, skip, checks, bits, reduced, rows, pivots, p, tile);
+    store(packets, len, p, lost, left, from, count, tile, &flags);
+    put_flags(odd, from, count, &flags, p.lanes);
+    count
+}
+
+// The packets are mended, tile by tile.
+pub fn mend(
+    words: &[u64],
+    skip: &[u64],
+    checks: &[u16],
+    bits: &[u16],
+    reduced: &[u64],
+    rows: &[u16],
+    pivots: &[u16],
+    p: Plan,
+    lost: &[u64],
+    left: &[u64],
+    packets: &mut [u64],
+    odd: &mut [u64],
+)
+    requires { ⌜ Fitting p (now words) (now skip) (now checks) (now bits) (now reduced) (now rows) (now pivots) × Ready (p .bits) (p .checks) (planLists p (lent 8 (now skip) 0) (now checks) (now bits) (now rows) (now pivots)) ⌝ }
+    requires { ⌜ (p .bits ≤ p .used * 64) × (length (now lost) ≡ 8) × (length (now left) ≡ 8) × (length (now packets) ≡ p .bits * length (now odd)) × (0 < p .lanes) × (p .used * 64 * p .lanes ≤ 2048) × (p .lanes ≤ 8) ⌝ }
+    ensures { λ _. ⌜ Mended (lent 8 (now (words .entry))) (lent (p .used) (now (reduced .entry))) (p .used * 64) (p .checks) (planLists p (lent 8 (now (skip .entry)) 0) (now (checks .entry)) (now (bits .entry)) (now (rows .entry)) (now (pivots .entry))) (lent 8 (now (lost .entry)) 0) (lent 8 (now (left .entry)) 0) (p .bits) (length (now (odd .entry)) * 64) (lent (length (now (odd .entry))) (now (packets .entry))) (lent (length (now (odd .entry))) (now (packets .exit))) (lent (length (now (odd .entry))) (now (odd .exit)) 0) ⌝ }
+{
+    let mut tile = [0u64; 2048];
     let mut from: usize = 0;
-    while from < len {
-        let count = part(len, from, lanes);
-        mend_tile(
+    while from < odd.len() {
+        from += mend_tile(
             words,
             skip,
-            of,
-            at,
+            checks,
+            bits,
+            reduced,
             rows,
-            by,
-            into,
+            pivots,
             p,
             lost,
             left,
             packets,
-            len,
-            from,
-            count,
             odd,
-            tile,
-            lanes,
+            &mut tile,
+            from,
         );
-        from += count;
     }
 }

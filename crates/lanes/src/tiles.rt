@@ -1,4 +1,5 @@
 // Tiles: a few words of every packet are brought into rows side by side, and put back.
+use crate::Plan;
 use rows::contains;
 ghost use mathlib.Core.Path.{_≡_};
 ghost use Prim.Native.Nat.{_+_, _*_, _≤_};
@@ -37,25 +38,24 @@ fn blank_row(b: usize, tile: &mut [u64], lanes: usize)
     }
 }
 
-// The words of the first `bits` packets from `from` on become rows; a packet that is lost has an empty row.
+// The words of the plan's packets from `from` on become rows; a packet that is lost has an empty row.
 pub fn load(
     packets: &[u64],
     len: usize,
-    bits: usize,
+    p: Plan,
     lost: &[u64],
     from: usize,
     count: usize,
     tile: &mut [u64],
-    lanes: usize,
 )
-    requires { ⌜ (bits * len ≤ length (now packets)) × (bits ≤ 512) × (length (now lost) ≡ 8) × (from + count ≤ len) × (count ≤ lanes) × (bits * lanes ≤ length (now tile)) ⌝ }
-    ensures { λ _. ⌜ Loaded (lent len (now (packets .entry))) (lent 8 (now (lost .entry)) 0) from count bits (lent lanes (now (tile .entry))) (lent lanes (now (tile .exit))) ⌝ }
+    requires { ⌜ (p .bits * len ≤ length (now packets)) × (p .bits ≤ 512) × (length (now lost) ≡ 8) × (from + count ≤ len) × (count ≤ p .lanes) × (p .bits * p .lanes ≤ length (now tile)) ⌝ }
+    ensures { λ _. ⌜ Loaded (lent len (now (packets .entry))) (lent 8 (now (lost .entry)) 0) from count (p .bits) (lent (p .lanes) (now (tile .entry))) (lent (p .lanes) (now (tile .exit))) ⌝ }
 {
-    for b in 0..bits {
+    for b in 0..p.bits {
         if contains(lost, 8, 0, b) {
-            blank_row(b, tile, lanes);
+            blank_row(b, tile, p.lanes);
         } else {
-            take_row(packets, len, from, count, b, tile, lanes);
+            take_row(packets, len, from, count, b, tile, p.lanes);
         }
     }
 }
@@ -85,22 +85,21 @@ fn return_row(
 pub fn store(
     packets: &mut [u64],
     len: usize,
-    bits: usize,
+    p: Plan,
     lost: &[u64],
     left: &[u64],
     from: usize,
     count: usize,
     tile: &[u64],
-    lanes: usize,
     flags: &[u64],
 )
-    requires { ⌜ (bits * len ≤ length (now packets)) × (bits ≤ 512) × (length (now lost) ≡ 8) × (length (now left) ≡ 8) × (from + count ≤ len) × (count ≤ lanes) × (bits * lanes ≤ length (now tile)) × (lanes ≤ length (now flags)) ⌝ }
-    ensures { λ _. ⌜ Stored (lent 8 (now (lost .entry)) 0) (lent 8 (now (left .entry)) 0) from count bits (lent lanes (now (tile .entry))) (lent lanes (now (flags .entry)) 0) (lent len (now (packets .entry))) (lent len (now (packets .exit))) ⌝ }
+    requires { ⌜ (p .bits * len ≤ length (now packets)) × (p .bits ≤ 512) × (length (now lost) ≡ 8) × (length (now left) ≡ 8) × (from + count ≤ len) × (count ≤ p .lanes) × (p .bits * p .lanes ≤ length (now tile)) × (p .lanes ≤ length (now flags)) ⌝ }
+    ensures { λ _. ⌜ Stored (lent 8 (now (lost .entry)) 0) (lent 8 (now (left .entry)) 0) from count (p .bits) (lent (p .lanes) (now (tile .entry))) (lent (p .lanes) (now (flags .entry)) 0) (lent len (now (packets .entry))) (lent len (now (packets .exit))) ⌝ }
 {
-    for b in 0..bits {
+    for b in 0..p.bits {
         if contains(lost, 8, 0, b) {
             if !contains(left, 8, 0, b) {
-                return_row(packets, len, from, count, b, tile, lanes, flags);
+                return_row(packets, len, from, count, b, tile, p.lanes, flags);
             }
         }
     }

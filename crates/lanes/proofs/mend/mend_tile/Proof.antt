@@ -1,49 +1,46 @@
 -- `mend::mend_tile` meets its contract. Assumes nothing.
-use mathlib.Core.Path.{refl, _∙_}
+use mathlib.Core.Path.{sym, _∙_}
 use native.Mathlib.Nat.{mul-le-mul-right}
+use lib.ListN.{length}
 use Rattle.parity.specs.Matrix.{lent}
-use Rattle.parity.proofs.Matrix.Lent.{lent-empty}
 use Rattle.lanes.proofs.Mending.{ready-wider, no-packet, empty-still, tile-mended}
 use native.Mathlib.Omega.{arith}
 use borrow.Author.Needs.{needs}
 use Rattle.lanes.proofs.mend.mend_tile.Statement.{statement}
 use Rattle.lanes.proofs.mend.mend_tile.Tie as tie
 
+part-requires : tie.Need-part-requires
+part-requires c κs = (c .before .before .before .before .before .before .before .before .before .before .before .before .pre .1 .8, c .before .before .before .before .before .before .before .before .before .before .before .before .pre .1 .4)
+
 load-requires : tie.Need-load-requires
 load-requires c κs =
-    let s = c .before .before .before .before .before .before .before .before .before .before .before .before .before .before in
+    let s = c .before .before .before .before .before .before .before .before .before .before .before .before .before .before .before in
     let q = s .pre .1 in
-    (omega (arith, q .3), omega (arith, q .0, s .pre .0 .0 .used), q .1, q .5, q .6, omega (arith, q .7, mul-le-mul-right (s .args .lanes) (q .0)))
-
-slice-aggregate-run : tie.Need-slice-aggregate-run
-slice-aggregate-run c = search needs
+    let r = c .before .before .part .ensures in
+    (omega (arith, q .3), omega (arith, q .0, s .pre .0 .0 .used), q .1, r .2, r .1, omega (arith, q .5, mul-le-mul-right (s .args .p .lanes) (q .0)))
 
 run-requires : tie.Need-run-requires
 run-requires c κs =
     let s = c .before .before .before .before .before .before .before .before .before .before .before .before .before .before .before .before .before .before .before in
     let q = s .pre .1 in
-    ((s .pre .0 .0, ready-wider _ _ _ _ (q .0) (s .pre .0 .1)), (omega (arith, q .7, c .before .before .before .before .load .kept .1 .1 .1 .1 .1 .1 .0), q .8, q .8))
+    ((s .pre .0 .0, ready-wider _ _ _ _ (q .0) (s .pre .0 .1)), (omega (arith, q .5, c .before .before .before .load .kept .1 .1 .1 .1 .1 .1 .0), q .6))
 
 slice-aggregate-store : tie.Need-slice-aggregate-store
-slice-aggregate-store c = search needs
+slice-aggregate-store c = sym (c .before .before .before .before .before .run .ensures .0)
 
 store-requires : tie.Need-store-requires
 store-requires c κs =
-    let s = c .before .before .before .before .before .before .before .before .before .before .before .before .before .before .before .before .before .before .before .before .before .before .before .before .before .before in
+    let s = c .before .before .before .before .before .before .before .before .before .before .before .before .before .before .before .before .before .before .before .before .before .before .before .before .before in
     let q = s .pre .1 in
-    let t = c .before .before .before .before .before .before .run .kept .1 .1 .1 .1 .1 .1 .1 .1 .0 ∙ c .before .before .before .before .before .before .before .before .before .before .before .load .kept .1 .1 .1 .1 .1 .1 .0 in
-    let f = c .before .before .before .before .before .before .run .kept .1 .1 .1 .1 .1 .1 .1 .1 .1 .1 .0 in
-    (omega (arith, q .3), omega (arith, q .0, s .pre .0 .0 .used), q .1, q .2, q .5, q .6, omega (arith, q .7, t, mul-le-mul-right (s .args .lanes) (q .0)), omega (arith, f, q .8))
+    let r = c .before .before .before .before .before .before .before .before .before .before .before .before .part .ensures in
+    let t = c .before .before .before .before .before .run .kept .1 .1 .1 .1 .1 .1 .1 .1 .0 ∙ c .before .before .before .before .before .before .before .before .before .load .kept .1 .1 .1 .1 .1 .1 .0 in
+    (omega (arith, q .3), omega (arith, q .0, s .pre .0 .0 .used), q .1, q .2, r .2, r .1, omega (arith, q .5, t, mul-le-mul-right (s .args .p .lanes) (q .0)), omega (arith, c .before .before .before .before .before .run .ensures .0, q .6))
 
 slice-aggregate-put-flags : tie.Need-slice-aggregate-put-flags
-slice-aggregate-put-flags c = search needs
+slice-aggregate-put-flags c = sym (c .before .before .before .before .before .before .before .before .before .before .run .ensures .0)
 
 put-flags-requires : tie.Need-put-flags-requires
-put-flags-requires c κs =
-    let s = c .before .before .before .before .before .before .before .before .before .before .before .before .before .before .before .before .before .before .before .before .before .before .before .before .before .before .before .before .before .before .before in
-    let q = s .pre .1 in
-    let f = c .before .before .before .before .before .before .before .before .before .before .before .run .kept .1 .1 .1 .1 .1 .1 .1 .1 .1 .1 .0 in
-    (omega (arith, q .4, q .5), q .6, omega (arith, f, q .8))
+put-flags-requires c κs = (c .before .before .before .before .before .before .before .before .before .before .before .before .before .before .before .before .before .part .ensures .2, c .before .before .before .before .before .before .before .before .before .before .before .before .before .before .before .before .before .part .ensures .1, omega (arith, c .before .before .before .before .before .before .before .before .before .before .run .ensures .0, c .before .before .before .before .before .before .before .before .before .before .before .before .before .before .before .before .before .before .before .before .before .before .before .before .before .before .before .before .before .before .pre .1 .6))
 
 same-length : tie.Need-same-length
 same-length c = c .before .before .before .before .before .before .before .store .kept .0
@@ -52,26 +49,28 @@ same-length-2 : tie.Need-same-length-2
 same-length-2 c = c .before .before .put-flags .kept .0
 
 same-length-3 : tie.Need-same-length-3
-same-length-3 c = c .before .before .before .before .before .before .before .before .before .before .before .before .before .before .run .kept .1 .1 .1 .1 .1 .1 .1 .1 .0 ∙ c .before .before .before .before .before .before .before .before .before .before .before .before .before .before .before .before .before .before .before .load .kept .1 .1 .1 .1 .1 .1 .0
+same-length-3 c = c .before .before .before .before .before .before .before .before .before .before .before .before .before .run .kept .1 .1 .1 .1 .1 .1 .1 .1 .0 ∙ c .before .before .before .before .before .before .before .before .before .before .before .before .before .before .before .before .before .load .kept .1 .1 .1 .1 .1 .1 .0
 
 returns : tie.Need-returns
 returns c =
-    let s = c .before .before .before .before .before .before .before .before .before .before .before .before .before .before .before .before .before .before .before .before .before .before .before .before .before .before .before .before .before .before .before .before .before .before in
+    let s = c .before .before .before .before .before .before .before .before .before .before .before .before .before .before .before .before .before .before .before .before .before .before .before .before .before .before .before .before .before .before .before .before .before in
     let q = s .pre .1 in
-    let u = no-packet (s .args .len) (s .args .p .bits) (s .args .packets .now) (q .3) in
-    let X = c .before .before .before .before .before .before .before .before .before .before .before .before .before .before .run .ensures in
-    let L = c .before .before .before .before .before .before .before .before .before .before .before .before .before .before .before .before .before .before .before .load .ensures in
-    let S = c .before .before .before .before .before .before .before .store .ensures in (
-      empty-still _ _ _ _ _ _ (s .pre .0 .1) _ (lent 8 (s .args .left .now) 0) _ _ _ (lent (s .args .len) (c .before .before .before .before .before .before .before .store .last .0)) _ _ _ _ _ (q .9) L u X (λ j. lent-empty (s .args .lanes) 8 _ refl 0 j),
-      tile-mended _ _ _ _ _ _ (s .pre .0 .1) _ _ _ _ _ _ _ _ _ _ _ (q .9) L u X (λ j. lent-empty (s .args .lanes) 8 _ refl 0 j) S _ _ (rw (q .4) at (c .before .before .put-flags .ensures)),
+    let r = c .before .before .before .before .before .before .before .before .before .before .before .before .before .before .before .before .before .before .before .before .part .ensures in
+    let u = no-packet (length (s .args .odd .now)) (s .args .p .bits) (s .args .packets .now) (q .3) in
+    let X = c .before .before .before .before .before .before .before .before .before .before .before .before .before .run .ensures .1 in
+    let L = c .before .before .before .before .before .before .before .before .before .before .before .before .before .before .before .before .before .load .ensures in (
+      r .0,
+      r .2,
+      empty-still _ _ _ _ _ _ (s .pre .0 .1) _ (lent 8 (s .args .left .now) 0) _ _ _ (lent (length (s .args .odd .now)) (c .before .before .before .before .before .before .before .store .last .0)) _ _ _ _ (q .7) L u X,
+      tile-mended _ _ _ _ _ _ (s .pre .0 .1) _ _ _ _ _ _ _ _ _ _ (q .7) L u X (c .before .before .before .before .before .before .before .store .ensures) _ _ (c .before .before .put-flags .ensures),
     )
 
 pub mend-tile-spec : {M : Type 1} → statement M
 mend-tile-spec =
     tie.close
     (tie.spec
+    part-requires
     load-requires
-    slice-aggregate-run
     run-requires
     slice-aggregate-store
     store-requires

@@ -12,10 +12,10 @@ use Rattle.lanes.proofs.run.solve_in.Statement.{statement}
 use Rattle.lanes.proofs.run.solve_in.Tie as tie
 
 abbrev Inv-loop : tie.InvT-loop
-Inv-loop rows width used of at steps tile₀ lanes checks s₀ tile s = (s ≤ steps) × (length tile ≡ length tile₀) × Ran (lent width rows) (used * 64) of at s (lent lanes tile₀) (lent lanes tile)
+Inv-loop rows width count checks bits steps p tile₀ s₀ tile s = (s ≤ steps) × (length tile ≡ length tile₀) × Ran (lent width rows) (p .used * 64) checks bits s (lent (p .lanes) tile₀) (lent (p .lanes) tile)
 
 abbrev μ-loop : tie.MeasureT-loop
-μ-loop rows width used of at steps tile₀ lanes checks s₀ tile s = steps - s
+μ-loop rows width count checks bits steps p tile₀ s₀ tile s = steps - s
 
 loop-holds : tie.Need-loop-holds Inv-loop μ-loop
 loop-holds c = (omega arith, refl, ran-none _ _ _ _ _)
@@ -29,13 +29,6 @@ shared-slice-read-place c = omega arith
 place-requires : tie.Need-place-requires Inv-loop μ-loop
 place-requires c κs = search needs
 
-sum-of-requires : tie.Need-sum-of-requires Inv-loop μ-loop
-sum-of-requires c κs =
-    let s = c .before .before .before .before .before .before .before .before .before in
-    let l = c .before .before .before .before in
-    let k = s .pre .1 .0 .low (l .loop .s) (omega arith) in
-    (omega (arith, c .before .place .ensures, row-room (s .args .width) (c .before .place .result) (s .args .checks) (omega (arith, c .before .place .ensures, k))), s .pre .0 .1, s .pre .0 .2, omega (arith, l .loop .inv .1), s .pre .0 .4)
-
 mul-place-2 : tie.Need-mul-place-2 Inv-loop μ-loop
 mul-place-2 c = omega arith
 
@@ -45,15 +38,13 @@ shared-slice-read-place-2 c = omega arith
 place-requires-2 : tie.Need-place-requires-2 Inv-loop μ-loop
 place-requires-2 c κs = search needs
 
-slice-aggregate-put-row : tie.Need-slice-aggregate-put-row Inv-loop μ-loop
-slice-aggregate-put-row c = search needs
-
-put-row-requires : tie.Need-put-row-requires Inv-loop μ-loop
-put-row-requires c κs =
-    let s = c .before .before .before .before .before .before .before .before .before .before .before .before .before .before in
-    let l = c .before .before .before .before .before .before .before .before .before in
-    let k = s .pre .1 .1 .low (l .loop .s) (omega arith) in
-    (omega (arith, l .loop .inv .1, row-room (s .args .lanes) (c .before .place2 .result) (s .args .used * 64) (omega (arith, c .before .place2 .ensures, k))), omega (arith, c .before .before .before .before .sum-of .ensures .0))
+solve-requires : tie.Need-solve-requires Inv-loop μ-loop
+solve-requires c κs =
+    let s = c .before .before .before .before .before .before .before .before .before .before .before in
+    let l = c .before .before .before .before .before .before .loop in
+    let j = s .pre .1 .0 .low (l .s) (omega arith) in
+    let k = s .pre .1 .1 .low (l .s) (omega arith) in
+    (omega (arith, row-room (s .args .width) (c .before .before .before .place .result) (s .args .count) (omega (arith, c .before .before .before .place .ensures, j))), s .pre .0 .1, s .pre .0 .2, omega (arith, l .inv .1), s .pre .0 .4, omega (arith, c .place2 .ensures, k))
 
 add-s : tie.Need-add-s Inv-loop μ-loop
 add-s c = omega arith
@@ -63,11 +54,8 @@ loop-less c = omega arith
 
 loop-again : tie.Need-loop-again Inv-loop μ-loop
 loop-again c =
-    let l = c .before .before .before .before .before .before .before .before .before .before .before .before in (
-      omega arith,
-      c .before .before .put-row .kept .0 ∙ l .loop .inv .1,
-      ran-next _ _ _ _ _ _ _ _ _ (l .loop .inv .2) (rw (c .before .before .before .before .before .before .before .before .before .place .ensures) at (c .before .before .before .before .before .before .before .sum-of .ensures .1)) (rw (c .before .before .before .before .place2 .ensures) at (c .before .before .put-row .ensures)),
-    )
+    let l = c .before .before .before .before .before .before .before .before .before .loop in
+    (omega arith, c .before .before .solve .kept .1 .1 .1 .1 .0 ∙ l .inv .1, ran-next _ _ _ _ _ _ _ _ (l .inv .2) (rw (c .before .before .before .before .before .before .place .ensures, c .before .before .before .place2 .ensures) at (c .before .before .solve .ensures)))
 
 same-length : tie.Need-same-length Inv-loop μ-loop
 same-length c = search needs
@@ -88,12 +76,10 @@ solve-in-spec =
     mul-place
     shared-slice-read-place
     place-requires
-    sum-of-requires
     mul-place-2
     shared-slice-read-place-2
     place-requires-2
-    slice-aggregate-put-row
-    put-row-requires
+    solve-requires
     add-s
     loop-less
     loop-again

@@ -1,9 +1,7 @@
 -- `run::test_in` meets its contract. Assumes nothing.
 use mathlib.Core.Logic.{⊎-elim}
-use mathlib.Core.Path.{sym}
+use mathlib.Core.Path.{_≡_, refl, sym, _∙_}
 use borrow.Author.Tests.{not-true, not-false}
-use Rattle.lanes.proofs.Running.{either-row}
-use mathlib.Core.Path.{_≡_, refl, _∙_}
 use Prim.Native.Nat.{_≤_, _-_, _*_}
 use lib.ListN.{length}
 use Rattle.parity.specs.Matrix.{lent}
@@ -16,10 +14,10 @@ use Rattle.lanes.proofs.run.test_in.Statement.{statement}
 use Rattle.lanes.proofs.run.test_in.Tie as tie
 
 abbrev Inv-loop : tie.InvT-loop
-Inv-loop rows width used first end skip tile lanes flags₀ c₀ flags c = (first ≤ c) × (c ≤ end) × (length flags ≡ length flags₀) × Tested (lent width rows) (used * 64) first c (lent 8 skip 0) (lent lanes tile) (lent lanes flags₀ 0) (lent lanes flags 0)
+Inv-loop rows width first end skip p tile flags₀ c₀ flags c = (first ≤ c) × (c ≤ end) × (length flags ≡ length flags₀) × Tested (lent width rows) (p .used * 64) first c (lent 8 skip 0) (lent (p .lanes) tile) (lent (p .lanes) flags₀ 0) (lent (p .lanes) flags 0)
 
 abbrev μ-loop : tie.MeasureT-loop
-μ-loop rows width used first end skip tile lanes flags₀ c₀ flags c = end - c
+μ-loop rows width first end skip p tile flags₀ c₀ flags c = end - c
 
 loop-holds : tie.Need-loop-holds Inv-loop μ-loop
 loop-holds c = (omega arith, omega arith, refl, tested-none _ _ _ _ _ _)
@@ -27,17 +25,11 @@ loop-holds c = (omega arith, omega arith, refl, tested-none _ _ _ _ _ _)
 contains-requires : tie.Need-contains-requires Inv-loop μ-loop
 contains-requires c κs = (omega arith, omega arith)
 
-sum-of-requires : tie.Need-sum-of-requires Inv-loop μ-loop
-sum-of-requires c κs =
-    let s = c .before .before .before .before .before .before .before .before in
-    let l = c .before .before .before in
-    (omega (arith, row-room (s .args .width) (l .loop .c) (s .args .end) (omega arith)), s .pre .1, s .pre .2, s .pre .3, s .pre .4)
-
-slice-aggregate-put-row : tie.Need-slice-aggregate-put-row Inv-loop μ-loop
-slice-aggregate-put-row c = search needs
-
-put-row-requires : tie.Need-put-row-requires Inv-loop μ-loop
-put-row-requires c κs = (omega (arith, c .before .before .before .before .before .before .loop .inv .2), omega (arith, c .before .before .sum-of .ensures .0))
+test-requires : tie.Need-test-requires Inv-loop μ-loop
+test-requires c κs =
+    let s = c .before .before .before .before .before .before .before .before .before in
+    let l = c .before .before .before .before .loop in
+    (omega (arith, row-room (s .args .width) (l .c) (s .args .end) (omega arith)), s .pre .1, s .pre .2, s .pre .3, s .pre .4, omega (arith, s .pre .5, l .inv .2))
 
 add-c : tie.Need-add-c Inv-loop μ-loop
 add-c c = omega arith
@@ -47,20 +39,20 @@ loop-less c = omega arith
 
 loop-again : tie.Need-loop-again Inv-loop μ-loop
 loop-again c =
-    let l = c .before .before .before in
+    let l = c .before .before .before .loop in
     let k = c .before .contains in
     ⊎-elim
-    (λ w. rw (w .7) (
+    (λ w. rw (w .5) (
       omega arith,
       omega arith,
-      w .4 .kept .0 ∙ l .loop .inv .2,
-      tested-next _ _ _ _ _ _ _ _ _ _ (l .loop .inv .0) (l .loop .inv .3) (sym (k .ensures) ∙ not-true (k .result) (w .0 .taken)) (w .1 .ensures .1) (either-row _ _ _ (w .4 .ensures)),
+      w .2 .kept .1 .1 .1 .1 .1 .1 .0 ∙ l .inv .2,
+      tested-next _ _ _ _ _ _ _ _ _ (l .inv .0) (l .inv .3) (sym (k .ensures) ∙ not-true (k .result) (w .0 .taken)) (w .2 .ensures),
     ))
     (λ w. rw (w .1) (
       omega arith,
       omega arith,
-      l .loop .inv .2,
-      tested-skip _ _ _ _ _ _ _ _ (l .loop .inv .3) (sym (k .ensures) ∙ not-false (k .result) (w .0 .left)),
+      l .inv .2,
+      tested-skip _ _ _ _ _ _ _ _ (l .inv .3) (sym (k .ensures) ∙ not-false (k .result) (w .0 .left)),
     ))
     (c .if1 .came)
 
@@ -81,9 +73,7 @@ test-in-spec =
     μ-loop
     loop-holds
     contains-requires
-    sum-of-requires
-    slice-aggregate-put-row
-    put-row-requires
+    test-requires
     add-c
     loop-less
     loop-again

@@ -5,18 +5,17 @@ use mathlib.Core.List.{List, []}
 use Prim.Native.Nat.{ℕ, _*_, _≤_, _<_}
 use native.Mathlib.Omega.{arith}
 use native.Mathlib.Decide.{decLt}
-use lib.ListN.{getD, replicate}
+use lib.ListN.{getD}
 use Rattle.parity.specs.Finite.{count}
 use Rattle.parity.specs.Matrix.{Matrix, lent}
 use Rattle.parity.specs.Words.{inside}
 use Rattle.parity.proofs.Finite.Sums.{count-le, count-mono, count-bound}
-use Rattle.parity.proofs.Matrix.Lent.{lent-empty}
 use Rattle.steps.specs.Steps.{Short}
 use Rattle.elimination.specs.Reduction.{Reduction}
 use Rattle.residue.specs.Rows.{Gathered}
 use Rattle.residue.proofs.Gathering.{narrow}
 use Rattle.lanes.specs.Lanes.{Low, listsOf}
-use Rattle.lanes.specs.Tiles.{Ready, Empty}
+use Rattle.lanes.specs.Tiles.{Ready}
 use Rattle.plan.specs.Order.{Peeled, Listed}
 use Rattle.plan.specs.Plan.{Plans}
 use Rattle.plan.proofs.Planning.{plan-works}
@@ -26,9 +25,6 @@ use Rattle.lanes.specs.Lanes.{mending, contradicted}
 -- a bit of a set that has none from N on
 in-short : (N : ℕ) (e : ℕ → Bool) → Short N e → (b : ℕ) → e b ≡ true → b < N
 in-short N e S b q = elim (decLt b N) [ yes l ↦ l | no l ↦ absurd (true≢false (sym q ∙ S .none b (omega arith))) ]
-
-pub empty-tile : (n lanes : ℕ) (tile : List ℕ) → tile ≡ replicate 2048 0 → Empty n (lent lanes tile)
-empty-tile n lanes tile e = record { none = λ b j l. lent-empty lanes 2048 tile e b j }
 
 module _ (h : Matrix) (N M W : ℕ) (few : N ≤ 512) (wide : W ≤ 8) (room : N ≤ W * 64) (e : ℕ → Bool) (short : Short N e) (es of at : List ℕ) (s : ℕ) (skip : ℕ → Bool) (P : Peeled h (W * 64) M e (lent 8 es 0) of at s skip)
     (g k : Matrix) (L r : ℕ) (piv : List ℕ) (G : Gathered h g (W * 64) M (lent 8 es 0) L) (R : Reduction g k (W * 64) L (lent W es 0) (W * 64) r piv)

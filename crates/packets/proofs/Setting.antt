@@ -1,14 +1,19 @@
 -- A plan that works, carried out in every lane, mends the packets. Assumes nothing.
-use mathlib.Core.Path.{_≡_, refl, sym, ap, _∙_}
+use mathlib.Core.Path.{_≡_, refl, sym, ap, _∙_, fun-ext}
 use mathlib.Core.Bool.{Bool, true, false, cond, and-false}
+use mathlib.Core.List.{List}
 use Prim.Native.Nat.{ℕ, _≤_, _<_}
+use native.Mathlib.Omega.{arith}
+use native.Mathlib.Decide.{decLt}
 use lib.Dec.{eqb}
+use lib.ListN.{replicate}
 use borrow.Author.Tests.{not-true}
-use Rattle.parity.specs.Finite.{one}
-use Rattle.parity.specs.Matrix.{Matrix}
+use Rattle.parity.specs.Finite.{one, count}
+use Rattle.parity.specs.Matrix.{Matrix, lent}
 use Rattle.parity.specs.Words.{isOne}
 use Rattle.parity.specs.Determining.{someAgrees, determined}
-use Rattle.parity.proofs.Finite.Sums.{is-true, is-false, is}
+use Rattle.parity.proofs.Finite.Sums.{is-true, is-false, is, count-pos}
+use Rattle.parity.proofs.Matrix.Lent.{lent-empty, lent-out}
 use Rattle.parity.proofs.Words.Agreeing.{known-value}
 use Rattle.parity.proofs.Words.Packets.{zeros-agree}
 use Rattle.steps.specs.Steps.{held, Short}
@@ -18,6 +23,16 @@ use Rattle.lanes.specs.Lanes.{Lists, mending, contradicted}
 use Rattle.lanes.specs.Tiles.{arrived, Mended}
 use Rattle.plan.specs.Plan.{Plans}
 use Rattle.packets.specs.Sets.{SetMended}
+
+-- a set of no bits is the empty one
+pub none-left : (ls : List ℕ) → count 512 (lent 8 ls 0) ≡ 0 → lent 8 ls 0 ≡ lent 8 (replicate 8 0) 0
+none-left ls z = fun-ext (λ b. none b ∙ sym (lent-empty 8 8 (replicate 8 0) refl 0 b))
+  where
+    none : (b : ℕ) → lent 8 ls 0 b ≡ false
+    none b = elim (is (lent 8 ls 0 b)) [
+      | is-false q ↦ q
+      | is-true q ↦ elim (decLt b 512) [ yes l ↦ absurd (omega (arith, z, count-pos 512 (lent 8 ls 0) b l q)) | no l ↦ lent-out 8 ls 0 b (omega arith) ]
+    ]
 
 module _ (h k : Matrix) (B N M to : ℕ) (p : Lists) (e left : ℕ → Bool) (x x′ : Matrix) (y′ : ℕ → Bool) (short : Short N e) (out : (b i : ℕ) → N ≤ b → x b i ≡ false)
     (P : Plans h N M e left (mending h k B p) (contradicted h k B M p)) (Q : Mended h k B M p e left N to x x′ y′) where

@@ -4,13 +4,13 @@ use mathlib.Core.Bool.{Bool, true, false, not, cond}
 use mathlib.Core.List.{List}
 use Prim.Native.Nat.{ℕ, _*_, _≤_, _<_}
 use lib.Dec.{eqb}
-use lib.ListN.{length, replicate}
+use lib.ListN.{length}
 use Rattle.parity.specs.Finite.{one}
 use Rattle.parity.specs.Matrix.{Matrix}
 use Rattle.parity.specs.Determining.{someAgrees, determined}
 use Rattle.steps.specs.Steps.{held}
 use Rattle.lanes.specs.Tiles.{arrived}
-use Rattle.lanes.specs.declared.mend.Plan.{Plan}
+use Rattle.lanes.specs.declared.Plan.{Plan}
 
 -- The packets x, of which e are lost, become x′, of which `left` are; the lanes y′ are flagged. No lane is at `to` or above.
 pub record SetMended (h : Matrix) (N M to : ℕ) (e left : ℕ → Bool) (x x′ : Matrix) (y′ : ℕ → Bool) : Type 0 where
@@ -21,8 +21,8 @@ pub record SetMended (h : Matrix) (N M to : ℕ) (e left : ℕ → Bool) (x x′
   pub kept : (b i : ℕ) → b < N → i < to → y′ i ≡ true → x′ b i ≡ x b i
   pub stays : (b i : ℕ) → b < N → i < to → left b ≡ true → x′ b i ≡ x b i
 
--- the lists that are lent have the lengths that a plan of peeling takes, and the tile is empty
-pub record Rooms (p : Plan) (ws es rs ss fs ts xs ys zs : List ℕ) : Type 0 where
+-- the lists that are lent have the lengths that a plan of peeling takes, and its tile has room
+pub record Rooms (p : Plan) (ws es rs ss cs bs xs ys : List ℕ) : Type 0 where
   pub words : length ws ≡ 4096
   pub used : p .used ≤ 8
   pub bits : p .bits ≤ p .used * 64
@@ -30,7 +30,9 @@ pub record Rooms (p : Plan) (ws es rs ss fs ts xs ys zs : List ℕ) : Type 0 whe
   pub lost : length es ≡ 8
   pub left : length rs ≡ 8
   pub skip : length ss ≡ 8
-  pub checks-of : length fs ≡ 512
-  pub bits-at : length ts ≡ 512
+  pub checks-of : length cs ≡ 512
+  pub bits-at : length bs ≡ 512
   pub packets : length xs ≡ p .bits * length ys
-  pub tile : zs ≡ replicate 2048 0
+  pub some : 0 < p .lanes
+  pub most : p .lanes ≤ 8
+  pub tile : p .used * 64 * p .lanes ≤ 2048

@@ -1,6 +1,6 @@
 // Packets mended, on the set of those that are lost.
 use elimination::reduce_in;
-use lanes::mend::Plan;
+use lanes::Plan;
 use lanes::mend::mend;
 use plan::alone::list_alone;
 use plan::order::join_touched;
@@ -17,34 +17,40 @@ ghost use Rattle.steps.specs.Steps.{Short};
 ghost use Rattle.plan.specs.Order.{Peeled};
 ghost use Rattle.packets.specs.Sets.{SetMended, Rooms};
 
-// How many words of a packet a tile takes: as many as its room of 2,048 words allows, up to eight.
-fn width_of(used: usize) -> usize
-    requires { ⌜ used ≤ 8 ⌝ }
-    ensures { λ r. ⌜ (0 < r) × (r ≤ 8) × (used * 64 * r ≤ 2048) ⌝ }
-{
-    if used <= 4 {
-        return 8;
-    }
-    4
-}
-
-// A plan of peeling alone, and the same with rows.
-fn peeling(used: usize, bits: usize, checks: usize, steps: usize) -> Plan
-    ensures { λ r. ⌜ r ≡ record { used = used; bits = bits; checks = checks; steps = steps; first = 0; end = 0; more = 0 } ⌝ }
+// A plan that has no steps yet, in tiles of `lanes` words of every packet.
+fn no_steps(used: usize, bits: usize, checks: usize, lanes: usize) -> Plan
+    ensures { λ r. ⌜ r ≡ record { used = used; bits = bits; checks = checks; steps = 0; first = 0; end = 0; more = 0; lanes = lanes } ⌝ }
 {
     Plan {
         used,
         bits,
         checks,
+        steps: 0,
+        first: 0,
+        end: 0,
+        more: 0,
+        lanes,
+    }
+}
+
+// The same with steps by checks, and with tests of rows and steps by them.
+fn with_steps(p: Plan, steps: usize) -> Plan
+    ensures { λ r. ⌜ r ≡ record { used = p .used; bits = p .bits; checks = p .checks; steps = steps; first = 0; end = 0; more = 0; lanes = p .lanes } ⌝ }
+{
+    Plan {
+        used: p.used,
+        bits: p.bits,
+        checks: p.checks,
         steps,
         first: 0,
         end: 0,
         more: 0,
+        lanes: p.lanes,
     }
 }
 
 fn with_rows(p: Plan, first: usize, end: usize, more: usize) -> Plan
-    ensures { λ r. ⌜ r ≡ record { used = p .used; bits = p .bits; checks = p .checks; steps = p .steps; first = first; end = end; more = more } ⌝ }
+    ensures { λ r. ⌜ r ≡ record { used = p .used; bits = p .bits; checks = p .checks; steps = p .steps; first = first; end = end; more = more; lanes = p .lanes } ⌝ }
 {
     Plan {
         used: p.used,
@@ -54,6 +60,7 @@ fn with_rows(p: Plan, first: usize, end: usize, more: usize) -> Plan
         first,
         end,
         more,
+        lanes: p.lanes,
     }
 }
 
@@ -64,25 +71,23 @@ fn finish_peeled(
     lost: &[u64],
     left: &[u64],
     skip: &[u64],
-    of: &[u16],
-    at: &[u16],
+    checks: &[u16],
+    bits: &[u16],
     packets: &mut [u64],
     odd: &mut [u64],
-    tile: &mut [u64],
 )
-    requires { ⌜ Rooms p (now words) (now lost) (now left) (now skip) (now of) (now at) (now packets) (now odd) (now tile) × (count 512 (lent 8 (now left) 0) ≡ 0) × (p .first ≡ 0) × (p .end ≡ 0) × (p .more ≡ 0) ⌝ }
-    requires { ⌜ Short (p .bits) (lent 8 (now lost) 0) × Peeled (lent 8 (now words)) (p .used * 64) (p .checks) (lent 8 (now lost) 0) (lent 8 (now left) 0) (now of) (now at) (p .steps) (lent 8 (now skip) 0) ⌝ }
+    requires { ⌜ Rooms p (now words) (now lost) (now left) (now skip) (now checks) (now bits) (now packets) (now odd) × (count 512 (lent 8 (now left) 0) ≡ 0) × (p .first ≡ 0) × (p .end ≡ 0) × (p .more ≡ 0) ⌝ }
+    requires { ⌜ Short (p .bits) (lent 8 (now lost) 0) × Peeled (lent 8 (now words)) (p .used * 64) (p .checks) (lent 8 (now lost) 0) (lent 8 (now left) 0) (now checks) (now bits) (p .steps) (lent 8 (now skip) 0) ⌝ }
     ensures { λ _. ⌜ SetMended (lent 8 (now (words .entry))) (p .bits) (p .checks) (length (now (odd .entry)) * 64) (lent 8 (now (lost .entry)) 0) (lent 8 (now (left .entry)) 0) (lent (length (now (odd .entry))) (now (packets .entry))) (lent (length (now (odd .entry))) (now (packets .exit))) (lent (length (now (odd .entry))) (now (odd .exit)) 0) ⌝ }
 {
-    let rows = [0u64; 8];
+    let reduced = [0u64; 8];
     let none = [0u16; 8];
-    let width = width_of(p.used);
     mend(
         words,
         skip,
-        of,
-        at,
-        &rows,
+        checks,
+        bits,
+        &reduced,
         &none,
         &none,
         p,
@@ -90,8 +95,6 @@ fn finish_peeled(
         left,
         packets,
         odd,
-        tile,
-        width,
     );
 }
 
@@ -102,41 +105,46 @@ fn finish(
     lost: &[u64],
     residue: &[u64],
     skip: &[u64],
-    of: &[u16],
-    at: &[u16],
+    checks: &[u16],
+    bits: &[u16],
     left: &mut [u64],
     packets: &mut [u64],
     odd: &mut [u64],
-    tile: &mut [u64],
 )
-    requires { ⌜ Rooms p (now words) (now lost) (now residue) (now skip) (now of) (now at) (now packets) (now odd) (now tile) × (now left ≡ now residue) ⌝ }
-    requires { ⌜ Short (p .bits) (lent 8 (now lost) 0) × Peeled (lent 8 (now words)) (p .used * 64) (p .checks) (lent 8 (now lost) 0) (lent 8 (now residue) 0) (now of) (now at) (p .steps) (lent 8 (now skip) 0) ⌝ }
+    requires { ⌜ Rooms p (now words) (now lost) (now residue) (now skip) (now checks) (now bits) (now packets) (now odd) × (now left ≡ now residue) ⌝ }
+    requires { ⌜ Short (p .bits) (lent 8 (now lost) 0) × Peeled (lent 8 (now words)) (p .used * 64) (p .checks) (lent 8 (now lost) 0) (lent 8 (now residue) 0) (now checks) (now bits) (p .steps) (lent 8 (now skip) 0) ⌝ }
     ensures { λ _. ⌜ SetMended (lent 8 (now (words .entry))) (p .bits) (p .checks) (length (now (odd .entry)) * 64) (lent 8 (now (lost .entry)) 0) (lent 8 (now (left .exit)) 0) (lent (length (now (odd .entry))) (now (packets .entry))) (lent (length (now (odd .entry))) (now (packets .exit))) (lent (length (now (odd .entry))) (now (odd .exit)) 0) ⌝ }
 {
-    let mut rows = [0u64; 4096];
+    let mut reduced = [0u64; 4096];
     let mut pivots = [0usize; 512];
-    let mut by = [0u16; 512];
-    let mut into = [0u16; 512];
-    let end = gather(words, p.used, p.checks, residue, &mut rows);
-    let r = reduce_in(&mut rows, p.used, end, residue, &mut pivots);
-    let more = list_alone(&rows, p.used, &pivots, r, residue, left, &mut by, &mut into);
+    let mut rows = [0u16; 512];
+    let mut alone = [0u16; 512];
+    let end = gather(words, p.used, p.checks, residue, &mut reduced);
+    let r = reduce_in(&mut reduced, p.used, end, residue, &mut pivots);
+    let more = list_alone(
+        &reduced,
+        p.used,
+        &pivots,
+        r,
+        residue,
+        left,
+        &mut rows,
+        &mut alone,
+    );
     let q = with_rows(p, r, end, more);
-    let width = width_of(p.used);
     mend(
         words,
         skip,
-        of,
-        at,
+        checks,
+        bits,
+        &reduced,
         &rows,
-        &by,
-        &into,
+        &alone,
         q,
         lost,
         left,
         packets,
         odd,
-        tile,
-        width,
     );
 }
 
@@ -144,57 +152,52 @@ fn finish(
 // is the set of those that are left.
 fn mend_lost(
     words: &[u64],
-    bits: usize,
-    checks: usize,
+    p: Plan,
     lost: [u64; 8],
     packets: &mut [u64],
     odd: &mut [u64],
 ) -> [u64; 8]
-    requires { ⌜ (length (now words) ≡ 4096) × (bits ≤ 512) × (checks ≤ 512) × (length lost ≡ 8) × (length (now packets) ≡ bits * length (now odd)) × Short bits (lent 8 lost 0) ⌝ }
-    ensures { λ r. ⌜ (length r ≡ 8) × SetMended (lent 8 (now (words .entry))) bits checks (length (now (odd .entry)) * 64) (lent 8 lost 0) (lent 8 r 0) (lent (length (now (odd .entry))) (now (packets .entry))) (lent (length (now (odd .entry))) (now (packets .exit))) (lent (length (now (odd .entry))) (now (odd .exit)) 0) ⌝ }
+    requires { ⌜ (length (now words) ≡ 4096) × (p .used ≤ 8) × (p .bits ≤ p .used * 64) × (p .checks ≤ 512) × (length lost ≡ 8) × (length (now packets) ≡ p .bits * length (now odd)) × Short (p .bits) (lent 8 lost 0) ⌝ }
+    requires { ⌜ (0 < p .lanes) × (p .lanes ≤ 8) × (p .used * 64 * p .lanes ≤ 2048) ⌝ }
+    ensures { λ r. ⌜ (length r ≡ 8) × SetMended (lent 8 (now (words .entry))) (p .bits) (p .checks) (length (now (odd .entry)) * 64) (lent 8 lost 0) (lent 8 r 0) (lent (length (now (odd .entry))) (now (packets .entry))) (lent (length (now (odd .entry))) (now (packets .exit))) (lent (length (now (odd .entry))) (now (odd .exit)) 0) ⌝ }
 {
-    let used = words_of(bits);
     let mut left = lost;
     let mut skip = [0u64; 8];
-    let mut of = [0u16; 512];
-    let mut at = [0u16; 512];
-    let mut tile = [0u64; 2048];
-    let steps = settle(words, used, checks, &mut left, &mut skip, &mut of, &mut at);
-    join_touched(words, used, checks, &left, &mut skip);
-    let p = peeling(used, bits, checks, steps);
+    let mut checks = [0u16; 512];
+    let mut bits = [0u16; 512];
+    let steps = settle(
+        words,
+        p.used,
+        p.checks,
+        &mut left,
+        &mut skip,
+        &mut checks,
+        &mut bits,
+    );
+    join_touched(words, p.used, p.checks, &left, &mut skip);
+    let q = with_steps(p, steps);
     if size(&left) == 0 {
-        finish_peeled(
-            words,
-            p,
-            &lost,
-            &left,
-            &skip,
-            &of,
-            &at,
-            packets,
-            odd,
-            &mut tile,
-        );
+        finish_peeled(words, q, &lost, &left, &skip, &checks, &bits, packets, odd);
         return left;
     }
     let residue = left;
     finish(
         words,
-        p,
+        q,
         &lost,
         &residue,
         &skip,
-        &of,
-        &at,
+        &checks,
+        &bits,
         &mut left,
         packets,
         odd,
-        &mut tile,
     );
     left
 }
 
-// The same, called at two places. (This alone does not keep the compiler from inlining it: HANDOVER, 'Open'.)
+// The same, in tiles of eight words, or of four where there are more than 256 bits. `mend_lost` is called at two places that are not alike, so that the compiler leaves it a
+// function of its own: its rows and lists are then on the stack while they are used, and not while the matrix is accepted.
 pub fn mend_set(
     words: &[u64],
     bits: usize,
@@ -206,8 +209,13 @@ pub fn mend_set(
     requires { ⌜ (length (now words) ≡ 4096) × (bits ≤ 512) × (checks ≤ 512) × (length lost ≡ 8) × (length (now packets) ≡ bits * length (now odd)) × Short bits (lent 8 lost 0) ⌝ }
     ensures { λ r. ⌜ (length r ≡ 8) × SetMended (lent 8 (now (words .entry))) bits checks (length (now (odd .entry)) * 64) (lent 8 lost 0) (lent 8 r 0) (lent (length (now (odd .entry))) (now (packets .entry))) (lent (length (now (odd .entry))) (now (packets .exit))) (lent (length (now (odd .entry))) (now (odd .exit)) 0) ⌝ }
 {
-    if bits == 512 {
-        return mend_lost(words, 512, checks, lost, packets, odd);
+    let used = words_of(bits);
+    if 4 < used {
+        return mend_lost(words, no_steps(used, bits, checks, 4), lost, packets, odd);
     }
-    mend_lost(words, bits, checks, lost, packets, odd)
+    let after = mend_lost(words, no_steps(used, bits, checks, 8), lost, packets, odd);
+    if size(&after) == 0 {
+        return [0u64; 8];
+    }
+    after
 }

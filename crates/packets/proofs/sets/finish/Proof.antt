@@ -6,7 +6,7 @@ use lib.ListN.{length}
 use Rattle.residue.proofs.Solving.{few-words}
 use Rattle.lanes.proofs.Mending.{no-packet}
 use Rattle.plan.proofs.Planning.{reduced-own, reduced-low}
-use Rattle.packets.proofs.Readying.{empty-tile, ready-made, plan-made, few-steps}
+use Rattle.packets.proofs.Readying.{ready-made, plan-made, few-steps}
 use Rattle.packets.proofs.Setting.{set-mended}
 use native.Mathlib.Omega.{arith}
 use borrow.Author.Needs.{needs}
@@ -18,7 +18,7 @@ slice-aggregate-gather c = search needs
 
 gather-requires : tie.Need-gather-requires
 gather-requires c κs =
-    let s = c .before .before .before .before .before .before .before .before .before .before .before in
+    let s = c .before .before .before .before .before .before .before .before .before .before in
     let R = s .pre .0 .0 in
     (R .words, R .checks, R .left, R .used, few-words (s .args .p .checks) (s .args .p .used) (R .checks) (R .used))
 
@@ -30,7 +30,7 @@ slice-aggregate-reduce-in-2 c = search needs
 
 reduce-in-requires : tie.Need-reduce-in-requires
 reduce-in-requires c κs =
-    let s = c .before .before .before .before .before .before .before .before .before .before .before .before .before .before .before in
+    let s = c .before .before .before .before .before .before .before .before .before .before .before .before .before .before in
     let R = s .pre .0 .0 in
     let g = c .before .before .before .gather in
     let w = few-words (s .args .p .checks) (s .args .p .used) (R .checks) (R .used) in
@@ -50,7 +50,7 @@ slice-aggregate-list-alone-4 c = search needs
 
 list-alone-requires : tie.Need-list-alone-requires
 list-alone-requires c κs =
-    let s = c .before .before .before .before .before .before .before .before .before .before .before .before .before .before .before .before .before .before .before .before .before .before .before in
+    let s = c .before .before .before .before .before .before .before .before .before .before .before .before .before .before .before .before .before .before .before .before .before .before in
     let R = s .pre .0 .0 in
     let g = c .before .before .before .before .before .before .before .before .before .before .before .gather in
     let d = c .before .before .before .before .before .before .before .reduce-in in
@@ -63,9 +63,6 @@ list-alone-requires c κs =
 with-rows-requires : tie.Need-with-rows-requires
 with-rows-requires c κs = search needs
 
-width-of-requires : tie.Need-width-of-requires
-width-of-requires c κs = c .before .before .before .before .before .before .before .before .before .before .before .before .before .before .before .before .before .before .before .before .before .before .before .before .before .before .before .before .before .pre .0 .0 .used
-
 slice-aggregate-mend : tie.Need-slice-aggregate-mend
 slice-aggregate-mend c = search needs
 
@@ -77,17 +74,15 @@ slice-aggregate-mend-3 c = search needs
 
 mend-requires : tie.Need-mend-requires
 mend-requires c κs =
-    let s = c .before .before .before .before .before .before .before .before .before .before .before .before .before .before .before .before .before .before .before .before .before .before .before .before .before .before .before .before .before .before .before .before .before .before .before .before .before in
+    let s = c .before .before .before .before .before .before .before .before .before .before .before .before .before .before .before .before .before .before .before .before .before .before .before .before .before .before .before .before .before .before .before .before .before .before in
     let R = s .pre .0 .0 in
-    let g = c .before .before .before .before .before .before .before .before .before .before .before .before .before .before .before .before .before .before .before .before .before .before .before .before .before .gather in
-    let d = c .before .before .before .before .before .before .before .before .before .before .before .before .before .before .before .before .before .before .before .before .before .reduce-in in
-    let a = c .before .before .before .before .before .before .before .before .before .before .before .before .before .list-alone in
-    let v = c .before .before .before .before .before .before .before .width-of .ensures in
+    let g = c .before .before .before .before .before .before .before .before .before .before .before .before .before .before .before .before .before .before .before .before .before .before .before .gather in
+    let d = c .before .before .before .before .before .before .before .before .before .before .before .before .before .before .before .before .before .before .before .reduce-in in
+    let a = c .before .before .before .before .before .before .before .before .before .before .before .list-alone in
     let w = few-words (s .args .p .checks) (s .args .p .used) (R .checks) (R .used) in
-    let z : length (s .args .tile .now) ≡ 2048 = ap length (R .tile) in
     let b : s .args .p .bits ≤ 512 = omega (arith, R .used, R .bits) in
     let k = few-steps _ _ _ _ _ _ _ _ _ (omega (arith, R .used)) (s .pre .1 .1) in
-    rw (c .before .before .before .before .before .before .before .before .with-rows .ensures) (
+    rw (c .before .before .before .before .before .before .with-rows .ensures) (
       (
         record {
           words = R .words;
@@ -103,32 +98,29 @@ mend-requires c κs =
         },
         ready-made _ _ _ _ b (R .used) (R .bits) _ (s .pre .1 .0) _ _ _ _ _ (s .pre .1 .1) _ _ _ _ _ (g .ensures) (d .ensures) _ (s .pre .0 .1) _ _ _ _ (a .ensures),
       ),
-      (R .bits, R .lost, a .kept .1 .1 .1 .1 .1 .0 ∙ ap length (s .pre .0 .1) ∙ R .left, R .packets, v .0, omega (arith, z, v .2), v .1, empty-tile _ _ _ (R .tile)),
+      (R .bits, R .lost, a .kept .1 .1 .1 .1 .1 .0 ∙ ap length (s .pre .0 .1) ∙ R .left, R .packets, R .some, R .tile, R .most),
     )
 
 same-length : tie.Need-same-length
-same-length c = c .before .before .before .before .before .before .before .before .before .before .before .before .before .before .before .before .before .before .before .before .list-alone .kept .1 .1 .1 .1 .1 .0
+same-length c = c .before .before .before .before .before .before .before .before .before .before .before .before .before .before .before .before .list-alone .kept .1 .1 .1 .1 .1 .0
 
 same-length-2 : tie.Need-same-length-2
-same-length-2 c = c .before .before .before .before .before .before .mend .kept .1 .1 .1 .1 .1 .1 .1 .1 .1 .1 .0
+same-length-2 c = c .before .before .before .before .mend .kept .1 .1 .1 .1 .1 .1 .1 .1 .1 .1 .0
 
 same-length-3 : tie.Need-same-length-3
-same-length-3 c = c .before .before .before .before .before .before .mend .kept .1 .1 .1 .1 .1 .1 .1 .1 .1 .1 .1 .0
-
-same-length-4 : tie.Need-same-length-4
-same-length-4 c = c .before .before .before .before .before .before .mend .kept .1 .1 .1 .1 .1 .1 .1 .1 .1 .1 .1 .1 .0
+same-length-3 c = c .before .before .before .before .mend .kept .1 .1 .1 .1 .1 .1 .1 .1 .1 .1 .1 .0
 
 returns : tie.Need-returns
 returns c =
-    let s = c .before .before .before .before .before .before .before .before .before .before .before .before .before .before .before .before .before .before .before .before .before .before .before .before .before .before .before .before .before .before .before .before .before .before .before .before .before .before .before .before .before .before .before .before in
+    let s = c .before .before .before .before .before .before .before .before .before .before .before .before .before .before .before .before .before .before .before .before .before .before .before .before .before .before .before .before .before .before .before .before .before .before .before .before .before .before .before in
     let R = s .pre .0 .0 in
-    let g = c .before .before .before .before .before .before .before .before .before .before .before .before .before .before .before .before .before .before .before .before .before .before .before .before .before .before .before .before .before .before .before .before .gather in
-    let d = c .before .before .before .before .before .before .before .before .before .before .before .before .before .before .before .before .before .before .before .before .before .before .before .before .before .before .before .before .reduce-in in
-    let a = c .before .before .before .before .before .before .before .before .before .before .before .before .before .before .before .before .before .before .before .before .list-alone in
+    let g = c .before .before .before .before .before .before .before .before .before .before .before .before .before .before .before .before .before .before .before .before .before .before .before .before .before .before .before .before .gather in
+    let d = c .before .before .before .before .before .before .before .before .before .before .before .before .before .before .before .before .before .before .before .before .before .before .before .before .reduce-in in
+    let a = c .before .before .before .before .before .before .before .before .before .before .before .before .before .before .before .before .list-alone in
     let b : s .args .p .bits ≤ 512 = omega (arith, R .used, R .bits) in
     set-mended _ _ _ _ _ _ _ _ _ _ _ _ (s .pre .1 .0) (no-packet (length (s .args .odd .now)) (s .args .p .bits) (s .args .packets .now) (R .packets))
     (plan-made _ _ _ _ b (R .used) (R .bits) _ (s .pre .1 .0) _ _ _ _ _ (s .pre .1 .1) _ _ _ _ _ (g .ensures) (d .ensures) _ (s .pre .0 .1) _ _ _ _ (a .ensures))
-    (rw (c .before .before .before .before .before .before .before .before .before .before .before .before .before .before .before .with-rows .ensures) at (c .before .before .before .before .before .before .mend .ensures))
+    (rw (c .before .before .before .before .before .before .before .before .before .before .before .with-rows .ensures) at (c .before .before .before .before .mend .ensures))
 
 pub finish-spec : {M : Type 1} → statement M
 finish-spec =
@@ -145,7 +137,6 @@ finish-spec =
     slice-aggregate-list-alone-4
     list-alone-requires
     with-rows-requires
-    width-of-requires
     slice-aggregate-mend
     slice-aggregate-mend-2
     slice-aggregate-mend-3
@@ -153,5 +144,4 @@ finish-spec =
     same-length
     same-length-2
     same-length-3
-    same-length-4
     returns)

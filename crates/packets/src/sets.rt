@@ -115,31 +115,22 @@ fn finish(
     requires { ⌜ Short (p .bits) (lent 8 (now lost) 0) × Peeled (lent 8 (now words)) (p .used * 64) (p .checks) (lent 8 (now lost) 0) (lent 8 (now residue) 0) (now checks) (now bits) (p .steps) (lent 8 (now skip) 0) ⌝ }
     ensures { λ _. ⌜ SetMended (lent 8 (now (words .entry))) (p .bits) (p .checks) (length (now (odd .entry)) * 64) (lent 8 (now (lost .entry)) 0) (lent 8 (now (left .exit)) 0) (lent (length (now (odd .entry))) (now (packets .entry))) (lent (length (now (odd .entry))) (now (packets .exit))) (lent (length (now (odd .entry))) (now (odd .exit)) 0) ⌝ }
 {
-    let mut reduced = [0u64; 4096];
+    let mut rows = [0u64; 4096];
     let mut pivots = [0usize; 512];
-    let mut rows = [0u16; 512];
-    let mut alone = [0u16; 512];
-    let end = gather(words, p.used, p.checks, residue, &mut reduced);
-    let r = reduce_in(&mut reduced, p.used, end, residue, &mut pivots);
-    let more = list_alone(
-        &reduced,
-        p.used,
-        &pivots,
-        r,
-        residue,
-        left,
-        &mut rows,
-        &mut alone,
-    );
+    let mut lone = [0u16; 512];
+    let mut at = [0u16; 512];
+    let end = gather(words, p.used, p.checks, residue, &mut rows);
+    let r = reduce_in(&mut rows, p.used, end, residue, &mut pivots);
+    let more = list_alone(&rows, p.used, &pivots, r, residue, left, &mut lone, &mut at);
     let q = with_rows(p, r, end, more);
     mend(
         words,
         skip,
         checks,
         bits,
-        &reduced,
         &rows,
-        &alone,
+        &lone,
+        &at,
         q,
         lost,
         left,
@@ -165,16 +156,10 @@ fn mend_lost(
     let mut skip = [0u64; 8];
     let mut checks = [0u16; 512];
     let mut bits = [0u16; 512];
-    let steps = settle(
-        words,
-        p.used,
-        p.checks,
-        &mut left,
-        &mut skip,
-        &mut checks,
-        &mut bits,
-    );
-    join_touched(words, p.used, p.checks, &left, &mut skip);
+    let used = p.used;
+    let m = p.checks;
+    let steps = settle(words, used, m, &mut left, &mut skip, &mut checks, &mut bits);
+    join_touched(words, used, m, &left, &mut skip);
     let q = with_steps(p, steps);
     if size(&left) == 0 {
         finish_peeled(words, q, &lost, &left, &skip, &checks, &bits, packets, odd);

@@ -5,13 +5,18 @@ use mathlib.Core.Bool.{Bool, false, not, cond, _&&_}
 use Prim.Native.Nat.{ℕ, _+_, _*_, _≤_, _<_}
 use Rattle.parity.specs.Matrix.{Matrix}
 use mathlib.Core.List.{List}
-use lib.ListN.{length}
+use lib.ListN.{getD, length}
 use Rattle.lanes.specs.Lanes.{Lists, listsOf, mending, contradicted, Low}
 use Rattle.lanes.specs.declared.Plan.{Plan}
 
 -- the ones of lane i of the packets x that arrived, those that are not lost
 unfoldable pub arrived : Matrix → (ℕ → Bool) → ℕ → ℕ → Bool
 arrived x lost i b = not (lost b) && x b i
+
+-- r has the eight words of a list from `first` on
+pub record Eight (ws : List ℕ) (first : ℕ) (r : List ℕ) : Type 0 where
+  pub size : length r ≡ 8
+  pub at : (a : ℕ) → a < 8 → getD r a 0 ≡ getD ws (first + a) 0
 
 -- Row b has the first count words of packet b's part, and the other rows are as they were.
 pub record Taken (x : Matrix) (from count b : ℕ) (t t′ : Matrix) : Type 0 where

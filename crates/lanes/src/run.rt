@@ -79,7 +79,7 @@ fn test_lanes(
     put_row(flags, lanes, 0, &sum);
 }
 
-// The same, as above.
+// The same, as `solve` is `solve_lanes`.
 fn test(
     rows: &[u64],
     width: usize,

@@ -1,4 +1,4 @@
-// Sums modulo 2 of the rows that a check contains, in all lanes of a tile at once.
+// Sums modulo 2 of the rows that a check contains, in all lanes of a tile at once. A row is added as elimination adds one, by the same function.
 use elimination::checks::add_row;
 use rows::wide;
 ghost use mathlib.Core.Path.{_≡_};

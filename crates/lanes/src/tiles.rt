@@ -5,7 +5,7 @@ ghost use mathlib.Core.Path.{_≡_};
 ghost use Prim.Native.Nat.{_+_, _*_, _≤_};
 ghost use lib.ListN.{length};
 ghost use Rattle.parity.specs.Matrix.{lent};
-ghost use Rattle.lanes.specs.Tiles.{Taken, Blanked, Loaded, Returned, Stored, Flagged};
+ghost use Rattle.lanes.specs.Tiles.{Eight, Taken, Blanked, Loaded, Returned, Stored, Flagged};
 
 // The `count` words of packet `b` from `from` on become the first of row `b`.
 fn take_row(
@@ -25,6 +25,50 @@ fn take_row(
     for i in 0..count {
         tile[row + i] = packets[first + i];
     }
+}
+
+// The eight words of a list from `first` on.
+fn eight_of(words: &[u64], first: usize) -> [u64; 8]
+    requires { ⌜ first + 8 ≤ length (now words) ⌝ }
+    ensures { λ r. ⌜ Eight (now (words .entry)) first r ⌝ }
+{
+    let mut eight = [0u64; 8];
+    for i in 0..8 {
+        eight[i] = words[first + i];
+    }
+    eight
+}
+
+// `take_row` for eight words. All are read before the first is written: the compiler, which does not know that the tile is none of the packets, then moves several at once.
+fn take_eight(packets: &[u64], len: usize, from: usize, b: usize, tile: &mut [u64], lanes: usize)
+    requires { ⌜ (b * len + len ≤ length (now packets)) × (from + 8 ≤ len) × (8 ≤ lanes) × (b * lanes + lanes ≤ length (now tile)) ⌝ }
+    ensures { λ _. ⌜ Taken (lent len (now (packets .entry))) from 8 b (lent lanes (now (tile .entry))) (lent lanes (now (tile .exit))) ⌝ }
+{
+    let eight = eight_of(packets, b * len + from);
+    let row = b * lanes;
+    for i in 0..8 {
+        tile[row + i] = eight[i];
+    }
+}
+
+// The words of packet `b` become the first of row `b`, by the one or the other.
+fn take(
+    packets: &[u64],
+    len: usize,
+    from: usize,
+    count: usize,
+    b: usize,
+    tile: &mut [u64],
+    lanes: usize,
+)
+    requires { ⌜ (b * len + len ≤ length (now packets)) × (from + count ≤ len) × (count ≤ lanes) × (b * lanes + lanes ≤ length (now tile)) ⌝ }
+    ensures { λ _. ⌜ Taken (lent len (now (packets .entry))) from count b (lent lanes (now (tile .entry))) (lent lanes (now (tile .exit))) ⌝ }
+{
+    if count == 8 {
+        take_eight(packets, len, from, b, tile, lanes);
+        return;
+    }
+    take_row(packets, len, from, count, b, tile, lanes);
 }
 
 // Row `b` becomes empty.
@@ -55,7 +99,7 @@ pub fn load(
         if contains(lost, 8, 0, b) {
             blank_row(b, tile, p.lanes);
         } else {
-            take_row(packets, len, from, count, b, tile, p.lanes);
+            take(packets, len, from, count, b, tile, p.lanes);
         }
     }
 }

@@ -30,8 +30,8 @@ blank-row-requires c κs =
     let l = c .before .before .before .before .loop in
     omega (arith, l .inv .2, row-room (s .args .p .lanes) (l .b) (s .args .p .bits) (omega (arith, l .inv .0)))
 
-take-row-requires : tie.Need-take-row-requires Inv-loop μ-loop
-take-row-requires c κs =
+take-requires : tie.Need-take-requires Inv-loop μ-loop
+take-requires c κs =
     let s = c .before .before .before .before .before .before .before .before in
     let l = c .before .before .before .before .loop in
     (omega (arith, row-room (s .args .len) (l .b) (s .args .p .bits) (omega (arith, l .inv .0))), s .pre .3, s .pre .4, omega (arith, l .inv .2, row-room (s .args .p .lanes) (l .b) (s .args .p .bits) (omega (arith, l .inv .0))))
@@ -69,7 +69,7 @@ load-spec =
     loop-holds
     contains-requires
     blank-row-requires
-    take-row-requires
+    take-requires
     add-b
     loop-less
     loop-again

@@ -5,3 +5,4 @@ pub mod Word
 pub mod Cursor
 pub mod Fill
 pub mod Sends
+pub mod Kept

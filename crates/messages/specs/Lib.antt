@@ -1,2 +1,3 @@
 pub mod Memory
 pub mod Loops
+pub mod Standing

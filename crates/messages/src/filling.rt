@@ -59,7 +59,7 @@ fn fill_check(
     a
 }
 
-// Every bit's channel value is written to its messages, check after check.
+// Every bit's channel value is written to its messages, check after check. Returns how many there are.
 pub fn fill_all(
     words: &[u64],
     checks: usize,
@@ -67,13 +67,15 @@ pub fn fill_all(
     floats: &[f32],
     tags: &mut [u8],
     values: &mut [f32],
-)
+) -> usize
     requires { ⌜ (length (now words) ≡ 4096) × (checks ≤ 512) × (length (now tags) ≡ 65536) × (length (now values) ≡ 65536) × (length (now floats) ≡ length (now word)) ⌝ }
     requires { ⌜ (start (lent 8 (now words)) 512 512 ≤ 65536) × Inner (lent 8 (now words)) (length (now word)) ⌝ }
+    ensures { λ r. ⌜ r ≡ start (lent 8 (now (words .entry))) 512 checks ⌝ }
     ensures { λ r. ⌜ Holds (lent 8 (now (words .entry))) 512 checks (sentAfter (lent 8 (now (words .entry))) 512 checks (messageAt (now (word .entry)) (now (floats .entry))) 0) (now (tags .exit)) (now (values .exit)) ⌝ }
 {
     let mut a: usize = 0;
     for c in 0..checks {
         a = fill_check(words, c, a, word, floats, tags, values);
     }
+    a
 }

@@ -3,3 +3,4 @@ pub mod bit_phase;
 pub mod bit_row;
 pub mod check_phase;
 pub mod filling;
+pub mod standing;

@@ -1,20 +1,24 @@
 -- The course of the rounds: what the memory holds after each phase. Assumes nothing.
-use mathlib.Core.Path.{_≡_, refl, ap, _∙_}
+use mathlib.Core.Path.{_≡_, refl, sym, ap, _∙_}
 use mathlib.Core.Bool.{true, _&&_, and-eq-true-iff}
 use mathlib.Core.List.{List}
-use Prim.Native.Nat.{ℕ, zero, suc, _-_, _<_, _≤_}
+use Prim.Native.Nat.{ℕ, zero, suc, _+_, _-_, _<_, _≤_}
 use native.Mathlib.Decide.{decLt}
 use native.Mathlib.Omega.{arith}
 use lib.ListN.{length, List·getD-eq-default}
 use lib.Ieee.{Float}
 use Rattle.parity.specs.Matrix.{Matrix}
 use Rattle.parity.specs.Soft.{Messages, messageAt, settled, bitSends, toBits, toChecks, sentAfter, resultAfter, sound, byteFor, floatFor, but}
-use Rattle.messages.specs.Memory.{held, Inner, Holds, Answering, SoundAll, resultOf}
+use Rattle.parity.specs.Promises.{Agree}
+use Rattle.messages.specs.Memory.{start, place, held, Inner, Within, Holds, Answering, SoundAll, resultOf}
 use Rattle.messages.specs.Loops.{SentAll, Round, Last}
+use Rattle.messages.specs.Standing.{Alike}
 use Rattle.soft.specs.Pass.{Holding, Sounds}
 use Rattle.parity.specs.declared.Channel.{Channel}
 use Rattle.parity.proofs.Soft.Sound.{check-sound, bit-sound}
 use Rattle.parity.proofs.Soft.Cong.{gathered-at, check-at'}
+use Rattle.parity.proofs.Soft.Standing.{sent-standing}
+use Rattle.messages.proofs.Places.{start-mono, place-high}
 use Rattle.messages.proofs.Sends.{result-is}
 
 module _ (h : Matrix) (N M : ℕ) where
@@ -84,6 +88,30 @@ pub round-more : (h : Matrix) (N M : ℕ) → Inner h N → (channel : ℕ → C
 round-more h N M I channel r ts xs H ts' xs' R =
     let K = holds-heard h 512 M _ ts xs H (R .mt) (R .mx) (R .heard .tags) (R .heard .values) (R .heard .answering) in
     rw (← sent-suc h 512 M channel r) (holds-sent h N M I channel _ (R .mt) (R .mx) K ts' xs' (R .sent))
+
+pub messages-fit : (h : Matrix) (M w n m : ℕ) → Within h M → M ≤ 512 → w ≡ start h 512 M → n ≡ 65536 → m ≡ 65536 → (w ≤ n) × (w ≤ m)
+messages-fit h M w n m W k e p q = omega (arith, start-mono h 512 M 512 k, W .room)
+
+-- A round that leaves every message as it was, us and ys being kept of the round before: the messages are those after any later round.
+pub round-stands : (h : Matrix) (M r last : ℕ) (channel : ℕ → Channel) (ts : List ℕ) (xs : List Float) (us : List ℕ) (ys : List Float) (ts' : List ℕ) (xs' : List Float) → r ≤ last
+    → Holds h 512 M (sentAfter h 512 M channel r) ts xs → Holds h 512 M (sentAfter h 512 M channel (suc r)) ts' xs'
+    → Alike (start h 512 M) ts xs us ys → Alike (start h 512 M) ts' xs' us ys → Holds h 512 M (sentAfter h 512 M channel last) ts' xs'
+round-stands h M r last channel ts xs us ys ts' xs' k H H' A B = record {
+  tags = H' .tags;
+  values = H' .values;
+  at = λ d a i j e. H' .at d a i j e ∙ agree d a i j e ∙ sym (later d a i j e);
+}
+  where
+    unchanged : (d a : ℕ) → d < M → a < 512 → h d a ≡ true → held h 512 ts' xs' d a ≡ held h 512 ts xs d a
+    unchanged d a i j e =
+        let l : place h 512 d a < start h 512 M = omega (arith, place-high h 512 d a j e, start-mono h 512 (suc d) M i) in
+        unfold held in (B .at (place h 512 d a) l ∙ sym (A .at (place h 512 d a) l))
+
+    agree : Agree h 512 M (sentAfter h 512 M channel (suc r)) (sentAfter h 512 M channel r)
+    agree d a i j e = sym (H' .at d a i j e) ∙ unchanged d a i j e ∙ H .at d a i j e
+
+    later : Agree h 512 M (sentAfter h 512 M channel last) (sentAfter h 512 M channel r)
+    later = let q : last - r + r ≡ last = omega arith in rw q at (sent-standing h 512 M channel r agree (last - r))
 
 -- the last round gives the results
 pub last-results : (h : Matrix) (N M : ℕ) (channel : ℕ → Channel) (r : ℕ) (ts : List ℕ) (xs : List Float) → N ≤ 512 → Holds h 512 M (sentAfter h 512 M channel r) ts xs

@@ -3,13 +3,15 @@ use messages::bit_phase::result_all;
 use messages::bit_phase::send_all;
 use messages::check_phase::checks_send;
 use messages::filling::fill_all;
+use messages::standing::renew;
 ghost use mathlib.Core.Path.{_≡_};
 ghost use Prim.Native.Nat.{_≤_};
-ghost use lib.ListN.{length};
+ghost use lib.ListN.{length, replicate};
 ghost use Rattle.parity.specs.Matrix.{lent};
-ghost use Rattle.parity.specs.Soft.{messageAt, resultAfter};
+ghost use Rattle.parity.specs.Floats.{positiveZero};
+ghost use Rattle.parity.specs.Soft.{messageAt, sentAfter, resultAfter};
 ghost use Rattle.soft.specs.Pass.{Holding, Sounds};
-ghost use Rattle.messages.specs.Memory.{across, held, SoundAll, Inner, Within};
+ghost use Rattle.messages.specs.Memory.{across, held, SoundAll, Holds, Inner, Within};
 ghost use Rattle.messages.specs.Loops.{Sized, Round, Last};
 
 // One round: all checks, then all bits.
@@ -85,6 +87,67 @@ fn last_round(
     );
 }
 
+// The messages after `last` rounds. Rounds after one that changes no message would change none either, and are left out.
+fn course(
+    words: &[u64],
+    cols: &[u64],
+    bits: usize,
+    checks: usize,
+    last: usize,
+    at: &mut [usize],
+    row_tags: &mut [u8],
+    row_values: &mut [f32],
+    tags: &mut [u8],
+    values: &mut [f32],
+    word: &[u8],
+    floats: &[f32],
+    old_tags: &mut [u8],
+    old_values: &mut [f32],
+)
+    requires { ⌜ (length (now words) ≡ 4096) × (checks ≤ 512) × (bits ≤ 512) × (length (now tags) ≡ 65536) × (length (now values) ≡ 65536) ⌝ }
+    requires { ⌜ (length (now word) ≡ bits) × (length (now floats) ≡ bits) × Within (lent 8 (now words)) checks ⌝ }
+    requires { ⌜ Sized (now at) (now «row_tags») (now «row_values») ⌝ }
+    requires { ⌜ Inner (lent 8 (now words)) bits ⌝ }
+    requires { ⌜ Sounds bits (messageAt (now word) (now floats)) ⌝ }
+    requires { ⌜ (length (now cols) ≡ 4096) × (across (lent 8 (now cols)) ≡ lent 8 (now words)) ⌝ }
+    requires { ⌜ (length (now «old_tags») ≡ 2048) × (length (now «old_values») ≡ 2048) ⌝ }
+    ensures { λ r. ⌜ Sized (now (at .exit)) (now («row_tags» .exit)) (now («row_values» .exit)) ⌝ }
+    ensures { λ r. ⌜ Holds (lent 8 (now (words .entry))) 512 checks (sentAfter (lent 8 (now (words .entry))) 512 checks (messageAt (now (word .entry)) (now (floats .entry))) last) (now (tags .exit)) (now (values .exit)) ⌝ }
+{
+    let w = fill_all(words, checks, word, floats, tags, values);
+    let first = renew(tags, values, w, old_tags, old_values);
+    for r in 0..last {
+        one_round(
+            words,
+            cols,
+            bits,
+            checks,
+            word,
+            floats,
+            at,
+            row_tags,
+            row_values,
+            tags,
+            values,
+        );
+        if renew(tags, values, w, old_tags, old_values) {
+            return;
+        }
+    }
+}
+
+fn no_old_tags() -> [u8; 2048]
+    ensures { λ r. ⌜ r ≡ replicate 2048 0 ⌝ }
+{
+    [0u8; 2048]
+}
+
+fn no_old_values() -> [f32; 2048]
+    ensures { λ r. ⌜ r ≡ replicate 2048 positiveZero ⌝ }
+{
+    [0.0f32; 2048]
+}
+
 // All rounds: the results replace the channel values.
 pub fn run(
     words: &[u64],
@@ -108,23 +171,25 @@ pub fn run(
     requires { ⌜ (length (now cols) ≡ 4096) × (across (lent 8 (now cols)) ≡ lent 8 (now words)) ⌝ }
     ensures { λ r. ⌜ Holding bits (resultAfter (lent 8 (now (words .entry))) 512 checks (messageAt (now (word .entry)) (now (floats .entry))) rounds) (now (word .exit)) (now (floats .exit)) ⌝ }
 {
-    fill_all(words, checks, word, floats, tags, values);
+    let mut old_tags = no_old_tags();
+    let mut old_values = no_old_values();
     let last = rounds - 1;
-    for r in 0..last {
-        one_round(
-            words,
-            cols,
-            bits,
-            checks,
-            word,
-            floats,
-            at,
-            row_tags,
-            row_values,
-            tags,
-            values,
-        );
-    }
+    course(
+        words,
+        cols,
+        bits,
+        checks,
+        last,
+        at,
+        row_tags,
+        row_values,
+        tags,
+        values,
+        word,
+        floats,
+        &mut old_tags,
+        &mut old_values,
+    );
     last_round(
         words,
         cols,

@@ -8,5 +8,6 @@ pub mod Exact
 pub mod Sound
 pub mod Fits
 pub mod Rounds
+pub mod Standing
 pub mod AsPeeling
 pub mod Outcomes

@@ -1,6 +1,6 @@
 -- What document 02 promises in words of its calls, each as a statement over what the calls answer and leave. Read Causes (replies and
 -- outcomes), Calls (what each call comes to) and Demand3 (lists of calls) first. Assumes nothing.
-use Prim.Native.Nat.{ℕ, _≤_, _+_, _*_, _<_, _-_}
+use Prim.Native.Nat.{ℕ, suc, _≤_, _+_, _*_, _<_, _-_}
 use mathlib.Core.Path.{_≡_}
 use mathlib.Core.Bool.{Bool, true, false, not, _&&_, cond}
 use mathlib.Core.List.{List, [], _∷_, _++_, List·Memᴰ}
@@ -346,6 +346,20 @@ WritesFinite = (ws : List ℕ) (n m k rounds : ℕ) (word : List ℕ) (floats : 
     → minSumOutcome ws n m k rounds word floats bytes values .reply ≡ answer []
     → let o = minSumOutcome ws n m k rounds word floats bytes values in
     ((b : ℕ) → b < n + k → finite (getD (o .floats) b nan) ≡ true) × ((i : ℕ) → i < 65536 → finite (getD (o .messageFloats) i nan) ≡ true)
+
+-- Ours: the same message at every one of the matrix, of N bits and M checks
+abbrev pub Agree : Matrix → ℕ → ℕ → Messages → Messages → Type 0
+Agree h N M sent sent' = (c b : ℕ) → c < M → b < N → h c b ≡ true → sent c b ≡ sent' c b
+
+-- Ours: where one round more than r changes no message, no later round does, and the call does the same with every number of rounds above r. `min_sum` ends
+-- its rounds there.
+abbrev pub RoundsEnd : Type 0
+RoundsEnd = (ws : List ℕ) (n m k rounds : ℕ) (word : List ℕ) (floats : List Float) (bytes : List ℕ) (values : List Float)
+    → minSumOutcome ws n m k rounds word floats bytes values .reply ≡ answer []
+    → let sent = sentAfter (lent 8 ws) (n + k) (m + k) (messageAt word floats) in
+    (r : ℕ) → r < rounds → Agree (lent 8 ws) (n + k) (m + k) (sent (suc r)) (sent r)
+    → (others : ℕ) → r < others → others ≤ 512
+    → minSumOutcome ws n m k others word floats bytes values ≡ minSumOutcome ws n m k rounds word floats bytes values
 
 -- M-113: what a check sends, as M-112 defines it, where its n other bits sent the soft values g 0 .. g (n - 1)
 abbrev pub sendsFor : ℕ → (ℕ → Float) → Channel

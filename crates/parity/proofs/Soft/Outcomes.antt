@@ -1,6 +1,6 @@
--- What the call on soft bits promises of outcomes on lists: results are finite, a check's soft answer is one input or its negation, and words of sure and
--- erased bits got from a codeword end as peeling ends. Assumes nothing.
-use mathlib.Core.Path.{_≡_, refl, sym, ap, _∙_}
+-- What the call on soft bits promises of outcomes on lists: results are finite, a check's soft answer is one input or its negation, rounds after one that
+-- changes nothing change nothing, and words of sure and erased bits got from a codeword end as peeling ends. Assumes nothing.
+use mathlib.Core.Path.{_≡_, refl, sym, ap, fun-ext, _∙_}
 use mathlib.Core.Bool.{Bool, true, false, not, cond, _&&_, _||_, and-eq-true-iff, true≢false}
 use mathlib.Core.List.{List, [], _∷_}
 use Prim.Native.Nat.{ℕ, zero, suc, _+_, _<_, _≤_}
@@ -8,7 +8,7 @@ use native.Mathlib.Omega.{arith}
 use lib.Dec.{eqb, leb}
 use lib.ListN.{getD, length, replicate, length-replicate, getD-replicate}
 use lib.Seq.{ext-getD}
-use borrow.Author.Tests.{eq-eqb, ne-eqb, eqb-true, leb-true, not-false}
+use borrow.Author.Tests.{eq-eqb, ne-eqb, eqb-true, le-leb, leb-true, not-false}
 use lib.Ieee.{Float, nan, binary32, fits, le}
 use Rattle.parity.specs.Finite.{any, least, listFrom}
 use Rattle.parity.specs.Matrix.{lent}
@@ -19,7 +19,7 @@ use Rattle.parity.specs.Demand3.{erasing}
 use Rattle.parity.specs.Floats.{positiveZero, finite, magnitude, limit, tooLarge}
 use Rattle.parity.specs.Soft.{channelOf, byteFor, floatFor, messageAt, sentAfter, but, toBits, resultAfter, sound}
 use Rattle.parity.specs.SoftCall.{wrongRounds, wrongLengths, wrongFloat, softReply, minSumReply, floatsFrom, minSumOutcome}
-use Rattle.parity.specs.Promises.{AnswerIsInput, EndsAsPeeling, WritesFinite}
+use Rattle.parity.specs.Promises.{AnswerIsInput, EndsAsPeeling, WritesFinite, RoundsEnd}
 use Rattle.parity.specs.declared.Channel.{Channel}
 use Rattle.parity.specs.declared.Channel.the-variants.{Sure, Soft, Erased}
 use Rattle.parity.proofs.Finite.Bools.{or-false-both}
@@ -37,6 +37,7 @@ use Rattle.parity.proofs.Soft.Exact.{one-input}
 use Rattle.parity.proofs.Soft.Sound.{check-sound, bit-sound}
 use Rattle.parity.proofs.Soft.Rounds.{sent-every, result-every}
 use Rattle.parity.proofs.Soft.Fits.{fit, regular, regular-of, regular-soft, check-regular, bit-regular}
+use Rattle.parity.proofs.Soft.Standing.{result-ends}
 use Rattle.parity.proofs.Soft.AsPeeling.{ends-as-peeling, ends-without-float}
 
 -- ---- lists of floats
@@ -150,6 +151,28 @@ writes-finite ws n m k rounds word floats bytes values e = (
       (finite-float (resultAfter (lent 8 ws) (n + k) (m + k) (messageAt word floats) rounds (0 + b)) (result-sound ws n m k rounds word floats bytes values e (0 + b) (omega arith))),
   λ i l. rw (messages-are ws n m k rounds word floats bytes values e, getD-replicate 65536 i positiveZero nan l) finite-zero,
 )
+
+-- ---- rounds that change nothing
+-- only cause 22 asks for the rounds
+rounds-alike : (N rounds others : ℕ) (word : List ℕ) (floats : List Float) (bytes : List ℕ) (values : List Float)
+    → answer [] ≡ softReply N rounds word floats bytes values → 1 ≤ others → others ≤ 512
+    → softReply N others word floats bytes values ≡ softReply N rounds word floats bytes values
+unfolding softReply
+rounds-alike N rounds others word floats bytes values e k l =
+    elim (is (wrongRounds rounds)) [
+      | is-true a ↦ absurd (no-answer 22 [] (λ z. omega arith) (rw a at e))
+      | is-false a ↦ rw (a, le-leb 1 others k, le-leb others 512 l)
+    ]
+
+pub rounds-end : RoundsEnd
+unfolding minSumOutcome minSumReply
+rounds-end ws n m k rounds word floats bytes values e r l A others l' i =
+    let h = lent 8 ws in
+    let channel = messageAt word floats in
+    let soft = sym (sym (passes ws n m k (accepted-is ws n m k rounds word floats bytes values e) _) ∙ e) in
+    let results : resultAfter h (n + k) (m + k) channel others ≡ resultAfter h (n + k) (m + k) channel rounds = fun-ext (λ b.
+    result-ends h (n + k) (m + k) channel r A others l' b ∙ sym (result-ends h (n + k) (m + k) channel r A rounds l b)) in
+    rw (rounds-alike (n + k) rounds others word floats bytes values soft (omega arith) i, results)
 
 -- ---- a check's soft answer
 channel-fit : (t : ℕ) (x : Float) → fits binary32 x ≡ true → fit (channelOf t x) ≡ true

@@ -45,7 +45,7 @@ returns : tie.Need-returns Inv-loop μ-loop
 returns c =
     let l = c .before .loop in
     let e : l .c ≡ c .before .before .before .before .before .before .before .args .checks = omega (arith, c .loop-test .left, l .inv .0) in
-    filling-all _ _ _ _ _ _ (rw e at (l .inv .2))
+    (rw e at (l .inv .1), filling-all _ _ _ _ _ _ (rw e at (l .inv .2)))
 
 pub fill-all-spec : {M : Type 1} → statement M
 fill-all-spec =

@@ -18,7 +18,7 @@ use Rattle.messages.specs.Memory.{start, place, held, column, Cursors, M
 use Rattle.parity.specs.declared.Channel.{Channel}
 use Rattle.soft.proofs.Places.{message-other}
 use Rattle.messages.proofs.Compact.{rank-less, rank-same}
-use Rattle.messages.proofs.Places.{start-mono, place-low, place-high}
+use Rattle.messages.proofs.Places.{start-mono, place-low, place-high, above-none, above-more}
 use Rattle.messages.proofs.Word.{Gap, gap-count, gap-before}
 
 -- what was written is there
@@ -89,7 +89,7 @@ within-gap h M W b c k = record { least = k; none = λ d l m. W .after d b l }
 -- ---- the way back
 module _ (h : Matrix) (N b : ℕ) (row : ℕ → Channel) (ts : List ℕ) (xs : List Float) where
   pub spread-none : (l : ℕ) → Spread h N b l l row ts xs ts xs
-  spread-none l = record { tags = refl; values = refl; done = λ d k m e. absurd (omega arith); rest = λ d a k e q. refl }
+  spread-none l = record { tags = refl; values = refl; done = λ d k m e. absurd (omega arith); rest = λ d a k e q. refl; above = above-none h N ts xs }
 
   module _ (l c : ℕ) (us : List ℕ) (ys : List Float) (S : Spread h N b l c row ts xs us ys) where
     pub spread-gap : (e : ℕ) → Gap (column h b) c e → Spread h N b l e row ts xs us ys
@@ -98,6 +98,7 @@ module _ (h : Matrix) (N b : ℕ) (row : ℕ → Channel) (ts : List ℕ) (xs : 
       values = S .values;
       done = λ d k m q. S .done d k (gap-before (column h b) c e G d m q) q;
       rest = λ d a k q r. S .rest d a k q (λ z m. omega (arith, r z m, G .least));
+      above = S .above;
     }
 
     pub spread-end : (M : ℕ) → Within h M → M ≤ c → Spread h N b l M row ts xs us ys
@@ -106,6 +107,7 @@ module _ (h : Matrix) (N b : ℕ) (row : ℕ → Channel) (ts : List ℕ) (xs : 
       values = S .values;
       done = λ d i m q. S .done d i (omega arith) q;
       rest = λ d a i q r. S .rest d a i q (λ z m. omega (arith, r z m, within-below h M W d a q));
+      above = S .above;
     }
 
     -- those from c on besides
@@ -118,12 +120,13 @@ module _ (h : Matrix) (N b : ℕ) (row : ℕ → Channel) (ts : List ℕ) (xs : 
         | no n ↦ T .done d (omega arith) m q
       ];
       rest = λ d a m q r. T .rest d a m q (λ z n. r z (omega arith)) ∙ S .rest d a m q (λ z n. omega (arith, r z n));
+      above = above-more h N ts xs us ys (S .above) vs zs (T .above);
     }
 
-    pub spread-one : b < N → l ≤ c → h c b ≡ true → place h N c b < length us → place h N c b < length ys → (y : ℕ) (x : Float) → channelOf y x ≡ row (count c (column h b))
+    pub spread-one : b < N → c < 512 → l ≤ c → h c b ≡ true → place h N c b < length us → place h N c b < length ys → (y : ℕ) (x : Float) → channelOf y x ≡ row (count c (column h b))
         → Spread h N b l (c + 1) row ts xs (set us (place h N c b) y) (set ys (place h N c b) x)
     unfolding held
-    spread-one kb lc e i j y x v = record {
+    spread-one kb kc lc e i j y x v = record {
       tags = length-set us _ _ ∙ S .tags;
       values = length-set ys _ _ ∙ S .values;
       done = λ d k m r. elim (ℕ-discrete d c) [
@@ -132,6 +135,9 @@ module _ (h : Matrix) (N b : ℕ) (row : ℕ → Channel) (ts : List ℕ) (xs : 
       ];
       rest = λ d a k r s. message-other us ys (place h N c b) (place h N d a) _ _
           (λ w. let f = place-same h N d a c b k kb r e w in omega (arith, s (f .1) (omega (arith, f .0)), f .0)) ∙ S .rest d a k r (λ z m. omega (arith, s z m));
+      above = record {
+        at = λ q k. message-other us ys (place h N c b) q _ _ (λ w. omega (arith, w, place-high h N c b kb e, start-mono h N (suc c) 512 kc)) ∙ S .above .at q k;
+      };
     }
 
 -- ---- the cursors

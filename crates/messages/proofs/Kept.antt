@@ -1,17 +1,17 @@
 -- Messages that are the same, and those kept of the round before. Assumes nothing.
-use mathlib.Core.Path.{_≡_, sym, ap, _∙_}
+use mathlib.Core.Path.{_≡_, refl, sym, ap, _∙_}
 use mathlib.Core.Bool.{true, false, not, false≢true}
 use mathlib.Core.List.{List}
-use Prim.Native.Nat.{ℕ, _+_, _<_}
+use Prim.Native.Nat.{ℕ, _+_, _<_, _≤_}
 use native.Mathlib.Decide.{ℕ-discrete}
 use native.Mathlib.Omega.{arith}
 use lib.Dec.{T}
-use lib.ListN.{getD, length, set}
+use lib.ListN.{getD, length, set, length-set}
 use lib.Ieee.{Float, nan, inf, fin, binary32, fits, isNan, eq, ofBits, toBits}
 use lib.Ieee.Bits.{ofBits-toBits}
 use Rattle.parity.specs.Soft.{messageAt}
 use Rattle.soft.proofs.Places.{message-other}
-use Rattle.messages.specs.Standing.{Alike}
+use Rattle.messages.specs.Standing.{Twice, Kept}
 use Rattle.messages.proofs.Cursor.{message-here, message-is}
 
 -- ---- floats
@@ -36,22 +36,42 @@ pub same-bits : (x y : Float) → T (fits binary32 x) → T (fits binary32 y) �
 same-bits x y p q e = sym (ofBits-toBits binary32 x p) ∙ ap (ofBits binary32) e ∙ ofBits-toBits binary32 y q
 
 -- ---- messages
-module _ (ts : List ℕ) (xs : List Float) (us : List ℕ) (ys : List Float) where
-  pub alike-none : Alike 0 ts xs us ys
-  alike-none = record { at = λ j k. absurd (omega arith) }
+module _ (w : ℕ) (ts : List ℕ) (xs : List Float) where
+  pub twice-none : Twice w 0 ts xs
+  twice-none = record { at = λ q j k. absurd (omega arith) }
 
-  module _ (i : ℕ) (A : Alike i ts xs us ys) where
-    pub alike-more : messageAt ts xs i ≡ messageAt us ys i → Alike (i + 1) ts xs us ys
-    alike-more e = record { at = λ j k. elim (ℕ-discrete j i) [ yes z ↦ rw z e | no z ↦ A .at j (omega arith) ] }
+  pub twice-more : (i : ℕ) → Twice w i ts xs → getD ts i 0 ≡ getD ts (w + i) 0 → getD xs i nan ≡ getD xs (w + i) nan → Twice w (i + 1) ts xs
+  twice-more i A e f = record { at = λ q j k. elim (ℕ-discrete j i) [ yes z ↦ rw z here | no z ↦ A .at q j (omega arith) ] }
+    where
+      here : messageAt ts xs i ≡ messageAt ts xs (w + i)
+      here = unfold messageAt in rw (e, f)
 
-    pub same-more : getD ts i 0 ≡ getD us i 0 → getD xs i nan ≡ getD ys i nan → Alike (i + 1) ts xs us ys
-    unfolding messageAt
-    same-more e q = alike-more (rw (e, q))
+  pub kept-none : Kept w 0 ts xs ts xs
+  kept-none = record { tags = refl; values = refl; same = λ j k. refl; copy = λ q j k. absurd (omega arith) }
 
-    pub kept-more : i < length us → i < length ys → Alike (i + 1) ts xs (set us i (getD ts i 0)) (set ys i (getD xs i nan))
-    kept-more k l = record {
-      at = λ j m. elim (ℕ-discrete j i) [
-        | yes z ↦ rw z (sym (message-is ts xs i) ∙ sym (message-here us ys i (getD ts i 0) (getD xs i nan) k l))
-        | no z ↦ A .at j (omega arith) ∙ sym (message-other us ys i j _ _ z)
+  -- without room
+  pub kept-not : (w + w ≤ 65536 → ⊥) → Kept w w ts xs ts xs
+  kept-not n = record { tags = refl; values = refl; same = λ j k. refl; copy = λ q. absurd (n q) }
+
+  -- what stands need not be kept anew
+  pub kept-twice : Twice w w ts xs → Kept w w ts xs ts xs
+  kept-twice A = record { tags = refl; values = refl; same = λ j k. refl; copy = λ q j k. sym (A .at q j k) }
+
+  module _ (i : ℕ) (us : List ℕ) (ys : List Float) (K : Kept w i ts xs us ys) where
+    pub kept-more : i < w → w + i < length us → w + i < length ys → Kept w (i + 1) ts xs (set us (w + i) (getD us i 0)) (set ys (w + i) (getD ys i nan))
+    kept-more k l m = record {
+      tags = length-set us _ _ ∙ K .tags;
+      values = length-set ys _ _ ∙ K .values;
+      same = λ j n. message-other us ys (w + i) j _ _ (λ z. omega arith) ∙ K .same j n;
+      copy = λ q j n. elim (ℕ-discrete j i) [
+        | yes z ↦ rw z (message-here us ys (w + i) (getD us i 0) (getD ys i nan) l m ∙ message-is us ys i ∙ K .same i k)
+        | no z ↦ message-other us ys (w + i) (w + j) _ _ (λ e. omega arith) ∙ K .copy q j (omega arith)
       ];
     }
+
+    pub kept-all : i ≡ w → Kept w w ts xs us ys
+    kept-all e = rw e at K
+
+  -- what is kept stands twice
+  pub twice-kept : (us : List ℕ) (ys : List Float) → Kept w w ts xs us ys → Twice w w us ys
+  twice-kept us ys K = record { at = λ q j k. K .same j k ∙ sym (K .copy q j k) }

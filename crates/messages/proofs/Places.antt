@@ -10,10 +10,10 @@ use lib.Arith.{le-zero}
 use lib.Ieee.{Float}
 use Rattle.parity.specs.Finite.{sum, count}
 use Rattle.parity.specs.Matrix.{Matrix}
-use Rattle.parity.proofs.Finite.Sums.{is-true, is-false, is}
+use Rattle.parity.proofs.Finite.Sums.{is-true, is-false, is, count-end}
 use Rattle.parity.specs.Soft.{Messages, toBits}
 use Rattle.soft.specs.Pass.{Sounds, checkAnswer}
-use Rattle.messages.specs.Memory.{start, place, held, Part, from, SoundAll, Answering}
+use Rattle.messages.specs.Memory.{start, place, held, Part, from, Above, SoundAll, Answering, Within}
 use Rattle.parity.specs.declared.Channel.{Channel}
 use Rattle.messages.proofs.Compact.{rank-less, check-row}
 
@@ -55,6 +55,28 @@ module _ (h : Matrix) (N : ℕ) where
   pub place-high : (c b : ℕ) → b < N → h c b ≡ true → place h N c b < start h N (suc c)
   unfolding place
   place-high c b k e = omega (arith, start-suc c, rank-less (h c) b N k e)
+
+  -- ---- the places after all messages
+  pub above-none : (ts : List ℕ) (xs : List Float) → Above h N ts xs ts xs
+  above-none ts xs = record { at = λ i k. refl }
+
+  pub above-more : (ts : List ℕ) (xs : List Float) (us : List ℕ) (ys : List Float) → Above h N ts xs us ys → (vs : List ℕ) (zs : List Float) → Above h N us ys vs zs → Above h N ts xs vs zs
+  above-more ts xs us ys A vs zs B = record { at = λ i k. B .at i k ∙ A .at i k }
+
+  pub above-part : (c : ℕ) (g : ℕ → Channel) (ts : List ℕ) (xs : List Float) (us : List ℕ) (ys : List Float) → c < 512 → Part (start h N c) (count N (h c)) g ts xs us ys
+      → Above h N ts xs us ys
+  above-part c g ts xs us ys k P = record { at = λ i l. P .after i (omega (arith, start-suc c, start-mono (suc c) 512 k)) }
+
+  -- no check from M on has messages
+  pub start-end : (M c : ℕ) → Within h M → M ≤ c → start h N c ≡ start h N M
+  start-end M zero W k = rw (le-zero k)
+  start-end M (suc c) W k = elim (ℕ-discrete M (suc c)) [
+    | yes q ↦ rw q
+    | no n ↦ start-suc c ∙ omega (arith, start-end M c W (omega arith), count-end 0 N (h c) (omega arith) (λ a l m. W .after c a (omega arith)), empty (h c))
+  ]
+    where
+      empty : (p : ℕ → Bool) → count 0 p ≡ 0
+      empty p = unfold count sum in refl
 
   pub answering-start : (M : ℕ) (ts : List ℕ) (xs : List Float) → Answering h N M 0 (held h N ts xs) ts xs
   answering-start M ts xs = record { done = λ d b k. absurd (omega arith); left = λ d b k l m e. refl }

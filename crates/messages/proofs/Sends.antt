@@ -43,7 +43,7 @@ module _ (h : Matrix) (N M b : ℕ) (v : Channel) (ts : List ℕ) (xs : List Flo
         ∙ ap settled (gathered-row (column h b) (heldAt h N ts xs b) (from 0 rt rx) v M d e in-row)
 
     pub bit-sent : BitSent h N M b v ts xs ts' xs'
-    bit-sent = record { tags = S .tags; values = S .values; done = sent-at; rest = λ d a k l e n. S .rest d a l e (λ z. absurd (n z)) }
+    bit-sent = record { tags = S .tags; values = S .values; done = sent-at; rest = λ d a k l e n. S .rest d a l e (λ z. absurd (n z)); above = S .above }
 
 -- ---- all bits
 module _ (h : Matrix) (N M : ℕ) (channel : ℕ → Channel) (old : Messages) where

@@ -6,7 +6,7 @@ use lib.ListN.{length}
 use lib.Ieee.{Float}
 use Rattle.parity.specs.Matrix.{Matrix}
 use Rattle.parity.specs.Soft.{Messages}
-use Rattle.messages.specs.Memory.{Cursors, Sending, Answering, held, resultOf}
+use Rattle.messages.specs.Memory.{Cursors, Sending, Answering, Above, held, resultOf}
 use Rattle.soft.specs.Pass.{Holding}
 use Rattle.parity.specs.declared.Channel.{Channel}
 
@@ -40,6 +40,7 @@ pub record Round (h : Matrix) (N M : ℕ) (channel : ℕ → Channel) (ts : List
   pub mx : List Float
   pub heard : Heard h M ts xs mt mx
   pub sent : SentAll h M N channel (held h 512 mt mx) ts' xs'
+  pub above : Above h 512 ts xs ts' xs'
 
 -- the last half round, and the results
 pub record Last (h : Matrix) (N M : ℕ) (channel : ℕ → Channel) (ts : List ℕ) (xs : List Float) (w : List ℕ) (f : List Float) : Type 0 where

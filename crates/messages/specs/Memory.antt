@@ -51,6 +51,10 @@ across g c b = g b c
 abbrev pub column : Matrix → ℕ → ℕ → Bool
 column h b c = h c b
 
+-- the places after all messages are as they were
+pub record Above (h : Matrix) (N : ℕ) (ts : List ℕ) (xs : List Float) (ts' : List ℕ) (xs' : List Float) : Type 0 where
+  pub at : (i : ℕ) → start h N 512 ≤ i → messageAt ts' xs' i ≡ messageAt ts xs i
+
 -- For each check with a bit, the place of its message with bit b, or of the next above b.
 pub record Cursors (h : Matrix) (N b : ℕ) (at : List ℕ) : Type 0 where
   pub size : length at ≡ 512
@@ -84,6 +88,7 @@ pub record Spread (h : Matrix) (N b l c : ℕ) (row : ℕ → Channel) (ts : Lis
   pub values : length xs' ≡ length xs
   pub done : (d : ℕ) → l ≤ d → d < c → h d b ≡ true → held h N ts' xs' d b ≡ row (count d (column h b))
   pub rest : (d a : ℕ) → a < N → h d a ≡ true → (a ≡ b → l ≤ d → c ≤ d) → held h N ts' xs' d a ≡ held h N ts xs d a
+  pub above : Above h N ts xs ts' xs'
 
 -- The first b bits have sent; the messages at the others are as they were.
 pub record Sending (h : Matrix) (N M b : ℕ) (channel : ℕ → Channel) (old : Messages) (ts : List ℕ) (xs : List Float) : Type 0 where
@@ -96,6 +101,7 @@ pub record BitSent (h : Matrix) (N M b : ℕ) (v : Channel) (ts : List ℕ) (xs 
   pub values : length xs' ≡ length xs
   pub done : (d : ℕ) → d < M → h d b ≡ true → held h N ts' xs' d b ≡ bitSends v M (λ e. h e b && but d e) (heldAt h N ts xs b)
   pub rest : (d a : ℕ) → d < M → a < N → h d a ≡ true → (a ≡ b → ⊥) → held h N ts' xs' d a ≡ held h N ts xs d a
+  pub above : Above h N ts xs ts' xs'
 
 -- the result of each bit, from the messages that the lists hold
 unfoldable pub resultOf : Matrix → ℕ → ℕ → (ℕ → Channel) → List ℕ → List Float → ℕ → Channel

@@ -1,5 +1,5 @@
--- The messages of the round before, of which 2,048 are kept at most. Assumes nothing.
-use Prim.Native.Nat.{ℕ, _<_, _≤_}
+-- The messages of the round before: a copy in the places after the w messages, where the lent memory has room for both. Assumes nothing.
+use Prim.Native.Nat.{ℕ, _+_, _<_, _≤_}
 use mathlib.Core.Path.{_≡_}
 use mathlib.Core.Bool.{Bool, true}
 use mathlib.Core.List.{List}
@@ -7,17 +7,18 @@ use lib.ListN.{length}
 use lib.Ieee.{Float}
 use Rattle.parity.specs.Soft.{messageAt}
 
--- the first w messages of both pairs of lists are the same
-pub record Alike (w : ℕ) (ts : List ℕ) (xs : List Float) (us : List ℕ) (ys : List Float) : Type 0 where
-  pub at : (i : ℕ) → i < w → messageAt ts xs i ≡ messageAt us ys i
+-- with room, the first i of the w messages are those of the copy
+pub record Twice (w i : ℕ) (ts : List ℕ) (xs : List Float) : Type 0 where
+  pub at : w + w ≤ 65536 → (j : ℕ) → j < i → messageAt ts xs j ≡ messageAt ts xs (w + j)
 
--- us and ys keep the w messages, if there is room for them
-pub record Kept (w : ℕ) (ts : List ℕ) (xs : List Float) (us : List ℕ) (ys : List Float) : Type 0 where
-  pub tags : length us ≡ 2048
-  pub values : length ys ≡ 2048
-  pub alike : w ≤ 2048 → Alike w ts xs us ys
+-- The first i of the w messages are copied, with room, and all w stay.
+pub record Kept (w i : ℕ) (ts : List ℕ) (xs : List Float) (ts' : List ℕ) (xs' : List Float) : Type 0 where
+  pub tags : length ts' ≡ length ts
+  pub values : length xs' ≡ length xs
+  pub same : (j : ℕ) → j < w → messageAt ts' xs' j ≡ messageAt ts xs j
+  pub copy : w + w ≤ 65536 → (j : ℕ) → j < i → messageAt ts' xs' (w + j) ≡ messageAt ts xs j
 
--- r says that there is room, and that they are the kept ones
-pub record Standing (r : Bool) (w : ℕ) (ts : List ℕ) (xs : List Float) (us : List ℕ) (ys : List Float) : Type 0 where
-  pub room : r ≡ true → w ≤ 2048
-  pub alike : r ≡ true → Alike w ts xs us ys
+-- r says that there is room, and that the messages are those of the copy
+pub record Standing (r : Bool) (w : ℕ) (ts : List ℕ) (xs : List Float) : Type 0 where
+  pub room : r ≡ true → w + w ≤ 65536
+  pub twice : r ≡ true → Twice w w ts xs

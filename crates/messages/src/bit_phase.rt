@@ -11,7 +11,7 @@ ghost use lib.ListN.{length};
 ghost use Rattle.parity.specs.Matrix.{lent};
 ghost use Rattle.parity.specs.Soft.{messageAt, bitSends};
 ghost use Rattle.soft.specs.Pass.{Holding};
-ghost use Rattle.messages.specs.Memory.{across, column, Cursors, held, heldAt, BitSent, resultOf, Within};
+ghost use Rattle.messages.specs.Memory.{across, column, Cursors, held, heldAt, Above, BitSent, resultOf, Within};
 ghost use Rattle.messages.specs.Loops.{Moved, SentAll};
 
 // Bit `b` sends to its checks.
@@ -78,6 +78,7 @@ pub fn send_all(
     requires { ⌜ Moved (across (lent 8 (now cols))) 0 (now at) (now «row_tags») (now «row_values») ⌝ }
     ensures { λ r. ⌜ Moved (across (lent 8 (now (cols .entry)))) bits (now (at .exit)) (now («row_tags» .exit)) (now («row_values» .exit)) ⌝ }
     ensures { λ r. ⌜ SentAll (across (lent 8 (now (cols .entry)))) checks bits (messageAt (now (word .entry)) (now (floats .entry))) (held (across (lent 8 (now (cols .entry)))) 512 (now (tags .entry)) (now (values .entry))) (now (tags .exit)) (now (values .exit)) ⌝ }
+    ensures { λ r. ⌜ Above (across (lent 8 (now (cols .entry)))) 512 (now (tags .entry)) (now (values .entry)) (now (tags .exit)) (now (values .exit)) ⌝ }
 {
     for b in 0..bits {
         bit_sends(

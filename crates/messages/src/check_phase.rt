@@ -7,7 +7,7 @@ ghost use Prim.Native.Nat.{_+_, _≤_, _<_};
 ghost use lib.ListN.{length};
 ghost use Rattle.parity.specs.Matrix.{lent};
 ghost use Rattle.soft.specs.Pass.{Sounds, checkAnswer};
-ghost use Rattle.messages.specs.Memory.{Part, from, held, Cursors, SoundAll, Answering, Within};
+ghost use Rattle.messages.specs.Memory.{Part, from, held, Cursors, Above, SoundAll, Answering, Within};
 
 // The check with `w` messages from place `a` on answers.
 fn check_at(tags: &mut [u8], values: &mut [f32], a: usize, w: usize)
@@ -32,6 +32,7 @@ pub fn checks_send(
     requires { ⌜ SoundAll (lent 8 (now words)) 512 checks (held (lent 8 (now words)) 512 (now tags) (now values)) ⌝ }
     ensures { λ r. ⌜ Cursors (lent 8 (now (words .entry))) 512 0 (now (at .exit)) ⌝ }
     ensures { λ r. ⌜ Answering (lent 8 (now (words .entry))) 512 checks checks (held (lent 8 (now (words .entry))) 512 (now (tags .entry)) (now (values .entry))) (now (tags .exit)) (now (values .exit)) ⌝ }
+    ensures { λ r. ⌜ Above (lent 8 (now (words .entry))) 512 (now (tags .entry)) (now (values .entry)) (now (tags .exit)) (now (values .exit)) ⌝ }
 {
     let mut a: usize = 0;
     for c in 0..checks {

@@ -1,7 +1,6 @@
-// Whether a round leaves the messages as they were.
+// Whether a round leaves the messages as they were. The `w` messages of the round before are kept in the places after the messages, if there is room.
 ghost use mathlib.Core.Path.{_≡_};
 ghost use mathlib.Core.Bool.{true};
-ghost use Prim.Native.Nat.{_≤_};
 ghost use lib.ListN.{length};
 ghost use Rattle.messages.specs.Standing.{Kept, Standing};
 
@@ -15,51 +14,48 @@ fn same_float(x: f32, y: f32) -> bool
     false
 }
 
-// Whether the first `w` messages are the kept ones.
-fn same(tags: &[u8], values: &[f32], w: usize, old_tags: &[u8], old_values: &[f32]) -> bool
-    requires { ⌜ (w ≤ 2048) × (w ≤ length (now tags)) × (w ≤ length (now values)) × (length (now «old_tags») ≡ 2048) × (length (now «old_values») ≡ 2048) ⌝ }
-    ensures { λ r. ⌜ Standing r w (now (tags .entry)) (now (values .entry)) (now («old_tags» .entry)) (now («old_values» .entry)) ⌝ }
+// Whether the messages are the kept ones.
+fn same(tags: &[u8], values: &[f32], w: usize) -> bool
+    requires { ⌜ (length (now tags) ≡ 65536) × (length (now values) ≡ 65536) ⌝ }
+    ensures { λ r. ⌜ Standing r w (now (tags .entry)) (now (values .entry)) ⌝ }
 {
+    if 32768 < w {
+        return false;
+    }
     for i in 0..w {
-        if tags[i] != old_tags[i] {
+        if tags[i] != tags[w + i] {
             return false;
         }
-        if !same_float(values[i], old_values[i]) {
+        if !same_float(values[i], values[w + i]) {
             return false;
         }
     }
     true
 }
 
-// The first `w` messages are kept.
-fn keep(tags: &[u8], values: &[f32], w: usize, old_tags: &mut [u8], old_values: &mut [f32])
-    requires { ⌜ (w ≤ 2048) × (w ≤ length (now tags)) × (w ≤ length (now values)) × (length (now «old_tags») ≡ 2048) × (length (now «old_values») ≡ 2048) ⌝ }
-    ensures { λ r. ⌜ Kept w (now (tags .entry)) (now (values .entry)) (now («old_tags» .exit)) (now («old_values» .exit)) ⌝ }
+// The messages are kept.
+pub fn keep(tags: &mut [u8], values: &mut [f32], w: usize)
+    requires { ⌜ (length (now tags) ≡ 65536) × (length (now values) ≡ 65536) ⌝ }
+    ensures { λ r. ⌜ Kept w w (now (tags .entry)) (now (values .entry)) (now (tags .exit)) (now (values .exit)) ⌝ }
 {
+    if 32768 < w {
+        return;
+    }
     for i in 0..w {
-        old_tags[i] = tags[i];
-        old_values[i] = values[i];
+        tags[w + i] = tags[i];
+        values[w + i] = values[i];
     }
 }
 
-// The `w` messages are kept, if there is room for them. Returns whether they are those that were kept before.
-pub fn renew(
-    tags: &[u8],
-    values: &[f32],
-    w: usize,
-    old_tags: &mut [u8],
-    old_values: &mut [f32],
-) -> bool
-    requires { ⌜ (w ≤ length (now tags)) × (w ≤ length (now values)) × (length (now «old_tags») ≡ 2048) × (length (now «old_values») ≡ 2048) ⌝ }
-    ensures { λ r. ⌜ Standing r w (now (tags .entry)) (now (values .entry)) (now («old_tags» .entry)) (now («old_values» .entry)) ⌝ }
-    ensures { λ r. ⌜ Kept w (now (tags .entry)) (now (values .entry)) (now («old_tags» .exit)) (now («old_values» .exit)) ⌝ }
+// The messages are kept. Returns whether they are those that were kept before.
+pub fn renew(tags: &mut [u8], values: &mut [f32], w: usize) -> bool
+    requires { ⌜ (length (now tags) ≡ 65536) × (length (now values) ≡ 65536) ⌝ }
+    ensures { λ r. ⌜ Standing r w (now (tags .entry)) (now (values .entry)) ⌝ }
+    ensures { λ r. ⌜ Kept w w (now (tags .entry)) (now (values .entry)) (now (tags .exit)) (now (values .exit)) ⌝ }
 {
-    if 2048 < w {
-        return false;
-    }
-    if same(tags, values, w, old_tags, old_values) {
+    if same(tags, values, w) {
         return true;
     }
-    keep(tags, values, w, old_tags, old_values);
+    keep(tags, values, w);
     false
 }

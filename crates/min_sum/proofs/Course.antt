@@ -10,15 +10,15 @@ use lib.Ieee.{Float}
 use Rattle.parity.specs.Matrix.{Matrix}
 use Rattle.parity.specs.Soft.{Messages, messageAt, settled, bitSends, toBits, toChecks, sentAfter, resultAfter, sound, byteFor, floatFor, but}
 use Rattle.parity.specs.Promises.{Agree}
-use Rattle.messages.specs.Memory.{start, place, held, Inner, Within, Holds, Answering, SoundAll, resultOf}
+use Rattle.messages.specs.Memory.{start, place, held, Above, Inner, Within, Holds, Answering, SoundAll, resultOf}
 use Rattle.messages.specs.Loops.{SentAll, Round, Last}
-use Rattle.messages.specs.Standing.{Alike}
+use Rattle.messages.specs.Standing.{Twice, Kept}
 use Rattle.soft.specs.Pass.{Holding, Sounds}
 use Rattle.parity.specs.declared.Channel.{Channel}
 use Rattle.parity.proofs.Soft.Sound.{check-sound, bit-sound}
 use Rattle.parity.proofs.Soft.Cong.{gathered-at, check-at'}
 use Rattle.parity.proofs.Soft.Standing.{sent-standing}
-use Rattle.messages.proofs.Places.{start-mono, place-high}
+use Rattle.messages.proofs.Places.{start-mono, start-end, place-high}
 use Rattle.messages.proofs.Sends.{result-is}
 
 module _ (h : Matrix) (N M : ℕ) where
@@ -89,14 +89,25 @@ round-more h N M I channel r ts xs H ts' xs' R =
     let K = holds-heard h 512 M _ ts xs H (R .mt) (R .mx) (R .heard .tags) (R .heard .values) (R .heard .answering) in
     rw (← sent-suc h 512 M channel r) (holds-sent h N M I channel _ (R .mt) (R .mx) K ts' xs' (R .sent))
 
-pub messages-fit : (h : Matrix) (M w n m : ℕ) → Within h M → M ≤ 512 → w ≡ start h 512 M → n ≡ 65536 → m ≡ 65536 → (w ≤ n) × (w ≤ m)
-messages-fit h M w n m W k e p q = omega (arith, start-mono h 512 M 512 k, W .room)
+-- a message's place is below all w of them
+place-fits : (h : Matrix) (M d a : ℕ) → d < M → a < 512 → h d a ≡ true → place h 512 d a < start h 512 M
+place-fits h M d a i j e = omega (arith, place-high h 512 d a j e, start-mono h 512 (suc d) M i)
 
--- A round that leaves every message as it was, us and ys being kept of the round before: the messages are those after any later round.
-pub round-stands : (h : Matrix) (M r last : ℕ) (channel : ℕ → Channel) (ts : List ℕ) (xs : List Float) (us : List ℕ) (ys : List Float) (ts' : List ℕ) (xs' : List Float) → r ≤ last
-    → Holds h 512 M (sentAfter h 512 M channel r) ts xs → Holds h 512 M (sentAfter h 512 M channel (suc r)) ts' xs'
-    → Alike (start h 512 M) ts xs us ys → Alike (start h 512 M) ts' xs' us ys → Holds h 512 M (sentAfter h 512 M channel last) ts' xs'
-round-stands h M r last channel ts xs us ys ts' xs' k H H' A B = record {
+-- keeping the messages leaves them
+pub holds-kept : (h : Matrix) (M w : ℕ) (m : Messages) (ts : List ℕ) (xs : List Float) → w ≡ start h 512 M → Holds h 512 M m ts xs
+    → (us : List ℕ) (ys : List Float) → Kept w w ts xs us ys → Holds h 512 M m us ys
+unfolding held
+holds-kept h M w m ts xs e H us ys K = record {
+  tags = K .tags ∙ H .tags;
+  values = K .values ∙ H .values;
+  at = λ d a i j q. K .same (place h 512 d a) (omega (arith, e, place-fits h M d a i j q)) ∙ H .at d a i j q;
+}
+
+-- A round that leaves every message as it was in the copy of the round before: the messages are those after any later round.
+pub round-stands : (h : Matrix) (M w r last : ℕ) (channel : ℕ → Channel) (ts : List ℕ) (xs : List Float) (ts' : List ℕ) (xs' : List Float) → Within h M → M ≤ 512 → w ≡ start h 512 M
+    → r ≤ last → Holds h 512 M (sentAfter h 512 M channel r) ts xs → Twice w w ts xs → Above h 512 ts xs ts' xs' → Holds h 512 M (sentAfter h 512 M channel (suc r)) ts' xs'
+    → w + w ≤ 65536 → Twice w w ts' xs' → Holds h 512 M (sentAfter h 512 M channel last) ts' xs'
+round-stands h M w r last channel ts xs ts' xs' W k z l H A U H' q B = record {
   tags = H' .tags;
   values = H' .values;
   at = λ d a i j e. H' .at d a i j e ∙ agree d a i j e ∙ sym (later d a i j e);
@@ -104,14 +115,15 @@ round-stands h M r last channel ts xs us ys ts' xs' k H H' A B = record {
   where
     unchanged : (d a : ℕ) → d < M → a < 512 → h d a ≡ true → held h 512 ts' xs' d a ≡ held h 512 ts xs d a
     unchanged d a i j e =
-        let l : place h 512 d a < start h 512 M = omega (arith, place-high h 512 d a j e, start-mono h 512 (suc d) M i) in
-        unfold held in (B .at (place h 512 d a) l ∙ sym (A .at (place h 512 d a) l))
+        let p = place h 512 d a in
+        let f : p < w = omega (arith, z, place-fits h M d a i j e) in
+        unfold held in (B .at q p f ∙ U .at (w + p) (omega (arith, z, start-end h 512 M 512 W k)) ∙ sym (A .at q p f))
 
     agree : Agree h 512 M (sentAfter h 512 M channel (suc r)) (sentAfter h 512 M channel r)
     agree d a i j e = sym (H' .at d a i j e) ∙ unchanged d a i j e ∙ H .at d a i j e
 
     later : Agree h 512 M (sentAfter h 512 M channel last) (sentAfter h 512 M channel r)
-    later = let q : last - r + r ≡ last = omega arith in rw q at (sent-standing h 512 M channel r agree (last - r))
+    later = let p : last - r + r ≡ last = omega arith in rw p at (sent-standing h 512 M channel r agree (last - r))
 
 -- the last round gives the results
 pub last-results : (h : Matrix) (N M : ℕ) (channel : ℕ → Channel) (r : ℕ) (ts : List ℕ) (xs : List Float) → N ≤ 512 → Holds h 512 M (sentAfter h 512 M channel r) ts xs

@@ -3,12 +3,12 @@ use messages::bit_phase::result_all;
 use messages::bit_phase::send_all;
 use messages::check_phase::checks_send;
 use messages::filling::fill_all;
+use messages::standing::keep;
 use messages::standing::renew;
 ghost use mathlib.Core.Path.{_≡_};
 ghost use Prim.Native.Nat.{_≤_};
-ghost use lib.ListN.{length, replicate};
+ghost use lib.ListN.{length};
 ghost use Rattle.parity.specs.Matrix.{lent};
-ghost use Rattle.parity.specs.Floats.{positiveZero};
 ghost use Rattle.parity.specs.Soft.{messageAt, sentAfter, resultAfter};
 ghost use Rattle.soft.specs.Pass.{Holding, Sounds};
 ghost use Rattle.messages.specs.Memory.{across, held, SoundAll, Holds, Inner, Within};
@@ -101,8 +101,6 @@ fn course(
     values: &mut [f32],
     word: &[u8],
     floats: &[f32],
-    old_tags: &mut [u8],
-    old_values: &mut [f32],
 )
     requires { ⌜ (length (now words) ≡ 4096) × (checks ≤ 512) × (bits ≤ 512) × (length (now tags) ≡ 65536) × (length (now values) ≡ 65536) ⌝ }
     requires { ⌜ (length (now word) ≡ bits) × (length (now floats) ≡ bits) × Within (lent 8 (now words)) checks ⌝ }
@@ -110,12 +108,11 @@ fn course(
     requires { ⌜ Inner (lent 8 (now words)) bits ⌝ }
     requires { ⌜ Sounds bits (messageAt (now word) (now floats)) ⌝ }
     requires { ⌜ (length (now cols) ≡ 4096) × (across (lent 8 (now cols)) ≡ lent 8 (now words)) ⌝ }
-    requires { ⌜ (length (now «old_tags») ≡ 2048) × (length (now «old_values») ≡ 2048) ⌝ }
     ensures { λ r. ⌜ Sized (now (at .exit)) (now («row_tags» .exit)) (now («row_values» .exit)) ⌝ }
     ensures { λ r. ⌜ Holds (lent 8 (now (words .entry))) 512 checks (sentAfter (lent 8 (now (words .entry))) 512 checks (messageAt (now (word .entry)) (now (floats .entry))) last) (now (tags .exit)) (now (values .exit)) ⌝ }
 {
     let w = fill_all(words, checks, word, floats, tags, values);
-    let first = renew(tags, values, w, old_tags, old_values);
+    keep(tags, values, w);
     for r in 0..last {
         one_round(
             words,
@@ -130,22 +127,10 @@ fn course(
             tags,
             values,
         );
-        if renew(tags, values, w, old_tags, old_values) {
+        if renew(tags, values, w) {
             return;
         }
     }
-}
-
-fn no_old_tags() -> [u8; 2048]
-    ensures { λ r. ⌜ r ≡ replicate 2048 0 ⌝ }
-{
-    [0u8; 2048]
-}
-
-fn no_old_values() -> [f32; 2048]
-    ensures { λ r. ⌜ r ≡ replicate 2048 positiveZero ⌝ }
-{
-    [0.0f32; 2048]
 }
 
 // All rounds: the results replace the channel values.
@@ -171,8 +156,6 @@ pub fn run(
     requires { ⌜ (length (now cols) ≡ 4096) × (across (lent 8 (now cols)) ≡ lent 8 (now words)) ⌝ }
     ensures { λ r. ⌜ Holding bits (resultAfter (lent 8 (now (words .entry))) 512 checks (messageAt (now (word .entry)) (now (floats .entry))) rounds) (now (word .exit)) (now (floats .exit)) ⌝ }
 {
-    let mut old_tags = no_old_tags();
-    let mut old_values = no_old_values();
     let last = rounds - 1;
     course(
         words,
@@ -187,8 +170,6 @@ pub fn run(
         values,
         word,
         floats,
-        &mut old_tags,
-        &mut old_values,
     );
     last_round(
         words,

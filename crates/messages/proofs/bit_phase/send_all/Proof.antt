@@ -1,6 +1,7 @@
 -- `send_all` meets its contract. Assumes nothing.
 use Rattle.messages.proofs.Sends.{sent-none, sent-more}
-use Rattle.messages.specs.Memory.{across, held}
+use Rattle.messages.proofs.Places.{above-none, above-more}
+use Rattle.messages.specs.Memory.{across, held, Above}
 use Rattle.messages.specs.Loops.{Moved, SentAll}
 use Rattle.parity.specs.Soft.{messageAt}
 use Rattle.parity.specs.Matrix.{lent}
@@ -13,7 +14,7 @@ use Rattle.messages.proofs.bit_phase.send_all.Tie as tie
 abbrev Inv-loop : tie.InvT-loop
 Inv-loop cols bits checks word floats at₀ row-tags₀ row-values₀ tags₀ values₀ b₀ at row-tags row-values tags values b =
     (b ≤ bits) × Moved (across (lent 8 cols)) b at row-tags row-values
-    × SentAll (across (lent 8 cols)) checks b (messageAt word floats) (held (across (lent 8 cols)) 512 tags₀ values₀) tags values
+    × SentAll (across (lent 8 cols)) checks b (messageAt word floats) (held (across (lent 8 cols)) 512 tags₀ values₀) tags values × Above (across (lent 8 cols)) 512 tags₀ values₀ tags values
 
 abbrev μ-loop : tie.MeasureT-loop
 μ-loop cols bits checks word floats at₀ row-tags₀ row-values₀ tags₀ values₀ b₀ at row-tags row-values tags values b =
@@ -21,7 +22,7 @@ abbrev μ-loop : tie.MeasureT-loop
 
 loop-holds : tie.Need-loop-holds Inv-loop μ-loop
 loop-holds c = let s = c .before .before .before .before .before .before .before .before in
-    (omega arith, s .pre .1 .1, sent-none _ _ _ _ _ (s .pre .0 .3) (s .pre .0 .4))
+    (omega arith, s .pre .1 .1, sent-none _ _ _ _ _ (s .pre .0 .3) (s .pre .0 .4), above-none _ _ _ _)
 
 message-requires : tie.Need-message-requires Inv-loop μ-loop
 message-requires c κs = let a = c .before in
@@ -49,7 +50,7 @@ loop-again c = let p = c .before .before .before .before .before .before .before
     let h = across (lent 8 (s .args .cols .now)) in
     let m = p .before .before .before .before .before .before .message .ensures in
     let t = p .before .before .before .before .before .before .before .loop-test .taken in
-    (omega (arith, t), p .bit-sends .ensures .0, sent-more h (s .args .checks) (l .b) _ _ _ _ (omega (arith, t, s .pre .0 .2)) (l .inv .2) _ _ (rw m at (p .bit-sends .ensures .1)))
+    (omega (arith, t), p .bit-sends .ensures .0, sent-more h (s .args .checks) (l .b) _ _ _ _ (omega (arith, t, s .pre .0 .2)) (l .inv .2) _ _ (rw m at (p .bit-sends .ensures .1)), above-more h 512 _ _ _ _ (l .inv .3) _ _ (p .bit-sends .ensures .1 .above))
 
 same-length : tie.Need-same-length Inv-loop μ-loop
 same-length c = let s = c .before .before .before .before .before .before .before .before .before .before in
@@ -75,7 +76,7 @@ returns : tie.Need-returns Inv-loop μ-loop
 returns c = let s = c .before .before .before .before .before .before .before .before .before .before in
     let l = c .before .loop in
     let e : l .b ≡ s .args .bits = omega arith in
-    (rw e at (l .inv .1), rw e at (l .inv .2))
+    (rw e at (l .inv .1), (rw e at (l .inv .2), l .inv .3))
 
 pub send-all-spec : {M : Type 1} → statement M
 send-all-spec =

@@ -155,7 +155,7 @@ loop-again c =
       left-next p (s .args .i) _ (l .rest) (l .inv .1) _ (H .0),
       rw (H .3) (sym (count-yes p e (H .1))),
       rw (H .5, H .3)
-          (spread-one h 512 (s .args .b) _ _ _ _ e _ _ (H .4) (s .pre .0 .1) (omega arith) (H .1)
+          (spread-one h 512 (s .args .b) _ _ _ _ e _ _ (H .4) (s .pre .0 .1) (H .2) (omega arith) (H .1)
           (omega (arith, H .7, H .4 .tags, s .pre .0 .3)) (omega (arith, H .7, H .4 .values, s .pre .0 .4))
           _ _ (message-is (s .args .row-tags .now) (s .args .row-values .now) (count e p))),
     )

@@ -1,8 +1,8 @@
 -- `checks_send` meets its contract. Assumes nothing.
 use native.Mathlib.Numerals.{add-one}
 use Rattle.messages.proofs.Cursor.{Begun, begun-none, begun-more, begun-all}
-use Rattle.messages.proofs.Places.{start-zero, start-suc, start-mono, answering-start, answering-sounds, answering-more}
-use Rattle.messages.specs.Memory.{start, held, Answering}
+use Rattle.messages.proofs.Places.{start-zero, start-suc, start-mono, answering-start, above-none, above-more, above-part, answering-sounds, answering-more}
+use Rattle.messages.specs.Memory.{start, held, Above, Answering}
 use Rattle.parity.proofs.Finite.Sums.{count-bound}
 use Rattle.parity.specs.Matrix.{lent}
 use lib.ListN.{length}
@@ -15,7 +15,7 @@ use Rattle.messages.proofs.check_phase.checks_send.Tie as tie
 abbrev Inv-loop : tie.InvT-loop
 Inv-loop words checks at₀ tags₀ values₀ a₀ c₀ at tags values a c =
     (c ≤ checks) × (a ≡ start (lent 8 words) 512 c) × (length tags ≡ 65536) × (length values ≡ 65536) × Begun (lent 8 words) 512 c at
-    × Answering (lent 8 words) 512 checks c (held (lent 8 words) 512 tags₀ values₀) tags values
+    × Answering (lent 8 words) 512 checks c (held (lent 8 words) 512 tags₀ values₀) tags values × Above (lent 8 words) 512 tags₀ values₀ tags values
 
 abbrev μ-loop : tie.MeasureT-loop
 μ-loop words checks at₀ tags₀ values₀ a₀ c₀ at tags values a c = checks - c
@@ -23,7 +23,7 @@ abbrev μ-loop : tie.MeasureT-loop
 loop-holds : tie.Need-loop-holds Inv-loop μ-loop
 loop-holds c =
     let s = c .before .before .before .before in
-    (omega arith, sym (start-zero _ _), s .pre .0 .2, s .pre .0 .3, begun-none _ _ _ (s .pre .0 .4), answering-start _ _ _ _ _)
+    (omega arith, sym (start-zero _ _), s .pre .0 .2, s .pre .0 .3, begun-none _ _ _ (s .pre .0 .4), answering-start _ _ _ _ _, above-none _ _ _ _)
 
 mul-at : tie.Need-mul-at Inv-loop μ-loop
 mul-at c = omega (arith, c .before .loop .inv .4 .size)
@@ -75,6 +75,7 @@ loop-again c =
       p .check-at .ensures .values ∙ l .inv .3,
       begun-more h 512 (l .c) _ _ (l .inv .4) (omega arith) (l .inv .1),
       answering-more h 512 (s .args .checks) _ (l .c) (omega arith) _ _ (l .inv .5) _ _ (rw (l .inv .1, W) at (p .check-at .ensures)),
+      above-more h 512 _ _ _ _ (l .inv .6) _ _ (above-part h 512 (l .c) _ _ _ _ _ (omega arith) (rw (l .inv .1, W) at (p .check-at .ensures))),
     )
 
 same-length : tie.Need-same-length Inv-loop μ-loop
@@ -91,7 +92,7 @@ returns c =
     let l = c .before .loop in
     let s = c .before .before .before .before .before .before in
     let e : l .c ≡ s .args .checks = omega arith in
-    (begun-all _ _ _ _ (s .pre .1 .0) (rw e at (l .inv .4)), rw e at (l .inv .5))
+    (begun-all _ _ _ _ (s .pre .1 .0) (rw e at (l .inv .4)), (rw e at (l .inv .5), l .inv .6))
 
 pub checks-send-spec : {M : Type 1} → statement M
 checks-send-spec =

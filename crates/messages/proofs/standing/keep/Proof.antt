@@ -1,40 +1,47 @@
 -- `keep` meets its contract. Assumes nothing.
-use Rattle.messages.proofs.Kept.{alike-none, kept-more}
-use Rattle.messages.specs.Standing.{Alike}
+use Rattle.messages.proofs.Kept.{kept-none, kept-not, kept-more, kept-all}
+use Rattle.messages.specs.Standing.{Kept}
 use native.Mathlib.Omega.{arith}
-use lib.ListN.{length, length-set}
 use Prim.Native.Nat.{_≤_, _-_}
 use mathlib.Core.Path.{_≡_, sym, _∙_}
 use Rattle.messages.proofs.standing.keep.Statement.{statement}
 use Rattle.messages.proofs.standing.keep.Tie as tie
 
 abbrev Inv-loop : tie.InvT-loop
-Inv-loop tags values w old-tags₀ old-values₀ i₀ old-tags old-values i =
-    (i ≤ w) × (length old-tags ≡ 2048) × (length old-values ≡ 2048) × Alike i tags values old-tags old-values
+Inv-loop tags₀ values₀ w i₀ tags values i = (i ≤ w) × (w ≤ 32768) × Kept w i tags₀ values₀ tags values
 
 abbrev μ-loop : tie.MeasureT-loop
-μ-loop tags values w old-tags₀ old-values₀ i₀ old-tags old-values i = w - i
+μ-loop tags₀ values₀ w i₀ tags values i = w - i
+
+returns : tie.Need-returns Inv-loop μ-loop
+returns c = kept-not _ _ _ (λ q. omega (arith, q, c .if1 .taken))
 
 loop-holds : tie.Need-loop-holds Inv-loop μ-loop
-loop-holds c = (omega arith, c .pre .3, c .pre .4, alike-none _ _ _ _)
+loop-holds c = (omega arith, omega (arith, c .if1 .left), kept-none _ _ _)
 
-shared-slice-read-old-tags : tie.Need-shared-slice-read-old-tags Inv-loop μ-loop
-shared-slice-read-old-tags c = omega arith
+slice-read-tags : tie.Need-slice-read-tags Inv-loop μ-loop
+slice-read-tags c = omega (arith, c .before .before .loop .inv .2 .tags)
 
-slice-write-old-tags : tie.Need-slice-write-old-tags Inv-loop μ-loop
-slice-write-old-tags c = omega arith
+add-tags : tie.Need-add-tags Inv-loop μ-loop
+add-tags c = omega arith
 
-mul-old-values : tie.Need-mul-old-values Inv-loop μ-loop
-mul-old-values c = omega arith
+slice-write-tags : tie.Need-slice-write-tags Inv-loop μ-loop
+slice-write-tags c = omega (arith, c .before .before .loop .inv .2 .tags)
 
-shared-slice-read-old-values : tie.Need-shared-slice-read-old-values Inv-loop μ-loop
-shared-slice-read-old-values c = omega arith
+mul-values : tie.Need-mul-values Inv-loop μ-loop
+mul-values c = omega (arith, c .before .before .loop .inv .2 .values)
 
-mul-old-values-2 : tie.Need-mul-old-values-2 Inv-loop μ-loop
-mul-old-values-2 c = omega arith
+slice-read-values : tie.Need-slice-read-values Inv-loop μ-loop
+slice-read-values c = omega (arith, c .before .before .before .loop .inv .2 .values)
 
-slice-write-old-values : tie.Need-slice-write-old-values Inv-loop μ-loop
-slice-write-old-values c = omega arith
+add-values : tie.Need-add-values Inv-loop μ-loop
+add-values c = omega arith
+
+mul-values-2 : tie.Need-mul-values-2 Inv-loop μ-loop
+mul-values-2 c = omega (arith, c .before .before .before .loop .inv .2 .values)
+
+slice-write-values : tie.Need-slice-write-values Inv-loop μ-loop
+slice-write-values c = omega (arith, c .before .before .before .loop .inv .2 .values)
 
 add-i : tie.Need-add-i Inv-loop μ-loop
 add-i c = omega arith
@@ -45,25 +52,24 @@ loop-less c = omega arith
 loop-again : tie.Need-loop-again Inv-loop μ-loop
 loop-again c =
     let l = c .before .before .before .loop in
-    let p = c .before .before .before .before .pre in
+    let s = c .before .before .before .before .before in
     let t = c .before .before .loop-test .taken in (
       omega (arith, t),
-      length-set (l .old-tags) _ _ ∙ l .inv .1,
-      length-set (l .old-values) _ _ ∙ l .inv .2,
-      kept-more _ _ _ _ (l .i) (l .inv .3) (omega (arith, t, p .0, l .inv .1)) (omega (arith, t, p .0, l .inv .2)),
+      l .inv .1,
+      kept-more _ _ _ (l .i) _ _ (l .inv .2) t (omega (arith, t, l .inv .1, l .inv .2 .tags, s .pre .0)) (omega (arith, t, l .inv .1, l .inv .2 .values, s .pre .1)),
     )
 
 same-length : tie.Need-same-length Inv-loop μ-loop
-same-length c = c .before .loop .inv .1 ∙ sym (c .before .before .pre .3)
+same-length c = c .before .loop .inv .2 .tags
 
 same-length-2 : tie.Need-same-length-2 Inv-loop μ-loop
-same-length-2 c = c .before .loop .inv .2 ∙ sym (c .before .before .pre .4)
+same-length-2 c = c .before .loop .inv .2 .values
 
-returns : tie.Need-returns Inv-loop μ-loop
-returns c =
+returns-2 : tie.Need-returns-2 Inv-loop μ-loop
+returns-2 c =
     let l = c .before .loop in
-    let e : l .i ≡ c .before .before .args .w = omega arith in
-    record { tags = l .inv .1; values = l .inv .2; alike = λ k. rw e at (l .inv .3) }
+    let s = c .before .before .before in
+    kept-all _ _ _ _ _ _ (l .inv .2) (omega (arith, c .loop-test .left, l .inv .0))
 
 pub keep-spec : {M : Type 1} → statement M
 keep-spec =
@@ -71,16 +77,19 @@ keep-spec =
     (tie.spec
     Inv-loop
     μ-loop
+    returns
     loop-holds
-    shared-slice-read-old-tags
-    slice-write-old-tags
-    mul-old-values
-    shared-slice-read-old-values
-    mul-old-values-2
-    slice-write-old-values
+    slice-read-tags
+    add-tags
+    slice-write-tags
+    mul-values
+    slice-read-values
+    add-values
+    mul-values-2
+    slice-write-values
     add-i
     loop-less
     loop-again
     same-length
     same-length-2
-    returns)
+    returns-2)

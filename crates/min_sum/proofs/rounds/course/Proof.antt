@@ -1,133 +1,120 @@
 -- `course` meets its contract. Assumes nothing.
-use Rattle.min_sum.proofs.Course.{round-sound, round-more, messages-fit, round-stands}
+use Rattle.min_sum.proofs.Course.{round-sound, round-more, holds-kept, round-stands}
+use Rattle.messages.proofs.Kept.{twice-kept}
 use Rattle.messages.specs.Loops.{Sized}
 use Rattle.messages.specs.Memory.{start, Holds}
-use Rattle.messages.specs.Standing.{Kept}
+use Rattle.messages.specs.Standing.{Twice}
 use Rattle.parity.specs.Soft.{messageAt, sentAfter}
 use Rattle.parity.specs.Matrix.{lent}
 use native.Mathlib.Numerals.{add-one}
 use native.Mathlib.Omega.{arith}
-use Prim.Native.Nat.{suc, _≤_, _-_}
-use mathlib.Core.Path.{_≡_, refl, sym, _∙_}
+use Prim.Native.Nat.{_≤_, _-_}
+use mathlib.Core.Path.{_≡_, sym, _∙_}
 use Rattle.min_sum.proofs.rounds.course.Statement.{statement}
 use Rattle.min_sum.proofs.rounds.course.Tie as tie
 
 abbrev Inv-loop : tie.InvT-loop
-Inv-loop words cols bits checks last at₀ row-tags₀ row-values₀ tags₀ values₀ word floats old-tags₀ old-values₀ w first r₀ at row-tags row-values tags values old-tags old-values r =
+Inv-loop words cols bits checks last at₀ row-tags₀ row-values₀ tags₀ values₀ word floats w r₀ at row-tags row-values tags values r =
     (w ≡ start (lent 8 words) 512 checks) × (r ≤ last) × Sized at row-tags row-values
-    × Holds (lent 8 words) 512 checks (sentAfter (lent 8 words) 512 checks (messageAt word floats) r) tags values × Kept w tags values old-tags old-values
+    × Holds (lent 8 words) 512 checks (sentAfter (lent 8 words) 512 checks (messageAt word floats) r) tags values × Twice w w tags values
 
 abbrev μ-loop : tie.MeasureT-loop
-μ-loop words cols bits checks last at₀ row-tags₀ row-values₀ tags₀ values₀ word floats old-tags₀ old-values₀ w first r₀ at row-tags row-values tags values old-tags old-values r =
+μ-loop words cols bits checks last at₀ row-tags₀ row-values₀ tags₀ values₀ word floats w r₀ at row-tags row-values tags values r =
     last - r
 
 fill-all-requires : tie.Need-fill-all-requires Inv-loop μ-loop
 fill-all-requires c κs =
-    let s = c .before .before .before .before .before .before .before .before .before .before .before .before .before in
+    let s = c .before .before .before .before .before .before .before .before .before .before .before in
     let e = s .pre .1 .0 .0 in
     ((s .pre .0 .0, s .pre .0 .1, s .pre .0 .3, s .pre .0 .4, s .pre .1 .0 .1 ∙ sym e), (s .pre .1 .0 .2 .room, rw e (s .pre .1 .1 .1 .0)))
 
-renew-requires : tie.Need-renew-requires Inv-loop μ-loop
-renew-requires c κs =
-    let s = c .before .before .before .before .before .before .before .before .before .before .before .before .before .before .before .before .before .before .before .before .before .before in
-    let F = c .before .before .before .before .before .before .before .before .fill-all .ensures in
-    let fit = messages-fit (lent 8 (s .args .words .now)) (s .args .checks) _ _ _ (s .pre .1 .0 .2) (s .pre .0 .1) (F .0) (F .1 .tags) (F .1 .values) in
-    (fit .0, fit .1, s .pre .1 .1 .1 .1 .1 .1 .0, s .pre .1 .1 .1 .1 .1 .1 .1)
+keep-requires : tie.Need-keep-requires Inv-loop μ-loop
+keep-requires c κs =
+    let F = c .before .before .before .before .before .before .fill-all .ensures in
+    (F .1 .tags, F .1 .values)
 
 loop-holds : tie.Need-loop-holds Inv-loop μ-loop
 loop-holds c =
-    let s = c .before .before .before .before .before .before .before .before .before .before .before .before .before .before .before .before .before .before .before .before .before .before .before .before .before .before .before in
-    let F = c .before .before .before .before .before .before .before .before .before .before .before .before .before .fill-all .ensures in
-    (F .0, omega arith, s .pre .1 .1 .0, F .1, c .before .before .before .before .renew .ensures .1)
+    let F = c .before .before .before .before .before .before .before .before .before .before .before .fill-all .ensures in
+    let K = c .before .before .before .before .keep .ensures in
+    (F .0, omega arith, c .before .before .before .before .before .before .before .before .before .before .before .before .before .before .before .before .before .before .before .before .before .before .before .pre .1 .1 .0, holds-kept _ _ _ _ _ _ (F .0) (F .1) _ _ K, twice-kept _ _ _ _ _ K)
 
 one-round-requires : tie.Need-one-round-requires Inv-loop μ-loop
 one-round-requires c κs =
     let l = c .before .before .before .before .before .before .loop in
-    let s = c .before .before .before .before .before .before .before .before .before .before .before .before .before .before .before .before .before .before .before .before .before .before .before .before .before .before .before .before .before .before .before .before .before .before in
+    let s = c .before .before .before .before .before .before .before .before .before .before .before .before .before .before .before .before .before .before .before .before .before .before .before .before .before .before .before .before .before .before in
     let h = lent 8 (s .args .words .now) in
     let sound = round-sound h (s .args .checks) (s .args .bits) (s .args .word .now) (s .args .floats .now) (s .pre .1 .0 .0) (s .pre .1 .1 .1 .1 .0) (l .r) _ _ (l .inv .3) in
-    ((s .pre .0 .0, s .pre .0 .1, s .pre .0 .2, l .inv .3 .tags, l .inv .3 .values), (s .pre .1 .0, (l .inv .2, (sound, s .pre .1 .1 .1 .1 .1 .0))))
+    ((s .pre .0 .0, s .pre .0 .1, s .pre .0 .2, l .inv .3 .tags, l .inv .3 .values), (s .pre .1 .0, (l .inv .2, (sound, s .pre .1 .1 .1 .1 .1))))
 
-renew-requires-2 : tie.Need-renew-requires-2 Inv-loop μ-loop
-renew-requires-2 c κs =
-    let l = c .before .before .before .before .before .before .before .before .before .before .before .before .before .before .before .before .before .before .before .before .before .loop in
-    let s = c .before .before .before .before .before .before .before .before .before .before .before .before .before .before .before .before .before .before .before .before .before .before .before .before .before .before .before .before .before .before .before .before .before .before .before .before .before .before .before .before .before .before .before .before .before .before .before .before .before in
-    let R = c .before .before .before .before .before .before .before .before .before .before .before .before .before .before .one-round .ensures .1 .sent in
-    let fit = messages-fit (lent 8 (s .args .words .now)) (s .args .checks) _ _ _ (s .pre .1 .0 .2) (s .pre .0 .1) (l .inv .0) (R .tags) (R .values) in
-    (fit .0, fit .1, l .inv .4 .tags, l .inv .4 .values)
+renew-requires : tie.Need-renew-requires Inv-loop μ-loop
+renew-requires c κs =
+    let R = c .before .before .before .before .before .before .before .before .before .before .before .before .one-round .ensures .1 .sent in
+    (R .tags, R .values)
 
 same-length : tie.Need-same-length Inv-loop μ-loop
-same-length c = c .before .before .before .before .before .before .before .before .before .before .before .before .before .before .before .before .before .before .before .before .one-round .ensures .0 .cursors ∙ sym (c .before .before .before .before .before .before .before .before .before .before .before .before .before .before .before .before .before .before .before .before .before .before .before .before .before .before .before .before .before .before .before .before .before .before .before .before .before .before .before .before .before .before .before .before .before .before .before .before .before .before .before .before .before .before .before .pre .1 .1 .0 .cursors)
+same-length c = c .before .before .before .before .before .before .before .before .before .before .before .before .before .before .before .before .before .before .one-round .ensures .0 .cursors ∙ sym (c .before .before .before .before .before .before .before .before .before .before .before .before .before .before .before .before .before .before .before .before .before .before .before .before .before .before .before .before .before .before .before .before .before .before .before .before .before .before .before .before .before .before .before .before .before .before .before .before .before .pre .1 .1 .0 .cursors)
 
 same-length-2 : tie.Need-same-length-2 Inv-loop μ-loop
-same-length-2 c = c .before .before .before .before .before .before .before .before .before .before .before .before .before .before .before .before .before .before .before .before .one-round .ensures .0 .tags ∙ sym (c .before .before .before .before .before .before .before .before .before .before .before .before .before .before .before .before .before .before .before .before .before .before .before .before .before .before .before .before .before .before .before .before .before .before .before .before .before .before .before .before .before .before .before .before .before .before .before .before .before .before .before .before .before .before .before .pre .1 .1 .0 .tags)
+same-length-2 c = c .before .before .before .before .before .before .before .before .before .before .before .before .before .before .before .before .before .before .one-round .ensures .0 .tags ∙ sym (c .before .before .before .before .before .before .before .before .before .before .before .before .before .before .before .before .before .before .before .before .before .before .before .before .before .before .before .before .before .before .before .before .before .before .before .before .before .before .before .before .before .before .before .before .before .before .before .before .before .pre .1 .1 .0 .tags)
 
 same-length-3 : tie.Need-same-length-3 Inv-loop μ-loop
-same-length-3 c = c .before .before .before .before .before .before .before .before .before .before .before .before .before .before .before .before .before .before .before .before .one-round .ensures .0 .values ∙ sym (c .before .before .before .before .before .before .before .before .before .before .before .before .before .before .before .before .before .before .before .before .before .before .before .before .before .before .before .before .before .before .before .before .before .before .before .before .before .before .before .before .before .before .before .before .before .before .before .before .before .before .before .before .before .before .before .pre .1 .1 .0 .values)
+same-length-3 c = c .before .before .before .before .before .before .before .before .before .before .before .before .before .before .before .before .before .before .one-round .ensures .0 .values ∙ sym (c .before .before .before .before .before .before .before .before .before .before .before .before .before .before .before .before .before .before .before .before .before .before .before .before .before .before .before .before .before .before .before .before .before .before .before .before .before .before .before .before .before .before .before .before .before .before .before .before .before .pre .1 .1 .0 .values)
 
 same-length-4 : tie.Need-same-length-4 Inv-loop μ-loop
-same-length-4 c = c .before .before .before .before .before .before .before .before .before .before .before .before .before .before .before .before .before .before .before .before .one-round .ensures .1 .sent .tags ∙ sym (c .before .before .before .before .before .before .before .before .before .before .before .before .before .before .before .before .before .before .before .before .before .before .before .before .before .before .before .before .before .before .before .before .before .before .before .before .before .before .before .before .before .before .before .before .before .before .before .before .before .before .before .before .before .before .before .pre .0 .3)
+same-length-4 c = c .before .before .before .before .before .renew .ensures .1 .tags ∙ c .before .before .before .before .before .before .before .before .before .before .before .before .before .before .before .before .before .before .one-round .ensures .1 .sent .tags ∙ sym (c .before .before .before .before .before .before .before .before .before .before .before .before .before .before .before .before .before .before .before .before .before .before .before .before .before .before .before .before .before .before .before .before .before .before .before .before .before .before .before .before .before .before .before .before .before .before .before .before .before .pre .0 .3)
 
 same-length-5 : tie.Need-same-length-5 Inv-loop μ-loop
-same-length-5 c = c .before .before .before .before .before .before .before .before .before .before .before .before .before .before .before .before .before .before .before .before .one-round .ensures .1 .sent .values ∙ sym (c .before .before .before .before .before .before .before .before .before .before .before .before .before .before .before .before .before .before .before .before .before .before .before .before .before .before .before .before .before .before .before .before .before .before .before .before .before .before .before .before .before .before .before .before .before .before .before .before .before .before .before .before .before .before .before .pre .0 .4)
-
-same-length-6 : tie.Need-same-length-6 Inv-loop μ-loop
-same-length-6 c = c .before .before .before .before .before .renew2 .ensures .1 .tags ∙ sym (c .before .before .before .before .before .before .before .before .before .before .before .before .before .before .before .before .before .before .before .before .before .before .before .before .before .before .before .before .before .before .before .before .before .before .before .before .before .before .before .before .before .before .before .before .before .before .before .before .before .before .before .before .before .before .before .pre .1 .1 .1 .1 .1 .1 .0)
-
-same-length-7 : tie.Need-same-length-7 Inv-loop μ-loop
-same-length-7 c = c .before .before .before .before .before .renew2 .ensures .1 .values ∙ sym (c .before .before .before .before .before .before .before .before .before .before .before .before .before .before .before .before .before .before .before .before .before .before .before .before .before .before .before .before .before .before .before .before .before .before .before .before .before .before .before .before .before .before .before .before .before .before .before .before .before .before .before .before .before .before .before .pre .1 .1 .1 .1 .1 .1 .1)
+same-length-5 c = c .before .before .before .before .before .renew .ensures .1 .values ∙ c .before .before .before .before .before .before .before .before .before .before .before .before .before .before .before .before .before .before .one-round .ensures .1 .sent .values ∙ sym (c .before .before .before .before .before .before .before .before .before .before .before .before .before .before .before .before .before .before .before .before .before .before .before .before .before .before .before .before .before .before .before .before .before .before .before .before .before .before .before .before .before .before .before .before .before .before .before .before .before .pre .0 .4)
 
 returns : tie.Need-returns Inv-loop μ-loop
 returns c =
-    let R = c .before .before .before .before .before .before .before .before .before .before .before .before .before .before .before .before .before .before .before .before .one-round .ensures in
-    let N = c .before .before .before .before .before .renew2 .ensures .0 in
-    let l = c .before .before .before .before .before .before .before .before .before .before .before .before .before .before .before .before .before .before .before .before .before .before .before .before .before .before .before .loop in
-    let s = c .before .before .before .before .before .before .before .before .before .before .before .before .before .before .before .before .before .before .before .before .before .before .before .before .before .before .before .before .before .before .before .before .before .before .before .before .before .before .before .before .before .before .before .before .before .before .before .before .before .before .before .before .before .before .before in
+    let R = c .before .before .before .before .before .before .before .before .before .before .before .before .before .before .before .before .before .before .one-round .ensures in
+    let N = c .before .before .before .before .before .renew .ensures in
+    let t = c .if1 .taken in
+    let l = c .before .before .before .before .before .before .before .before .before .before .before .before .before .before .before .before .before .before .before .before .before .before .before .before .before .loop in
+    let s = c .before .before .before .before .before .before .before .before .before .before .before .before .before .before .before .before .before .before .before .before .before .before .before .before .before .before .before .before .before .before .before .before .before .before .before .before .before .before .before .before .before .before .before .before .before .before .before .before .before in
     let h = lent 8 (s .args .words .now) in
-    let A = rw (l .inv .0) at (l .inv .4 .alike (N .room (c .if1 .taken))) in
-    let B = rw (l .inv .0) at (N .alike (c .if1 .taken)) in
     let H = round-more h (s .args .bits) (s .args .checks) (s .pre .1 .1 .1 .0) _ (l .r) _ _ (l .inv .3) _ _ (R .1) in
-    (R .0, round-stands h (s .args .checks) (l .r) (s .args .last) _ _ _ _ _ _ _ (l .inv .1) (l .inv .3) H A B)
+    let S = round-stands h (s .args .checks) _ (l .r) (s .args .last) _ _ _ _ _ (s .pre .1 .0 .2) (s .pre .0 .1) (l .inv .0) (l .inv .1) (l .inv .3) (l .inv .4) (R .1 .above) H
+    (N .0 .room t) (N .0 .twice t) in
+    (R .0, holds-kept h (s .args .checks) _ _ _ _ (l .inv .0) S _ _ (N .1))
 
 add-r : tie.Need-add-r Inv-loop μ-loop
-add-r c = omega (arith, c .before .before .before .before .before .before .before .before .before .before .before .before .before .before .before .before .before .before .before .before .before .before .before .before .before .before .loop-test .taken, c .before .before .before .before .before .before .before .before .before .before .before .before .before .before .before .before .before .before .before .before .before .before .before .before .before .before .before .before .before .before .before .before .before .before .before .before .before .before .before .before .before .before .before .before .before .before .before .before .before .before .before .before .before .before .before .fits .last)
+add-r c = omega (arith, c .before .before .before .before .before .before .before .before .before .before .before .before .before .before .before .before .before .before .before .before .before .before .before .before .loop-test .taken, c .before .before .before .before .before .before .before .before .before .before .before .before .before .before .before .before .before .before .before .before .before .before .before .before .before .before .before .before .before .before .before .before .before .before .before .before .before .before .before .before .before .before .before .before .before .before .before .before .before .fits .last)
 
 loop-less : tie.Need-loop-less Inv-loop μ-loop
-loop-less c = omega (arith, c .before .before .before .before .before .before .before .before .before .before .before .before .before .before .before .before .before .before .before .before .before .before .before .before .before .before .loop-test .taken)
+loop-less c = omega (arith, c .before .before .before .before .before .before .before .before .before .before .before .before .before .before .before .before .before .before .before .before .before .before .before .before .loop-test .taken)
 
 loop-again : tie.Need-loop-again Inv-loop μ-loop
 loop-again c =
-    let R = c .before .before .before .before .before .before .before .before .before .before .before .before .before .before .before .before .before .before .before .before .one-round .ensures in
-    let l = c .before .before .before .before .before .before .before .before .before .before .before .before .before .before .before .before .before .before .before .before .before .before .before .before .before .before .before .loop in
-    let s = c .before .before .before .before .before .before .before .before .before .before .before .before .before .before .before .before .before .before .before .before .before .before .before .before .before .before .before .before .before .before .before .before .before .before .before .before .before .before .before .before .before .before .before .before .before .before .before .before .before .before .before .before .before .before .before in
-    let H = round-more (lent 8 (s .args .words .now)) (s .args .bits) (s .args .checks) (s .pre .1 .1 .1 .0) _ (l .r) _ _ (l .inv .3) _ _ (R .1) in
-    (l .inv .0, omega (arith, c .before .before .before .before .before .before .before .before .before .before .before .before .before .before .before .before .before .before .before .before .before .before .before .before .before .before .loop-test .taken), R .0, rw (add-one (l .r)) H, c .before .before .before .before .before .renew2 .ensures .1)
+    let R = c .before .before .before .before .before .before .before .before .before .before .before .before .before .before .before .before .before .before .one-round .ensures in
+    let K = c .before .before .before .before .before .renew .ensures .1 in
+    let l = c .before .before .before .before .before .before .before .before .before .before .before .before .before .before .before .before .before .before .before .before .before .before .before .before .before .loop in
+    let s = c .before .before .before .before .before .before .before .before .before .before .before .before .before .before .before .before .before .before .before .before .before .before .before .before .before .before .before .before .before .before .before .before .before .before .before .before .before .before .before .before .before .before .before .before .before .before .before .before .before in
+    let h = lent 8 (s .args .words .now) in
+    let H = round-more h (s .args .bits) (s .args .checks) (s .pre .1 .1 .1 .0) _ (l .r) _ _ (l .inv .3) _ _ (R .1) in
+    (l .inv .0, omega (arith, c .before .before .before .before .before .before .before .before .before .before .before .before .before .before .before .before .before .before .before .before .before .before .before .before .loop-test .taken), R .0, rw (add-one (l .r)) (holds-kept h (s .args .checks) _ _ _ _ (l .inv .0) H _ _ K), twice-kept _ _ _ _ _ K)
+
+same-length-6 : tie.Need-same-length-6 Inv-loop μ-loop
+same-length-6 c = c .before .loop .inv .2 .cursors ∙ sym (c .before .before .before .before .before .before .before .before .before .before .before .before .before .before .before .before .before .before .before .before .before .before .before .before .before .pre .1 .1 .0 .cursors)
+
+same-length-7 : tie.Need-same-length-7 Inv-loop μ-loop
+same-length-7 c = c .before .loop .inv .2 .tags ∙ sym (c .before .before .before .before .before .before .before .before .before .before .before .before .before .before .before .before .before .before .before .before .before .before .before .before .before .pre .1 .1 .0 .tags)
 
 same-length-8 : tie.Need-same-length-8 Inv-loop μ-loop
-same-length-8 c = c .before .loop .inv .2 .cursors ∙ sym (c .before .before .before .before .before .before .before .before .before .before .before .before .before .before .before .before .before .before .before .before .before .before .before .before .before .before .before .before .before .pre .1 .1 .0 .cursors)
+same-length-8 c = c .before .loop .inv .2 .values ∙ sym (c .before .before .before .before .before .before .before .before .before .before .before .before .before .before .before .before .before .before .before .before .before .before .before .before .before .pre .1 .1 .0 .values)
 
 same-length-9 : tie.Need-same-length-9 Inv-loop μ-loop
-same-length-9 c = c .before .loop .inv .2 .tags ∙ sym (c .before .before .before .before .before .before .before .before .before .before .before .before .before .before .before .before .before .before .before .before .before .before .before .before .before .before .before .before .before .pre .1 .1 .0 .tags)
+same-length-9 c = c .before .loop .inv .3 .tags ∙ sym (c .before .before .before .before .before .before .before .before .before .before .before .before .before .before .before .before .before .before .before .before .before .before .before .before .before .pre .0 .3)
 
 same-length-10 : tie.Need-same-length-10 Inv-loop μ-loop
-same-length-10 c = c .before .loop .inv .2 .values ∙ sym (c .before .before .before .before .before .before .before .before .before .before .before .before .before .before .before .before .before .before .before .before .before .before .before .before .before .before .before .before .before .pre .1 .1 .0 .values)
-
-same-length-11 : tie.Need-same-length-11 Inv-loop μ-loop
-same-length-11 c = c .before .loop .inv .3 .tags ∙ sym (c .before .before .before .before .before .before .before .before .before .before .before .before .before .before .before .before .before .before .before .before .before .before .before .before .before .before .before .before .before .pre .0 .3)
-
-same-length-12 : tie.Need-same-length-12 Inv-loop μ-loop
-same-length-12 c = c .before .loop .inv .3 .values ∙ sym (c .before .before .before .before .before .before .before .before .before .before .before .before .before .before .before .before .before .before .before .before .before .before .before .before .before .before .before .before .before .pre .0 .4)
-
-same-length-13 : tie.Need-same-length-13 Inv-loop μ-loop
-same-length-13 c = c .before .loop .inv .4 .tags ∙ sym (c .before .before .before .before .before .before .before .before .before .before .before .before .before .before .before .before .before .before .before .before .before .before .before .before .before .before .before .before .before .pre .1 .1 .1 .1 .1 .1 .0)
-
-same-length-14 : tie.Need-same-length-14 Inv-loop μ-loop
-same-length-14 c = c .before .loop .inv .4 .values ∙ sym (c .before .before .before .before .before .before .before .before .before .before .before .before .before .before .before .before .before .before .before .before .before .before .before .before .before .before .before .before .before .pre .1 .1 .1 .1 .1 .1 .1)
+same-length-10 c = c .before .loop .inv .3 .values ∙ sym (c .before .before .before .before .before .before .before .before .before .before .before .before .before .before .before .before .before .before .before .before .before .before .before .before .before .pre .0 .4)
 
 returns-2 : tie.Need-returns-2 Inv-loop μ-loop
 returns-2 c =
     let l = c .before .loop in
-    let e : l .r ≡ c .before .before .before .before .before .before .before .before .before .before .before .before .before .before .before .before .before .before .before .before .before .before .before .before .before .before .before .before .before .args .last = omega (arith, c .loop-test .left, l .inv .1) in
+    let e : l .r ≡ c .before .before .before .before .before .before .before .before .before .before .before .before .before .before .before .before .before .before .before .before .before .before .before .before .before .args .last = omega (arith, c .loop-test .left, l .inv .1) in
     (l .inv .2, rw e at (l .inv .3))
 
 pub course-spec : {M : Type 1} → statement M
@@ -137,26 +124,22 @@ course-spec =
     Inv-loop
     μ-loop
     fill-all-requires
-    renew-requires
+    keep-requires
     loop-holds
     one-round-requires
-    renew-requires-2
+    renew-requires
     same-length
     same-length-2
     same-length-3
     same-length-4
     same-length-5
-    same-length-6
-    same-length-7
     returns
     add-r
     loop-less
     loop-again
+    same-length-6
+    same-length-7
     same-length-8
     same-length-9
     same-length-10
-    same-length-11
-    same-length-12
-    same-length-13
-    same-length-14
     returns-2)

@@ -49,7 +49,7 @@ returns c =
     record {
       mt = C .last .1 .1 .1 .0;
       mx = C .last .1 .1 .1 .1 .0;
-      heard = record { tags = C .kept .1 .1 .1 .0 ∙ s .pre .0 .3; values = C .kept .1 .1 .1 .1 .0 ∙ s .pre .0 .4; answering = C .ensures .1 };
+      heard = record { tags = C .kept .1 .1 .1 .0 ∙ s .pre .0 .3; values = C .kept .1 .1 .1 .1 .0 ∙ s .pre .0 .4; answering = C .ensures .1 .0 };
       results = rw E at (A .ensures .1);
     }
 

@@ -1,5 +1,6 @@
 -- `one_round` meets its contract. Assumes nothing.
 use mathlib.Core.Path.{_∙_}
+use Rattle.messages.proofs.Places.{above-more}
 use borrow.Author.Needs.{needs}
 use Rattle.min_sum.proofs.rounds.one_round.Statement.{statement}
 use Rattle.min_sum.proofs.rounds.one_round.Tie as tie
@@ -44,8 +45,9 @@ returns c =
       record {
         mt = C .last .1 .1 .1 .0;
         mx = C .last .1 .1 .1 .1 .0;
-        heard = record { tags = C .kept .1 .1 .1 .0 ∙ s .pre .0 .3; values = C .kept .1 .1 .1 .1 .0 ∙ s .pre .0 .4; answering = C .ensures .1 };
-        sent = rw E at (A .ensures .1);
+        heard = record { tags = C .kept .1 .1 .1 .0 ∙ s .pre .0 .3; values = C .kept .1 .1 .1 .1 .0 ∙ s .pre .0 .4; answering = C .ensures .1 .0 };
+        sent = rw E at (A .ensures .1 .0);
+        above = above-more _ 512 _ _ _ _ (C .ensures .1 .1) _ _ (rw E at (A .ensures .1 .1));
       },
     )
 

@@ -1,44 +1,25 @@
 -- `run` meets its contract. Assumes nothing.
 use Rattle.min_sum.proofs.Course.{round-sound, last-results}
-use Rattle.parity.specs.Floats.{positiveZero}
 use Rattle.parity.specs.Matrix.{lent}
 use native.Mathlib.Omega.{arith}
-use lib.Ieee.{Float}
-use lib.ListN.{length, length-replicate}
-use Prim.Native.Nat.{ℕ, suc, _-_}
-use mathlib.Core.Path.{_≡_, ap, _∙_}
+use Prim.Native.Nat.{suc, _-_}
+use mathlib.Core.Path.{_≡_}
 use borrow.Author.Needs.{needs}
 use Rattle.min_sum.proofs.rounds.run.Statement.{statement}
 use Rattle.min_sum.proofs.rounds.run.Tie as tie
 
-no-old-tags-requires : tie.Need-no-old-tags-requires
-no-old-tags-requires c κs = search needs
-
-no-old-values-requires : tie.Need-no-old-values-requires
-no-old-values-requires c κs = search needs
-
 sub-last : tie.Need-sub-last
 sub-last c = search needs
 
-slice-aggregate-course : tie.Need-slice-aggregate-course
-slice-aggregate-course c = search needs
-
-slice-aggregate-course-2 : tie.Need-slice-aggregate-course-2
-slice-aggregate-course-2 c = search needs
-
 course-requires : tie.Need-course-requires
 course-requires c κs =
-    let s = c .before .before .before .before .before .before .before .before .before .before .before .before .before .before .before .before .before .before .before .before in
-    let tags-long = ap length (c .before .before .before .before .before .before .before .before .before .before .no-old-tags .ensures) ∙ length-replicate {A = ℕ} 2048 0 in
-    let values-long = ap length (c .before .before .before .before .before .before .before .before .before .no-old-values .ensures) ∙ length-replicate {A = Float} 2048 positiveZero in (
-      s .pre .0,
-      ((s .pre .1 .0 .0, s .pre .1 .0 .1, s .pre .1 .0 .2), (s .pre .1 .1 .0, (s .pre .1 .1 .1 .0, (s .pre .1 .1 .1 .1 .0, (s .pre .1 .1 .1 .1 .1, (tags-long, values-long)))))),
-    )
+    let s = c .before .before .before .before .before .before .before .before .before .before .before .before .before .before .before .before in
+    (s .pre .0, ((s .pre .1 .0 .0, s .pre .1 .0 .1, s .pre .1 .0 .2), s .pre .1 .1))
 
 last-round-requires : tie.Need-last-round-requires
 last-round-requires c κs =
-    let s = c .before .before .before .before .before .before .before .before .before .before .before .before .before .before .before .before .before .before .before .before .before .before .before .before .before .before .before .before .before .before .before .before .before .before .before .before .before .before .before .before in
-    let K = c .before .before .before .before .before .before .before .before .before .before .before .before .before .before .before .before .before .before .before .course .ensures in
+    let s = c .before .before .before .before .before .before .before .before .before .before .before .before .before .before .before .before .before .before .before .before .before .before .before .before .before .before .before .before .before .before .before .before .before .before in
+    let K = c .before .before .before .before .before .before .before .before .before .before .before .before .before .before .before .before .before .course .ensures in
     let h = lent 8 (s .args .words .now) in
     let sound = round-sound h (s .args .checks) (s .args .bits) (s .args .word .now) (s .args .floats .now) (s .pre .1 .0 .0) (s .pre .1 .1 .1 .1 .0) _ _ _ (K .1) in
     ((s .pre .0 .0, s .pre .0 .1, s .pre .0 .2, K .1 .tags, K .1 .values), ((s .pre .1 .0 .0, s .pre .1 .0 .1, s .pre .1 .0 .2), (K .0, (sound, s .pre .1 .1 .1 .1 .1))))
@@ -66,19 +47,15 @@ same-length-7 c = search needs
 
 returns : tie.Need-returns
 returns c =
-    let s = c .before .before .before .before .before .before .before .before .before .before .before .before .before .before .before .before .before .before .before .before .before .before .before .before .before .before .before .before .before .before .before .before .before .before .before .before .before .before .before .before .before .before .before .before .before .before .before .before .before .before .before .before .before .before .before in
+    let s = c .before .before .before .before .before .before .before .before .before .before .before .before .before .before .before .before .before .before .before .before .before .before .before .before .before .before .before .before .before .before .before .before .before .before .before .before .before .before .before .before .before .before .before .before .before .before .before .before .before in
     let e : suc (s .args .rounds - 1) ≡ s .args .rounds = omega (arith, s .pre .1 .0 .3) in
-    rw e at (last-results (lent 8 (s .args .words .now)) (s .args .bits) (s .args .checks) _ (s .args .rounds - 1) _ _ (s .pre .0 .2) (c .before .before .before .before .before .before .before .before .before .before .before .before .before .before .before .before .before .before .before .before .before .before .before .before .before .before .before .before .before .before .before .before .before .before .course .ensures .1) _ _ (c .before .before .before .before .before .before .before .before .before .before .before .before .before .before .last-round .ensures))
+    rw e at (last-results (lent 8 (s .args .words .now)) (s .args .bits) (s .args .checks) _ (s .args .rounds - 1) _ _ (s .pre .0 .2) (c .before .before .before .before .before .before .before .before .before .before .before .before .before .before .before .before .before .before .before .before .before .before .before .before .before .before .before .before .before .before .before .before .course .ensures .1) _ _ (c .before .before .before .before .before .before .before .before .before .before .before .before .before .before .last-round .ensures))
 
 pub run-spec : {M : Type 1} → statement M
 run-spec =
     tie.close
     (tie.spec
-    no-old-tags-requires
-    no-old-values-requires
     sub-last
-    slice-aggregate-course
-    slice-aggregate-course-2
     course-requires
     last-round-requires
     same-length

@@ -3,7 +3,6 @@ use Rattle.messages.proofs.Kept.{kept-none, kept-not, kept-more, kept-a
 use Rattle.messages.specs.Standing.{Kept}
 use native.Mathlib.Omega.{arith}
 use Prim.Native.Nat.{_≤_, _-_}
-use mathlib.Core.Path.{_≡_, sym, _∙_}
 use Rattle.messages.proofs.standing.keep.Statement.{statement}
 use Rattle.messages.proofs.standing.keep.Tie as tie
 

@@ -77,8 +77,9 @@ are left keep their mark. WAY is
 
   given      peeling with the given matrix
   extended   peeling with the orthogonalised matrix
-  determine  all that the checks determine together
-  block      the same in up to three stages, the library's one door (default)
+  determine  all that the checks determine together (default)
+  block      the same words in up to three stages, the library's one door;
+             slower where bits are left after peeling
 
 Of a record with splits the given matrix is that before the splits, and the
 orthogonalised one has them. The end of the input brings one line on standard

@@ -13,7 +13,7 @@ const INPUT: &str = "standard input";
 /// How many bytes of the input are asked for at once.
 const PIECE: usize = 1 << 16;
 
-/// The call that mends a word.
+/// The call that mends a word. `Determine` and `Block` leave the same word and refuse the same ones (`MendedAsDetermined`).
 #[derive(Clone, Copy, PartialEq, Eq, Debug)]
 pub enum By {
     Given,
@@ -34,7 +34,7 @@ impl By {
     }
 
     fn of(args: &mut Args) -> Result<By, Fault> {
-        let Some(value) = args.value("--by")? else { return Ok(By::Block) };
+        let Some(value) = args.value("--by")? else { return Ok(By::Determine) };
         value.to_str().and_then(By::named).ok_or_else(|| {
             let value = value.to_string_lossy();
             Fault::usage(&format!("--by takes given, extended, determine or block, and not '{value}'"))

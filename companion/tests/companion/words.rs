@@ -179,6 +179,33 @@ fn against_the_model() {
     assert!(all.left > 1000 && all.erased - all.left > 10_000, "{all:?}");
 }
 
+/// Without `--by` the lines, the messages and the status are those of `determine`, and of `block`, which was the default before.
+#[test]
+fn by_default() {
+    let r = &mut Random::new(1287);
+    let folder = folder("by-default");
+    let (mut contradictions, mut no_words) = (0, 0);
+    for number in 0..20 {
+        let given = if number == 0 { crate::model::house(0).expect("case L") } else { generate::small_given(r) };
+        fs::write(folder.join("matrix.alist"), alist(&given, true)).expect("a file");
+        let basis = elimination::basis(&given);
+        let lines: Vec<String> = (0..LINES).map(|_| line(r, &given, &basis)).collect();
+        let input = lines.join("\n") + "\n";
+        let by_default = run(&folder, &["mend", "matrix.alist"], input.as_bytes());
+        for way in ["determine", "block"] {
+            let named = run(&folder, &["mend", "matrix.alist", "--by", way], input.as_bytes());
+            assert_eq!(
+                (&named.out, &named.err, named.status),
+                (&by_default.out, &by_default.err, by_default.status),
+                "{way}"
+            );
+        }
+        contradictions += usize::from(!by_default.err.contains("contradictions 0"));
+        no_words += usize::from(by_default.status == 4);
+    }
+    assert!(contradictions > 5 && no_words > 5, "{contradictions} and {no_words} of the runs have them");
+}
+
 /// Splits stop at k = 392: the extended matrix is the one that stands then, and the other ways do not need it.
 #[test]
 fn without_room() {

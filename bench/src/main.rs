@@ -1,23 +1,28 @@
-//! Times each call of the library through the C interface against plain Rust of the same call, in the same run, and
-//! prints tables in Markdown. Both sides are compared on every input before they are timed. Words of the command line are the
-//! starts of the rows' names that are wanted; without any, all rows are.
+//! Times each call of the library through the C interface against plain Rust of the same call, in the same run and on the same inputs, and
+//! prints tables in Markdown. A row that takes a word, a set or a pair goes over a pool of them, in an order that changes. Both sides are compared on
+//! every input before they are timed. Words of the command line are the starts of the rows' names that are wanted; without any, all rows are. With
+//! `--markdown` the tables alone are printed, each under the mark that it has in docs/SPEED.md.
 
 mod lanes;
 mod packets;
 mod peers;
 mod plain;
 mod planes;
+mod pool;
+mod print;
 mod program;
 mod ranges;
 
 use parity::{ffi, VALUES_MOST};
-use std::env;
+use pool::{Course, Input, Row};
+use print::{cell, head, note, thousands, wanted, Summary};
 use std::hint::black_box;
+use std::ops::Range;
 use std::process::ExitCode;
 use std::time::Instant;
 
 const WORDS: usize = 4096;
-/// Each time is the best of so many runs, and a run takes about so many nanoseconds.
+/// Each time is the best of so many runs, or of fewer where a run takes long; a run takes about so many nanoseconds, and a pass over the pool at least.
 const RUNS: usize = 45;
 const RUN_LENGTH: u64 = 500_000;
 
@@ -57,7 +62,7 @@ struct Job {
     v: usize,
     name: usize,
     record: Vec<u32>,
-    input: Vec<u8>,
+    input: &'static [u8],
     word: Vec<u8>,
     t: usize,
     sets: Vec<u16>,
@@ -82,14 +87,14 @@ fn in_plain(job: &mut Job) -> u32 {
         Call::Split => plain::split(&mut job.words, n, m, k, job.u, job.v, values),
         Call::TakeBack => plain::take_back(&mut job.words, n, m, k, values),
         Call::Orthogonalise => plain::orthogonalise(&mut job.words, n, m, k, values),
-        Call::Verify => plain::verify(&job.words, n, m, k, &job.input, values),
-        Call::Extend => plain::extend(&job.words, n, m, k, &job.input, &mut job.word, values),
-        Call::IsStopping => plain::is_stopping(&job.words, n, m, k, &job.input, values),
+        Call::Verify => plain::verify(&job.words, n, m, k, job.input, values),
+        Call::Extend => plain::extend(&job.words, n, m, k, job.input, &mut job.word, values),
+        Call::IsStopping => plain::is_stopping(&job.words, n, m, k, job.input, values),
         Call::Peel => plain::peel(&job.words, n, m, k, &mut job.word, values),
         Call::Determine => plain::determine(&job.words, n, m, k, &mut job.word, values),
         Call::MendBlock => plain::mend_block(&job.words, n, m, k, &mut job.word, values),
         Call::Rank => plain::rank(&job.words, n, m, k, values),
-        Call::Encode => plain::encode(&job.words, n, m, k, &job.input, &mut job.word, values),
+        Call::Encode => plain::encode(&job.words, n, m, k, job.input, &mut job.word, values),
         Call::MessageBits => plain::message_bits(&job.words, n, m, k, &mut job.word),
         Call::HouseCode => plain::house_code(job.name, &mut job.words, values),
         Call::StoppingSets => plain::stopping_sets(&job.words, n, m, k, job.t, &mut job.sets, values),
@@ -195,126 +200,77 @@ fn processor() -> u64 {
     time.seconds as u64 * 1_000_000_000 + time.nanoseconds as u64
 }
 
-/// The nanoseconds of `times` calls, each on words that were just copied, outside the time.
-fn timed_on_copies(run: fn(&mut Job) -> u32, job: &Job, scratch: &mut Job, times: u64, clock: u64) -> u64 {
-    let mut sum = 0;
-    for _ in 0..times {
-        scratch.words.copy_from_slice(&job.words);
-        let start = Instant::now();
-        black_box(run(black_box(scratch)));
-        sum += (start.elapsed().as_nanos() as u64).saturating_sub(clock);
-    }
-    sum
-}
-
-/// The nanoseconds of `times` calls. What a call writes is put back before the next one: a matrix outside the time,
-/// a word of at most 512 bytes inside it.
-fn timed(run: fn(&mut Job) -> u32, job: &Job, scratch: &mut Job, times: u64, clock: u64) -> u64 {
-    if matches!(job.call, Call::Split | Call::TakeBack | Call::Orthogonalise) {
-        return timed_on_copies(run, job, scratch, times, clock);
-    }
-    let start = processor();
-    for _ in 0..times {
-        if matches!(job.call, Call::Peel | Call::Determine | Call::MendBlock | Call::MinSum) {
-            scratch.word.copy_from_slice(&job.word);
-            scratch.floats.copy_from_slice(&job.floats);
-        }
-        black_box(run(black_box(scratch)));
-    }
-    processor() - start
-}
-
-/// What reading the clock twice takes.
-fn clock() -> u64 {
-    (0..1000).map(|_| Instant::now().elapsed().as_nanos() as u64).min().unwrap()
-}
-
-/// How many calls a run has, by the best of a few tries.
-fn times(mut three: impl FnMut() -> u64) -> u64 {
-    let once = (0..5).map(|_| three() / 3).min().unwrap();
-    (RUN_LENGTH / once.max(1)).clamp(1, 10_000)
-}
-
-/// The best nanoseconds of one call: the library's and plain Rust's.
-fn measure(job: &Job) -> Result<(u64, u64), String> {
-    let mut expected = job.clone();
-    let number = in_plain(&mut expected);
-    let mut found = job.clone();
-    let got = in_library(&mut found);
-    if got != number || found != expected {
-        return Err(format!(
-            "{:?} with n {} m {} k {} differs: library {got} {:?}, plain {number} {:?}",
-            job.call, job.n, job.m, job.k, found.values, expected.values
-        ));
-    }
-    let clock = clock();
-    let mut scratch = job.clone();
-    let times = times(|| timed(in_plain, job, &mut scratch, 3, clock));
-    let (mut best_library, mut best_plain) = (u64::MAX, u64::MAX);
-    for _ in 0..RUNS {
-        best_plain = best_plain.min(timed(in_plain, job, &mut scratch, times, clock));
-        best_library = best_library.min(timed(in_library, job, &mut scratch, times, clock));
-    }
-    Ok((best_library / times, best_plain / times))
-}
-
-/// The best nanoseconds of the program `mend` on two inputs, in turn. Both must mend alike: only the splits made may differ.
-fn mends(one: &'static [u8], other: &'static [u8]) -> Result<(u64, u64), String> {
+/// The best nanoseconds of the program `mend` on two lists of inputs, in turn. Both must mend alike: only the splits made may differ.
+fn mends(one: &[&'static [u8]], other: &[&'static [u8]]) -> Result<(u64, u64), String> {
     let mended = |input| {
         program::run(input);
         let text = program::output();
         text.split_once('\n').map_or(text.clone(), |(first, rest)| format!("{} .. {rest}", &first[..6]))
     };
-    let (found, expected) = (mended(one), mended(other));
-    if found != expected {
-        return Err(format!("mend differs: {found:?}, {expected:?}"));
+    for (&one, &other) in one.iter().zip(other) {
+        let (found, expected) = (mended(one), mended(other));
+        if found != expected {
+            return Err(format!("mend differs: {found:?}, {expected:?}"));
+        }
     }
-    let timed = |input, times: u64| {
+    let orders = pool::orders(one.len());
+    let timed = |inputs: &[&'static [u8]], passes: Range<usize>| {
         let start = Instant::now();
-        (0..times).for_each(|_| program::run(black_box(input)));
+        for pass in passes {
+            orders[pass % orders.len()].iter().for_each(|&i| program::run(black_box(inputs[i])));
+        }
         start.elapsed().as_nanos() as u64
     };
-    // Short runs, and many: they are compared to a hundredth.
-    let times = (RUN_LENGTH / 20 / (timed(other, 3) / 3).max(1)).clamp(1, 10_000);
-    let (mut best_one, mut best_other) = (u64::MAX, u64::MAX);
-    for _ in 0..100 * RUNS {
-        best_one = best_one.min(timed(one, times));
-        best_other = best_other.min(timed(other, times));
-    }
-    Ok((best_one / times, best_other / times))
+    // Many runs: they are compared to a hundredth.
+    let pace = pool::pace(|| timed(other, 0..1));
+    let pace = pool::Pace { passes: 1, runs: 10 * pace.runs };
+    Ok(pool::best_of(one.len(), pace, |passes| timed(one, passes), |passes| timed(other, passes)))
 }
 
-/// The best nanoseconds of one call of the library for each of two jobs, which are timed in turn and on copied words.
-fn in_turn(one: &Job, other: &Job) -> (u64, u64) {
-    let clock = clock();
-    let (mut scratch_one, mut scratch_other) = (one.clone(), other.clone());
-    let times = times(|| timed_on_copies(in_library, other, &mut scratch_other, 3, clock));
-    let (mut best_one, mut best_other) = (u64::MAX, u64::MAX);
-    for _ in 0..RUNS {
-        best_one = best_one.min(timed_on_copies(in_library, one, &mut scratch_one, times, clock));
-        best_other = best_other.min(timed_on_copies(in_library, other, &mut scratch_other, times, clock));
-    }
-    (best_one / times, best_other / times)
+/// The best nanoseconds of one call of the library for each of two rows, which are timed in turn and on copied words.
+fn in_turn(one: &Row, other: &Row) -> (u64, u64) {
+    let (mut one, mut other) = (Course::of(one), Course::of(other));
+    let pace = pool::pace(|| other.on_copies(in_library, 0..1));
+    pool::best_of(1, pace, |passes| one.on_copies(in_library, passes), |passes| other.on_copies(in_library, passes))
 }
 
-/// The last stage that mending a block runs.
-fn stage(job: &Job) -> Option<u64> {
-    let mut job = job.clone();
-    (job.call == Call::MendBlock && in_plain(&mut job) == 0).then_some(job.values[0])
+/// The last stage that mending each block of the pool runs; 0 where it is refused.
+fn stages(row: &Row) -> Vec<u64> {
+    let stage = |input: &Input| {
+        let mut job = row.job.clone();
+        pool::lend(&mut job, input);
+        if in_plain(&mut job) == 0 {
+            job.values[0]
+        } else {
+            0
+        }
+    };
+    row.pool.iter().map(stage).collect()
 }
 
-/// The best nanoseconds of mending a block and of peeling the same word, both of the library, in turn.
-fn mend_and_peel(mending: &Job) -> (u64, u64) {
-    let mut peeling = mending.clone();
-    peeling.call = Call::Peel;
-    let (mut scratch_mending, mut scratch_peeling) = (mending.clone(), peeling.clone());
-    let times = times(|| timed(in_library, &peeling, &mut scratch_peeling, 3, 0));
-    let (mut best_mending, mut best_peeling) = (u64::MAX, u64::MAX);
-    for _ in 0..RUNS {
-        best_mending = best_mending.min(timed(in_library, mending, &mut scratch_mending, times, 0));
-        best_peeling = best_peeling.min(timed(in_library, &peeling, &mut scratch_peeling, times, 0));
+/// How many of 100 blocks have each stage as their last.
+fn shares(row: &Row) -> String {
+    let stages = stages(row);
+    let share = |stage: u64| 100 * stages.iter().filter(|&&last| last == stage).count() / stages.len();
+    match [1, 2, 3].into_iter().find(|&stage| share(stage) == 100) {
+        Some(stage) => format!("(stage {stage}) "),
+        None => format!("(stages {}/{}/{} %) ", share(1), share(2), share(3)),
     }
-    (best_mending / times, best_peeling / times)
+}
+
+/// The best nanoseconds of mending the blocks of a pool for which stage 1 suffices, and of peeling them, both of the library, in turn.
+fn mend_and_peel(row: &Row) -> Option<(u64, u64)> {
+    let stages = stages(row);
+    let mut mending = row.clone();
+    mending.pool = row.pool.iter().zip(stages).filter(|(_, stage)| *stage == 1).map(|(input, _)| *input).collect();
+    if mending.pool.len() < pool::SOFT_POOL {
+        return None;
+    }
+    let peeling = mending.with("peel", Call::Peel);
+    let (mut one, mut other) = (Course::of(&mending), Course::of(&peeling));
+    let pace = pool::pace(|| other.time(in_library, 0..1));
+    let size = mending.pool.len();
+    Some(pool::best_of(size, pace, |passes| one.time(in_library, passes), |passes| other.time(in_library, passes)))
 }
 
 struct Random(u64);
@@ -368,7 +324,7 @@ impl Case {
             v: 1,
             name: 0,
             record: Vec::new(),
-            input: Vec::new(),
+            input: &[],
             word: Vec::new(),
             t: 0,
             sets: Vec::new(),
@@ -392,24 +348,19 @@ impl Case {
         record
     }
 
-    /// The pair with the largest share, the first if there are several.
-    fn pair(&self) -> (usize, usize) {
-        let mut best = (0, 1);
-        let mut most = 0;
-        for u in 0..self.n + self.k {
+    /// Pairs with the largest shares, all different.
+    fn pairs(&self) -> Vec<Input> {
+        let mut pairs = Vec::new();
+        let first = if self.k > 0 { 17 } else { self.n };
+        for u in 0..first {
             for v in u + 1..self.n + self.k {
                 let mut share = [0];
                 plain::share(&self.words, self.n, self.m, self.k, u, v, &mut share);
-                if share[0] > most {
-                    most = share[0];
-                    best = (u, v);
-                }
-            }
-            if u > 16 && self.k > 0 {
-                break;
+                pairs.push((share[0], Input { pair: (u, v), ..Input::default() }));
             }
         }
-        best
+        pairs.sort_by_key(|(share, _)| std::cmp::Reverse(*share));
+        pairs.into_iter().take(pool::POOL).map(|(_, input)| input).collect()
     }
 }
 
@@ -436,18 +387,6 @@ fn cases(r: &mut Random) -> Vec<Case> {
     ]
 }
 
-/// A codeword of the given matrix, and the same extended.
-fn codeword(r: &mut Random, given: &Case, extended: &Case) -> (Vec<u8>, Vec<u8>) {
-    let mut values = [0; VALUES_MOST];
-    plain::rank(&given.words, given.n, given.m, 0, &mut values);
-    let message: Vec<u8> = (0..given.n - values[0] as usize).map(|_| r.below(2) as u8).collect();
-    let mut sent = vec![0; given.n];
-    plain::encode(&given.words, given.n, given.m, 0, &message, &mut sent, &mut values);
-    let mut word = vec![0; extended.n + extended.k];
-    plain::extend(&extended.words, extended.n, extended.m, extended.k, &sent, &mut word, &mut values);
-    (message, word)
-}
-
 /// 120 empty given checks, and added checks over the pairs of the last 29 bits: most sets are looked at in all eight words.
 fn empty_checks() -> Case {
     let mut case = Case::given("120 empty checks", 120, &vec![Vec::new(); 120]);
@@ -462,9 +401,8 @@ fn empty_checks() -> Case {
 }
 
 /// The stopping sets of four of 120 bits, counted and listed.
-fn small_sets(given: &[Case], extended: &[Case]) -> Result<(), String> {
-    println!("Stopping sets of four sent bits, n = 120:\n");
-    println!("| matrix | sets | stopping_sets |\n|---|--:|--:|");
+fn small_sets(given: &[Case], extended: &[Case], summary: &mut Summary) -> Result<(), String> {
+    head("matrix", &["sets", "stopping_sets"].map(str::to_string));
     let none = Case::given("no check", 120, &[]);
     let one = Case::given("one check of all bits", 120, &[(0..120).collect()]);
     for case in [&given[0], &given[3], &none, &one, &extended[0], &extended[3], &empty_checks()] {
@@ -475,225 +413,218 @@ fn small_sets(given: &[Case], extended: &[Case]) -> Result<(), String> {
         job.sets = vec![0; job.values[0] as usize];
         in_plain(&mut job);
         let sets = job.values[0];
-        let (library, plain) = measure(&job)?;
-        println!("| {}, m={}, k={} | {} |{}", case.name, case.m, case.k, thousands(sets), cell(library, plain, 2));
+        let (library, plain) = pool::measure(&Row::alone("stopping_sets", job))?;
+        let name = format!("{}, m={}, k={}", case.name, case.m, case.k);
+        println!("| {name} | {} |{}", thousands(sets), cell(library, plain, 2));
+        summary.add("stopping sets of four", &name, library, plain);
     }
     println!();
     Ok(())
 }
 
-/// The rows of a table for one matrix: the name of each, and its call.
-fn jobs(r: &mut Random, given: &Case, case: &Case) -> Vec<(String, Job)> {
-    let (message, word) = codeword(r, given, case);
-    let mut rows = Vec::new();
-    let mut row = |name: &str, job: Job| rows.push((name.to_string(), job));
-    let mut job = case.job(Call::Share);
-    // A bit and itself are refused 7 after acceptance, and nothing else is done.
-    (job.u, job.v) = (0, 0);
-    row("accept", job.clone());
-    (job.u, job.v) = case.pair();
-    row("share", job.clone());
-    row("count", case.job(Call::Count));
-    job.call = Call::Split;
-    row("split", job);
-    if case.k > 0 {
-        row("take_back", case.job(Call::TakeBack));
-    }
-    row("orthogonalise", case.job(Call::Orthogonalise));
-    let mut job = case.job(Call::Verify);
-    job.input = word.clone();
-    row("verify", job);
-    let mut job = case.job(Call::Extend);
-    job.input = word[..case.n].to_vec();
-    job.word = vec![0; case.n + case.k];
-    row("extend", job);
-    let mut job = case.job(Call::IsStopping);
-    job.input = vec![1; case.n + case.k];
-    row("is_stopping", job);
-    let mut eliminated = Vec::new();
+/// The rows of erased words: so many of 100 sent bits, or none at all.
+fn erased_rows(r: &mut Random, given: &Case, case: &Case) -> Vec<Row> {
+    let job = case.job(Call::Peel);
+    let mut peeled = Vec::new();
     for part in [10, 30, 45] {
-        let mut job = case.job(Call::Peel);
-        job.word = word.clone();
-        // So many of 100 sent bits are erased, and all added ones.
-        job.word[case.n..].fill(2);
-        for _ in 0..case.n * part / 100 {
-            let mut b = r.below(case.n);
-            while job.word[b] == 2 {
-                b = r.below(case.n);
-            }
-            job.word[b] = 2;
-        }
-        row(&format!("peel {part} %"), job.clone());
-        eliminated.push((format!("determine {part} %"), job));
+        let inputs = pool::pool(pool::POOL, || Input::word(pool::received(r, given, case, part)));
+        peeled.push(Row::new(&format!("peel {part} %"), job.clone(), inputs));
     }
-    let mut job = case.job(Call::Peel);
-    job.word = word;
-    row("peel, nothing erased", job.clone());
-    eliminated.push(("determine, nothing erased".to_string(), job));
-    for (name, mut job) in eliminated {
-        job.call = Call::Determine;
-        row(&name, job.clone());
+    let whole = pool::pool(pool::POOL, || Input::word(pool::codeword(r, given, case).1));
+    peeled.push(Row::new("peel, nothing erased", job, whole));
+    let mut rows = peeled.clone();
+    for row in peeled {
+        rows.push(row.with(&row.name.replace("peel", "determine"), Call::Determine));
         if case.k == 0 {
-            job.call = Call::MendBlock;
-            row(&name.replace("determine", "mend_block"), job);
+            rows.push(row.with(&row.name.replace("peel", "mend_block"), Call::MendBlock));
         }
-    }
-    // Soft sent bits of the zero codeword, one in ten of them false, and erased added bits.
-    let mut job = case.job(Call::MinSum);
-    job.word = vec![3; case.n + case.k];
-    job.word[case.n..].fill(2);
-    job.floats = (0..case.n + case.k).map(|b| (r.below(4000) as f32 / 1000.0 - 0.4) * (b < case.n) as u8 as f32).collect();
-    job.message_bytes = vec![0; plain::MESSAGES];
-    job.message_floats = vec![0.0; plain::MESSAGES];
-    for rounds in [1, 50, 512] {
-        job.rounds = rounds;
-        row(&format!("min_sum, rounds {rounds}"), job.clone());
-    }
-    let mut job = case.job(Call::Write);
-    job.record = case.record();
-    row("write", job.clone());
-    job.call = Call::Load;
-    row("load", job);
-    if case.k == 0 {
-        row("rank", case.job(Call::Rank));
-        let mut job = case.job(Call::Encode);
-        job.input = message;
-        job.word = vec![0; case.n];
-        row("encode", job);
-        let mut job = case.job(Call::MessageBits);
-        job.word = vec![0; case.n];
-        row("message_bits", job);
-        // The circulant over the words of the matrix: what it takes does not depend on these.
-        row("house_code", case.job(Call::HouseCode));
     }
     rows
 }
 
-fn thousands(x: u64) -> String {
-    let digits = x.to_string();
-    let mut text = String::new();
-    for (i, digit) in digits.chars().enumerate() {
-        if i > 0 && (digits.len() - i) % 3 == 0 {
-            text.push(',');
+fn soft_rows(r: &mut Random, given: &Case, case: &Case) -> Vec<Row> {
+    let mut job = case.job(Call::MinSum);
+    job.message_bytes = vec![0; plain::MESSAGES];
+    job.message_floats = vec![0.0; plain::MESSAGES];
+    let mut rows = Vec::new();
+    let mut add = |name: &str, inputs: Vec<Input>, rounds: &[usize]| {
+        for &rounds in rounds {
+            job.rounds = rounds;
+            rows.push(Row::new(&format!("min_sum, {name}rounds {rounds}"), job.clone(), inputs.clone()));
         }
-        text.push(digit);
+    };
+    add("", pool::pool(pool::SOFT_POOL, || pool::one_in_ten_false(r, case)), &[1, 50, 512]);
+    for decibels in [1, 3, 5] {
+        let inputs = pool::pool(pool::SOFT_POOL, || pool::noisy(r, given, case, decibels));
+        add(&format!("{decibels} dB, "), inputs, &[10, 50]);
     }
-    text
+    rows
 }
 
-fn cell(one: u64, other: u64, digits: usize) -> String {
-    format!(" {} / {} = {:.digits$} |", thousands(one), thousands(other), one as f64 / other.max(1) as f64)
-}
-
-/// Whether the row with this name is wanted.
-fn wanted(name: &str) -> bool {
-    env::args().len() == 1 || env::args().skip(1).any(|start| name.starts_with(&start))
-}
-
-fn table(r: &mut Random, given: &[Case], cases: &[Case]) -> Result<(), String> {
-    let heads: Vec<String> = cases.iter().map(|case| format!("{}, k={}", case.name, case.k)).collect();
-    println!("| call | {} |", heads.join(" | "));
-    println!("|---|{}", "--:|".repeat(cases.len()));
-    let columns: Vec<Vec<(String, Job)>> = given.iter().zip(cases).map(|(given, case)| jobs(r, given, case)).collect();
-    for row in (0..columns[0].len()).filter(|&row| wanted(&columns[0][row].0)) {
-        let mut line = format!("| {} |", columns[0][row].0);
-        for column in &columns {
-            let (library, plain) = measure(&column[row].1)?;
-            line += &cell(library, plain, 1);
-            if let Some(stage) = stage(&column[row].1) {
-                line.insert_str(line.len() - 1, &format!("(stage {stage}) "));
-            }
-        }
-        println!("{line}");
+/// The rows of a table for one matrix.
+fn rows(r: &mut Random, given: &Case, case: &Case) -> Vec<Row> {
+    let mut rows = Vec::new();
+    // A bit and itself are refused 7 after acceptance, and nothing else is done.
+    rows.push(Row::alone("accept", case.job(Call::Share)));
+    let pairs = Row::new("share", case.job(Call::Share), case.pairs());
+    rows.push(pairs.clone());
+    rows.push(Row::alone("count", case.job(Call::Count)));
+    rows.push(pairs.with("split", Call::Split));
+    if case.k > 0 {
+        rows.push(Row::alone("take_back", case.job(Call::TakeBack)));
     }
-    let row = |name: &str| columns[0].iter().position(|row| row.0 == name).filter(|_| wanted("take_back / accept"));
+    rows.push(Row::alone("orthogonalise", case.job(Call::Orthogonalise)));
+    let words = pool::pool(pool::POOL, || Input::read(pool::doubtful(r, given, case)));
+    rows.push(Row::new("verify", case.job(Call::Verify), words));
+    let mut job = case.job(Call::Extend);
+    job.word = vec![0; case.n + case.k];
+    let bits = |r: &mut Random| (0..case.n).map(|_| r.below(2) as u8).collect();
+    rows.push(Row::new("extend", job, pool::pool(pool::POOL, || Input::read(bits(r)))));
+    let sets = pool::pool(pool::POOL, || Input::read(pool::set(r, given, case)));
+    rows.push(Row::new("is_stopping", case.job(Call::IsStopping), sets));
+    rows.extend(erased_rows(r, given, case));
+    rows.extend(soft_rows(r, given, case));
+    let mut job = case.job(Call::Write);
+    job.record = case.record();
+    rows.push(Row::alone("write", job.clone()));
+    job.call = Call::Load;
+    rows.push(Row::alone("load", job));
+    if case.k == 0 {
+        rows.push(Row::alone("rank", case.job(Call::Rank)));
+        let mut job = case.job(Call::Encode);
+        job.word = vec![0; case.n];
+        let messages = pool::pool(pool::POOL, || Input::read(pool::codeword(r, given, case).0));
+        rows.push(Row::new("encode", job.clone(), messages));
+        job.call = Call::MessageBits;
+        rows.push(Row::alone("message_bits", job));
+        // The circulant over the words of the matrix: what it takes does not depend on these.
+        rows.push(Row::alone("house_code", case.job(Call::HouseCode)));
+    }
+    rows
+}
+
+/// `mend` on records of the third form and of the first, words with 10 of 100 bits erased.
+fn mend_row(r: &mut Random, given: &[Case], cases: &[Case]) -> Result<(), String> {
+    let mut line = "| mend: third form / first form, the program, in turn |".to_string();
+    for (given, case) in given.iter().zip(cases) {
+        let mut first = given.record();
+        first[0] = first[0] & 0x0FFF_FFFF | 0x1000_0000;
+        first.iter_mut().filter(|word| **word >> 28 == 2).for_each(|word| *word &= !0xFF00);
+        let third = case.record();
+        let sent: Vec<Vec<u8>> = (0..pool::SOFT_POOL).map(|_| pool::received(r, given, given, 10)).collect();
+        let inputs =
+            |record: &[u32]| -> Vec<&'static [u8]> { sent.iter().map(|sent| program::input(record, sent)).collect() };
+        let (third, first) = mends(&inputs(&third), &inputs(&first))?;
+        line += &cell(third, first, 2);
+    }
+    println!("{line}");
+    Ok(())
+}
+
+/// Rows of two calls of the library in turn.
+fn rows_in_turn(columns: &[Vec<Row>]) {
+    let row = |name: &str| columns[0].iter().position(|row| row.name == name).filter(|_| wanted("take_back / accept"));
     if let (Some(back), Some(accept)) = (row("take_back"), row("accept")) {
         let mut line = "| take_back / accept, both of the library, in turn, on copied words |".to_string();
-        for column in &columns {
-            let (back, accept) = in_turn(&column[back].1, &column[accept].1);
+        for column in columns {
+            let (back, accept) = in_turn(&column[back], &column[accept]);
             line += &cell(back, accept, 2);
         }
         println!("{line}");
     }
-    let mending = |row: &usize| columns[0][*row].1.call == Call::MendBlock && wanted(&columns[0][*row].0);
+    let mending = |row: &usize| columns[0][*row].job.call == Call::MendBlock && wanted(&columns[0][*row].name);
     for row in (0..columns[0].len()).filter(mending) {
-        let mut line = format!("| {} / peel where stage 1 suffices, both of the library, in turn |", columns[0][row].0);
-        for column in &columns {
-            if stage(&column[row].1) == Some(1) {
-                let (mending, peeling) = mend_and_peel(&column[row].1);
-                line += &cell(mending, peeling, 2);
-            } else {
-                line += " |";
-            }
+        let name = &columns[0][row].name;
+        let mut line = format!("| {name} / peel where stage 1 suffices, both of the library, in turn |");
+        for column in columns {
+            line +=
+                &mend_and_peel(&column[row]).map_or(" |".to_string(), |(mending, peeling)| cell(mending, peeling, 2));
         }
         println!("{line}");
     }
-    if cases.iter().all(|case| case.k > 0) && wanted("mend: third form") {
-        let mut line = "| mend: third form / first form, the program, in turn |".to_string();
-        for (given, case) in given.iter().zip(cases) {
-            let mut first = given.record();
-            first[0] = first[0] & 0x0FFF_FFFF | 0x1000_0000;
-            first.iter_mut().filter(|word| **word >> 28 == 2).for_each(|word| *word &= !0xFF00);
-            let sent: Vec<u8> = (0..case.n).map(|b| if b % 10 == 0 { 2 } else { 0 }).collect();
-            let (third, first) = mends(program::input(&case.record(), &sent), program::input(&first, &sent))?;
-            line += &cell(third, first, 2);
+}
+
+fn table(r: &mut Random, given: &[Case], cases: &[Case], summary: &mut Summary) -> Result<(), String> {
+    let heads: Vec<String> = cases.iter().map(|case| format!("{}, k={}", case.name, case.k)).collect();
+    head("call", &heads);
+    let columns: Vec<Vec<Row>> = given.iter().zip(cases).map(|(given, case)| rows(r, given, case)).collect();
+    for row in (0..columns[0].len()).filter(|&row| wanted(&columns[0][row].name)) {
+        let mut line = format!("| {} |", columns[0][row].name);
+        for (column, head) in columns.iter().zip(&heads) {
+            let (library, plain) = pool::measure(&column[row])?;
+            line += &cell(library, plain, 1);
+            if column[row].job.call == Call::MendBlock {
+                line.insert_str(line.len() - 1, &shares(&column[row]));
+            }
+            summary.add(&column[row].name, head, library, plain);
         }
         println!("{line}");
+    }
+    rows_in_turn(&columns);
+    if cases.iter().all(|case| case.k > 0) && wanted("mend: third form") {
+        mend_row(r, given, cases)?;
     }
     println!();
     Ok(())
 }
 
 /// Joining: two dense matrices, which come to 120 checks, such a one with itself, and case L with itself.
-fn joined(r: &mut Random, l: &Case) -> Result<(), String> {
+fn joined(r: &mut Random, l: &Case, summary: &mut Summary) -> Result<(), String> {
     let mut dense = |name| {
         let checks: Vec<Vec<usize>> = (0..60).map(|_| (0..120).filter(|_| r.below(2) == 0).collect()).collect();
         Case::given(name, 120, &checks)
     };
     let (one, other) = (dense("dense 60 x 120"), dense("dense 60 x 120"));
-    println!("| call | two dense 60 x 120 | dense 60 x 120 with itself | case L with itself |");
-    println!("|---|--:|--:|--:|");
+    let heads = ["two dense 60 x 120", "dense 60 x 120 with itself", "case L with itself"].map(str::to_string);
+    head("call", &heads);
     let mut line = "| join |".to_string();
-    for (first, second) in [(&one, &other), (&one, &one), (l, l)] {
+    for ((first, second), head) in [(&one, &other), (&one, &one), (l, l)].into_iter().zip(&heads) {
         let mut job = first.job(Call::Join);
         (job.words2, job.m2) = (second.words.clone(), second.m);
         job.words3 = vec![0; WORDS];
-        let (library, plain) = measure(&job)?;
+        let (library, plain) = pool::measure(&Row::alone("join", job))?;
         line += &cell(library, plain, 1);
+        summary.add("join", head, library, plain);
     }
     println!("{line}\n");
     Ok(())
 }
 
-fn main() -> ExitCode {
+/// The parts, one after the other.
+fn run() -> Result<(), String> {
     let r = &mut Random(0x9E37_79B9_7F4A_7C15);
     let given = cases(r);
     let extended: Vec<Case> = given.iter().map(Case::orthogonalised).collect();
-    println!(
-        "Nanoseconds of one call, library / plain Rust = ratio; the best of {RUNS} runs. Acceptance is part of each.\n"
-    );
-    println!("Given matrices:\n");
-    let mut result = table(r, &given, &given);
-    if result.is_ok() {
-        println!("Orthogonalised:\n");
-        result = table(r, &given, &extended);
+    let mut summary = Summary::default();
+    note(&format!(
+        "Nanoseconds of one call, library / plain Rust = ratio; the best of {RUNS} runs (fewer where a run takes long), the mean over the inputs. Acceptance is part of each."
+    ));
+    print::part("given", "Given matrices:");
+    table(r, &given, &given, &mut summary)?;
+    print::part("orthogonalised", "Orthogonalised:");
+    table(r, &given, &extended, &mut summary)?;
+    if wanted("stopping_sets") {
+        print::part("stopping sets", "Stopping sets of four sent bits, n = 120:");
+        small_sets(&given, &extended, &mut summary)?;
     }
-    if result.is_ok() && wanted("stopping_sets") {
-        result = small_sets(&given, &extended);
+    if wanted("join") {
+        print::part("joined", "Joined:");
+        joined(r, &given[1], &mut summary)?;
     }
-    if result.is_ok() && wanted("join") {
-        println!("Joined:\n");
-        result = joined(r, &given[1]);
+    if wanted("min_sum_range") {
+        print::part("ranges", "Ranges:");
+        ranges::run(r, &mut summary)?;
     }
-    if result.is_ok() && wanted("min_sum_range") {
-        println!("Ranges:\n");
-        result = ranges::run(r);
+    if wanted("packets") {
+        print::part("packets", "Packets:");
+        packets::run(r, &given)?;
     }
-    if result.is_ok() && wanted("packets") {
-        println!("Packets:\n");
-        result = packets::run(r, &given);
-    }
-    match result {
+    summary.print();
+    Ok(())
+}
+
+fn main() -> ExitCode {
+    match run() {
         Ok(()) => ExitCode::SUCCESS,
         Err(difference) => {
             println!("\nDIFFERENCE: {difference}");

@@ -2,6 +2,7 @@
 //! arrived and beside the decoders of others for as many lost packets of as many.
 
 use crate::peers::{Code, IsaL, IsaLPrepared, Peer, Received, Zfec};
+use crate::print::{head, note};
 use crate::{lanes, processor, Case, Random, RUNS, RUN_LENGTH};
 use parity::{ffi, VALUES_MOST};
 use std::hint::black_box;
@@ -273,15 +274,23 @@ fn row(r: &mut Random, case: &Case, length: usize, number: usize) -> Result<(), 
 
 /// The rows for case L, Hamming 31 and the sparse matrix, and for one of GNU Radio's size.
 pub fn run(r: &mut Random, given: &[Case]) -> Result<(), String> {
-    println!("GB/s of the packets that arrived, the best of {RUNS} runs over {POOL} blocks with losses of their own; acceptance and planning are part of each call.\n");
+    note(&format!("GB/s of the packets that arrived, the best of {RUNS} runs over {POOL} blocks with losses of their own; acceptance and planning are part of each call."));
     let code = Code { packets: 23, message: 12 };
     for (name, missing) in [("ISA-L", IsaL::new(code).err()), ("zfec", Zfec::new(code).err())] {
         if let Some(why) = missing {
             println!("{name} is left out: {why}.\n");
         }
     }
-    println!("| matrix | L | library, microseconds | library / plain Rust, ratio of times | memcpy | ISA-L | ISA-L, tables at hand | zfec |");
-    println!("|---|--:|--:|--:|--:|--:|--:|--:|");
+    let heads = [
+        "L",
+        "library, microseconds",
+        "library / plain Rust, ratio of times",
+        "memcpy",
+        "ISA-L",
+        "ISA-L, tables at hand",
+        "zfec",
+    ];
+    head("matrix", &heads.map(str::to_string));
     let (l, hamming, sparse) = (&given[1], &given[2], &given[3]);
     for (case, number) in [(sparse, 12), (sparse, 24), (sparse, 36), (hamming, 2), (l, 5)] {
         for length in LENGTHS {

@@ -41,7 +41,13 @@ fn top_row(bounds: &[Planes; 8], end: usize, first: usize, cap: u64) -> (usize, 
 }
 
 /// The pair to split, where the rows before `first` have bounds below the cap, and no row has one above it.
-fn pair(words: &[u64; WORDS], bits: usize, s: &mut Splitting, mut first: usize, mut cap: u64) -> Option<(usize, usize, u64)> {
+fn pair(
+    words: &[u64; WORDS],
+    bits: usize,
+    s: &mut Splitting,
+    mut first: usize,
+    mut cap: u64,
+) -> Option<(usize, usize, u64)> {
     let end = bits.div_ceil(64);
     loop {
         let (u, bound) = top_row(&s.bounds, end, first, cap);

@@ -1,8 +1,12 @@
 //! Ranges of soft values (M-113): checks with so many other bits, the library and plain Rust in turn.
 
-use crate::{cell, plain, Random, RUNS};
+use crate::pool::{best_of, orders, pace, POOL};
+use crate::print::{cell, head, Summary};
+use crate::{plain, Random};
 use parity::{ffi, VALUES_MOST};
+use std::cell::RefCell;
 use std::hint::black_box;
+use std::ops::Range;
 use std::time::Instant;
 
 struct Check {
@@ -32,14 +36,15 @@ fn in_plain(check: &mut Check) -> u32 {
     plain::min_sum_range(&check.lows, &check.highs, &mut check.ends, &mut check.values)
 }
 
-/// Nanoseconds of one call. A run takes about a millisecond, whatever the size.
-fn timed(run: fn(&mut Check) -> u32, check: &mut Check) -> u64 {
-    let times = 100_000 / (check.lows.len() + 10);
+/// Nanoseconds of these passes over the checks.
+fn timed(run: fn(&mut Check) -> u32, checks: &mut [Check], orders: &[Vec<usize>], passes: Range<usize>) -> u64 {
     let start = Instant::now();
-    for _ in 0..times {
-        black_box(run(black_box(check)));
+    for pass in passes {
+        for &i in &orders[pass % orders.len()] {
+            black_box(run(black_box(&mut checks[i])));
+        }
     }
-    start.elapsed().as_nanos() as u64 / times as u64
+    start.elapsed().as_nanos() as u64
 }
 
 /// So many ranges; of 100 values so many may have either sign, and the others are positive.
@@ -58,27 +63,42 @@ fn check(r: &mut Random, size: usize, across: usize) -> Check {
     check
 }
 
-pub fn run(r: &mut Random) -> Result<(), String> {
+/// Both sides answer alike, bit for bit.
+fn alike(check: &mut Check) -> Result<(), String> {
+    let library = (in_library(check), check.ends.map(f32::to_bits), check.values);
+    let plain = (in_plain(check), check.ends.map(f32::to_bits), check.values);
+    if library != plain {
+        let size = check.lows.len();
+        return Err(format!("a check with {size} other bits: {library:?} of the library, {plain:?} of plain Rust"));
+    }
+    Ok(())
+}
+
+/// The best nanoseconds of one call over a pool of checks: the library's and plain Rust's.
+fn measure(checks: &mut [Check]) -> Result<(u64, u64), String> {
+    checks.iter_mut().try_for_each(alike)?;
+    let orders = orders(checks.len());
+    let pace = pace(|| timed(in_plain, checks, &orders, 0..1));
+    let checks = RefCell::new(checks);
+    let side = |run, passes| timed(run, &mut checks.borrow_mut(), &orders, passes);
+    Ok(best_of(POOL, pace, |passes| side(in_library, passes), |passes| side(in_plain, passes)))
+}
+
+pub fn run(r: &mut Random, summary: &mut Summary) -> Result<(), String> {
     let sizes = [3, 7, 31, 119, plain::OTHERS_MOST];
-    println!("| other bits | {} |", sizes.map(|size| size.to_string()).join(" | "));
-    println!("|---|{}", "--:|".repeat(sizes.len()));
+    head("other bits", &sizes.map(|size| size.to_string()));
     for across in [0, 30, 100] {
         let mut line = format!("| min_sum_range, {across} % across zero |");
         for size in sizes {
-            let mut check = check(r, size, across);
-            let library = (in_library(&mut check), check.ends.map(f32::to_bits), check.values);
-            let plain = (in_plain(&mut check), check.ends.map(f32::to_bits), check.values);
-            if library != plain {
-                return Err(format!(
-                    "a check with {size} other bits: {library:?} of the library, {plain:?} of plain Rust"
-                ));
-            }
-            let mut best = (u64::MAX, u64::MAX);
-            for _ in 0..RUNS {
-                best.0 = best.0.min(timed(in_library, &mut check));
-                best.1 = best.1.min(timed(in_plain, &mut check));
-            }
-            line += &cell(best.0, best.1, 1);
+            let mut checks: Vec<Check> = (0..POOL).map(|_| check(r, size, across)).collect();
+            let (library, plain) = measure(&mut checks)?;
+            line += &cell(library, plain, 1);
+            summary.add(
+                &format!("min_sum_range, {across} % across zero"),
+                &format!("{size} other bits"),
+                library,
+                plain,
+            );
         }
         println!("{line}");
     }

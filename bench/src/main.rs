@@ -3,6 +3,7 @@
 //! every input before they are timed. Words of the command line are the starts of the rows' names that are wanted; without any, all rows are. With
 //! `--markdown` the tables alone are printed, each under the mark that it has in docs/SPEED.md.
 
+mod beside;
 mod lanes;
 mod packets;
 mod peers;
@@ -12,6 +13,7 @@ mod pool;
 mod print;
 mod program;
 mod ranges;
+mod shims;
 
 use parity::{ffi, VALUES_MOST};
 use pool::{Course, Input, Row};
@@ -618,6 +620,13 @@ fn run() -> Result<(), String> {
     if wanted("packets") {
         print::part("packets", "Packets:");
         packets::run(r, &given)?;
+    }
+    if wanted("beside") {
+        let matrices = [&given[..], &[packets::random_58_100(r)]].concat();
+        print::part("beside, soft words", "Soft words beside it++, microseconds a word:");
+        beside::soft(r, &matrices[1..])?;
+        print::part("beside, elimination", "Elimination beside M4RI, nanoseconds a call:");
+        beside::elimination(r, &matrices)?;
     }
     summary.print();
     Ok(())

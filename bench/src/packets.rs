@@ -242,7 +242,7 @@ fn others(r: &mut Random, code: Code, length: usize, number: usize) -> Result<[O
 // The table
 
 /// A random 58 x 100 matrix of column weight 3 and row weight 5 or 6, drawn again until no check has a bit twice: GNU Radio's of this size is not in this repository.
-fn random_58_100(r: &mut Random) -> Case {
+pub fn random_58_100(r: &mut Random) -> Case {
     loop {
         let mut ends: Vec<usize> = (0..300).map(|i| i % 58).collect();
         for i in (1..300).rev() {

@@ -12,7 +12,7 @@ extern "C" {
 /// Names resolved when they are used, and lent to the libraries that come after.
 const LAZY_GLOBAL: c_int = 0x101;
 
-fn library(name: &str) -> Result<*mut c_void, String> {
+pub fn library(name: &str) -> Result<*mut c_void, String> {
     let text = CString::new(name).unwrap();
     // SAFETY: the name ends in a zero.
     let handle = unsafe { dlopen(text.as_ptr(), LAZY_GLOBAL) };
@@ -23,7 +23,7 @@ fn library(name: &str) -> Result<*mut c_void, String> {
 }
 
 /// The function of this name; the caller gives it its type.
-fn function(library: *mut c_void, name: &str) -> Result<*mut c_void, String> {
+pub fn function(library: *mut c_void, name: &str) -> Result<*mut c_void, String> {
     let text = CString::new(name).unwrap();
     // SAFETY: the library is open, and stays so.
     let found = unsafe { dlsym(library, text.as_ptr()) };

@@ -157,21 +157,29 @@ impl Course<'_> {
     }
 }
 
-/// The best nanoseconds of one call, the mean over the pools, of two that go over as many inputs in turn.
+/// The nanoseconds of passes over a pool.
+pub type Side<'a> = &'a mut dyn FnMut(Range<usize>) -> u64;
+
+/// The best nanoseconds of one call of each side, the mean over pools of as many inputs, which they go over in turn.
+pub fn best_of_all<const SIDES: usize>(size: usize, pace: Pace, mut sides: [Side; SIDES]) -> [u64; SIDES] {
+    let mut best = [u64::MAX; SIDES];
+    for run in 0..pace.runs {
+        for (best, side) in best.iter_mut().zip(&mut sides) {
+            *best = side(run * pace.passes..(run + 1) * pace.passes).min(*best);
+        }
+    }
+    best.map(|best| best / (size * pace.passes) as u64)
+}
+
+/// The same for two sides.
 pub fn best_of(
     size: usize,
     pace: Pace,
     mut one: impl FnMut(Range<usize>) -> u64,
     mut other: impl FnMut(Range<usize>) -> u64,
 ) -> (u64, u64) {
-    let mut best = (u64::MAX, u64::MAX);
-    for run in 0..pace.runs {
-        let passes = run * pace.passes..(run + 1) * pace.passes;
-        best.1 = best.1.min(other(passes.clone()));
-        best.0 = best.0.min(one(passes));
-    }
-    let calls = (size * pace.passes) as u64;
-    (best.0 / calls, best.1 / calls)
+    let [one, other] = best_of_all(size, pace, [&mut one, &mut other]);
+    (one, other)
 }
 
 fn bits(floats: &[f32]) -> Vec<u32> {
@@ -179,7 +187,7 @@ fn bits(floats: &[f32]) -> Vec<u32> {
 }
 
 /// Both sides answer alike, bit for bit.
-fn alike(job: &Job, input: &Input) -> Result<(), String> {
+pub fn alike(job: &Job, input: &Input) -> Result<(), String> {
     let mut expected = job.clone();
     lend(&mut expected, input);
     let mut found = expected.clone();

@@ -350,19 +350,29 @@ impl Case {
         record
     }
 
+    fn share(&self, (u, v): (usize, usize)) -> u64 {
+        let mut share = [0];
+        plain::share(&self.words, self.n, self.m, self.k, u, v, &mut share);
+        share[0]
+    }
+
     /// Pairs with the largest shares, all different.
     fn pairs(&self) -> Vec<Input> {
-        let mut pairs = Vec::new();
         let first = if self.k > 0 { 17 } else { self.n };
-        for u in 0..first {
-            for v in u + 1..self.n + self.k {
-                let mut share = [0];
-                plain::share(&self.words, self.n, self.m, self.k, u, v, &mut share);
-                pairs.push((share[0], Input { pair: (u, v), ..Input::default() }));
-            }
+        let mut pairs: Vec<(usize, usize)> =
+            (0..first).flat_map(|u| (u + 1..self.n + self.k).map(move |v| (u, v))).collect();
+        pairs.sort_by_key(|&pair| std::cmp::Reverse(self.share(pair)));
+        pairs.into_iter().take(pool::POOL).map(|pair| Input { pair, ..Input::default() }).collect()
+    }
+
+    /// Splits of those of the pairs that can be split; of all where there are none.
+    fn splits(&self, pairs: &Row) -> Row {
+        let mut row = pairs.with("split", Call::Split);
+        row.pool.retain(|input| self.share(input.pair) >= 2);
+        if row.pool.is_empty() {
+            row.pool = pairs.pool.clone();
         }
-        pairs.sort_by_key(|(share, _)| std::cmp::Reverse(*share));
-        pairs.into_iter().take(pool::POOL).map(|(_, input)| input).collect()
+        row
     }
 }
 
@@ -471,7 +481,7 @@ fn rows(r: &mut Random, given: &Case, case: &Case) -> Vec<Row> {
     let pairs = Row::new("share", case.job(Call::Share), case.pairs());
     rows.push(pairs.clone());
     rows.push(Row::alone("count", case.job(Call::Count)));
-    rows.push(pairs.with("split", Call::Split));
+    rows.push(case.splits(&pairs));
     if case.k > 0 {
         rows.push(Row::alone("take_back", case.job(Call::TakeBack)));
     }
@@ -486,9 +496,15 @@ fn rows(r: &mut Random, given: &Case, case: &Case) -> Vec<Row> {
     rows.push(Row::new("is_stopping", case.job(Call::IsStopping), sets));
     rows.extend(erased_rows(r, given, case));
     rows.extend(soft_rows(r, given, case));
+    rows.extend(other_rows(r, given, case));
+    rows
+}
+
+/// The rows of records, and those for matrices without splits alone.
+fn other_rows(r: &mut Random, given: &Case, case: &Case) -> Vec<Row> {
     let mut job = case.job(Call::Write);
     job.record = case.record();
-    rows.push(Row::alone("write", job.clone()));
+    let mut rows = vec![Row::alone("write", job.clone())];
     job.call = Call::Load;
     rows.push(Row::alone("load", job));
     if case.k == 0 {

@@ -105,17 +105,17 @@ fn read(path: &str) -> String {
 
 #[test]
 fn header_wrapper_and_crate_agree() {
-    let header = of_header(&read("../include/parity.h"));
+    let header = of_header(&read("../../include/parity.h"));
     assert_eq!(header.len(), 22);
     assert_eq!(header, of_wrapper(&read("src/ffi.rs")));
-    let text = read("../crates/capi/src/lib.rt");
+    let text = read("../../crates/capi/src/lib.rt");
     assert_eq!(text.matches("extern \"C\"").count(), 22);
     assert_eq!(header, of_crate(&text));
 }
 
 #[test]
 fn header_has_the_numbers_of_the_wrapper() {
-    let header = read("../include/parity.h");
+    let header = read("../../include/parity.h");
     let defined: Vec<(&str, usize)> = header
         .lines()
         .filter_map(|line| line.strip_prefix("#define PARITY_")?.split_once(' '))

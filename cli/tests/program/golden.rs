@@ -64,7 +64,7 @@ fn mend() {
 fn example_files() {
     let (examples, out) = (examples(), folder("examples"));
     for (name, code) in [("case-l", parity::HOUSE_CIRCULANT), ("hamming-31", parity::HOUSE_HAMMING_31)] {
-        let matrix = companion::files::read(&examples.join(format!("{name}.alist")), None).expect("a matrix");
+        let matrix = cli::files::read(&examples.join(format!("{name}.alist")), None).expect("a matrix");
         let mut words = vec![0; parity::WORDS];
         let house = parity::house_code(code, &mut words).expect("a house code");
         assert_eq!((matrix.n, matrix.m, matrix.k, matrix.words), (house.n, house.m, 0, words));

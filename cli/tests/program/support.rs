@@ -22,7 +22,7 @@ impl Run {
 }
 
 pub fn golden() -> PathBuf {
-    Path::new(env!("CARGO_MANIFEST_DIR")).join("tests/companion/golden")
+    Path::new(env!("CARGO_MANIFEST_DIR")).join("tests/program/golden")
 }
 
 pub fn examples() -> PathBuf {

@@ -3,7 +3,7 @@
 use crate::generate;
 use crate::random::Random;
 use crate::support::{alist, folder, is_one_line, run, text};
-use companion::files::{give, take, Format};
+use cli::files::{give, take, Format};
 use std::fs;
 use std::path::Path;
 

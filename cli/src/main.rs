@@ -3,5 +3,5 @@
 use std::process::ExitCode;
 
 fn main() -> ExitCode {
-    ExitCode::from(companion::run(std::env::args_os().skip(1).collect()))
+    ExitCode::from(cli::run(std::env::args_os().skip(1).collect()))
 }

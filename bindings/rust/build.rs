@@ -9,7 +9,7 @@ fn main() {
     println!("cargo:rerun-if-env-changed=PARITY_STATICLIB");
     let folder = match env::var_os("PARITY_STATICLIB") {
         Some(named) => PathBuf::from(named),
-        None => PathBuf::from(env::var_os("CARGO_MANIFEST_DIR").unwrap()).join("../target/staticlib"),
+        None => PathBuf::from(env::var_os("CARGO_MANIFEST_DIR").unwrap()).join("../../target/staticlib"),
     };
     let archive = folder.join("libcapi.a");
     // The folder too: an archive that is put there with its old date changes the folder's.

@@ -5,9 +5,9 @@ use crate::model::{erased, house, Matrix};
 use crate::random::Random;
 use crate::support::{alist, examples, folder, golden, run, runs};
 use crate::xml;
-use companion::curve::{csv, measure, picture, Draw, Plan, Point, Setup, RATES};
-use companion::files::{take, Format};
-use companion::svg;
+use cli::curve::{csv, measure, picture, Draw, Plan, Point, Setup, RATES};
+use cli::files::{take, Format};
+use cli::svg;
 use std::fs;
 use std::path::Path;
 

@@ -4,7 +4,7 @@ use crate::generate;
 use crate::model::{Form, Matrix};
 use crate::random::Random;
 use crate::support;
-use companion::files::{give, take, Format};
+use cli::files::{give, take, Format};
 use std::fs;
 use std::path::Path;
 

@@ -9,7 +9,7 @@ use lib.ListN.{length, List·getD-eq-default}
 use lib.Ieee.{Float}
 use Rattle.parity.specs.Matrix.{Matrix}
 use Rattle.parity.specs.Soft.{Messages, messageAt, settled, bitSends, toBits, toChecks, sentAfter, resultAfter, sound, byteFor, floatFor, but}
-use Rattle.parity.specs.Promises.{Agree}
+use Rattle.parity.specs.SoftPromises.{Agree}
 use Rattle.messages.specs.Memory.{start, place, held, Above, Inner, Within, Holds, Answering, SoundAll, resultOf}
 use Rattle.messages.specs.Loops.{SentAll, Round, Last}
 use Rattle.messages.specs.Standing.{Twice, Kept}

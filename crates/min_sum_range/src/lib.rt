@@ -19,7 +19,7 @@ pub enum Ranging {
 }
 
 // The range of one check's answer, over all choices inside the ranges of its other bits. That the ends given are this range is the theorem `RangeGiven`
-// (parity's specs/Promises).
+// (parity's specs/SoftRangePromises).
 pub fn range(lows: &[f32], highs: &[f32]) -> Ranging
     ensures { λ r. ⌜ rangingOutcome r ≡ minSumRangeOutcome (now (lows .entry)) (now (highs .entry)) ⌝ }
 {

@@ -1,5 +1,5 @@
 -- Document 02, M-113: soft values known within a range. The range of one check's min-sum answer: the ranges of its other bits, combined pairwise; and the
--- call that gives it. Checks: 10, 23 over lows and then highs, 24. That this is the range over all choices inside is `RangeGiven` of Promises.
+-- call that gives it. Checks: 10, 23 over lows and then highs, 24. That this is the range over all choices inside is `RangeGiven` of SoftRangePromises.
 -- Assumes nothing.
 use Prim.Native.Nat.{ℕ, zero, suc, _-_}
 use mathlib.Core.Bool.{Bool, not, cond, _&&_, _||_}

@@ -11,7 +11,7 @@ use Rattle.parity.specs.Finite.{outermost}
 use Rattle.parity.specs.Matrix.{Matrix, lent}
 use Rattle.parity.specs.Cycles.{share, heldBy, pairs, splitOf, largestShare, lowerBit, higherBit, orthogonal}
 use Rattle.parity.specs.Calls.{orthogonalisedReply}
-use Rattle.parity.specs.Promises.{holding}
+use Rattle.parity.specs.CyclesPromises.{holding}
 use Rattle.parity.specs.Sound.{Clean, Sound}
 use Rattle.parity.proofs.Finite.Sums.{count-cong, count-end}
 use Rattle.parity.proofs.Finite.Outermost.{outermost-same}

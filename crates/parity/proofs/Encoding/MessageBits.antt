@@ -12,7 +12,8 @@ use Rattle.parity.specs.Matrix.{lent}
 use Rattle.parity.specs.Encoding.{dependent, rankOf}
 use Rattle.parity.specs.Causes.{Reply, answer}
 use Rattle.parity.specs.Calls.{byteOf, encodeOutcome}
-use Rattle.parity.specs.MessageBits.{messageBitsReply, messageBitsOutcome, RankOfMarks, atMarks, MessageMarked}
+use Rattle.parity.specs.MessageBits.{messageBitsReply, messageBitsOutcome}
+use Rattle.parity.specs.MessageBitsPromises.{RankOfMarks, atMarks, MessageMarked}
 use Rattle.parity.proofs.Finite.Sums.{is-true, is-false, is, byte-one, count-cong, count-suc, count-mono}
 use Rattle.parity.proofs.Matrix.Packing.{at-listFrom}
 use Rattle.parity.proofs.Matrix.Accept.{Accepted, passes}

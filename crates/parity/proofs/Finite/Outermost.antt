@@ -7,7 +7,7 @@ use native.Mathlib.Nat.{not-suc-le-zero}
 use native.Mathlib.Omega.{arith}
 use native.Mathlib.Decide.{ℕ-discrete}
 use Rattle.parity.specs.Finite.{any, least, greatest, outermost}
-use Rattle.parity.specs.Promises.{Names}
+use Rattle.parity.specs.CyclesPromises.{Names}
 use Rattle.parity.proofs.Finite.Sums.{is-true, is-false, is, any-of, any-at, least-at, least-min}
 use Rattle.parity.proofs.Finite.Firsts.{any-none, least-is}
 

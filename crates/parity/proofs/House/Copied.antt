@@ -11,7 +11,7 @@ use Rattle.parity.specs.Matrix.{lent, pack, ruleA, cause}
 use Rattle.parity.specs.House.{circulant, hamming, codeOf, hammingCode, houseCode, known}
 use Rattle.parity.specs.Causes.{Reply, answer, refusal, Outcome}
 use Rattle.parity.specs.Calls.{houseOutcome}
-use Rattle.parity.specs.Promises.{HouseCopied}
+use Rattle.parity.specs.HousePromises.{HouseCopied}
 use Rattle.parity.specs.Sound.{Clean, Sound}
 use Rattle.parity.proofs.Matrix.Accept.{accepts, pack-same, pack-accepted}
 use Rattle.parity.proofs.House.Rules.{code-clean}

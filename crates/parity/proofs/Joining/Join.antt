@@ -17,7 +17,7 @@ use Rattle.parity.specs.Joining.{Joined}
 use Rattle.parity.specs.Causes.{Reply, answer, refusal, refuse}
 use Rattle.parity.specs.Calls.{byteOf, wrongLength, acceptingBoth, joining, joinReply, joinOutcome, peelOutcome}
 use Rattle.parity.specs.Demand3.{Verifies, erasing, Left, Recovered}
-use Rattle.parity.specs.Promises.{Joins, JoinsBoth}
+use Rattle.parity.specs.JoiningPromises.{Joins, JoinsBoth}
 use Rattle.parity.specs.Sound.{Clean, Sound}
 use Rattle.parity.proofs.Finite.Bools.{or-false-both}
 use Rattle.parity.proofs.Finite.Sums.{count-cong}

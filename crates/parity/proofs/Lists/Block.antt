@@ -17,7 +17,7 @@ use Rattle.parity.specs.Causes.{Reply, refusal, accepting, Outcome}
 use Rattle.parity.specs.Calls.{byteOf, wrongByte, orthogonalising, orthogonalisedReply, peelReply, peelOutcome, determineReply, determineOutcome}
 use Rattle.parity.specs.Block.{bitsRecovered, sentRemain, bitsRemain, mended, eliminating, copyMade, copyK, copyPeeled, peelingCopy, peelingGiven, blockOutcome}
 use Rattle.parity.specs.Demand3.{orthogonalises, Stand, next, runs, start, Left, Keeps}
-use Rattle.parity.specs.Promises.{MendedAsDetermined, MendRefusedIfNone, MendRefusesAdded, Mended, MendAnswers, AddedWithSent}
+use Rattle.parity.specs.BlockPromises.{MendedAsDetermined, MendRefusedIfNone, MendRefusesAdded, Mended, MendAnswers, AddedWithSent}
 use Rattle.parity.proofs.Finite.Sums.{is-true, is-false, is, eqb-two, count-pos, count-bound, count-at}
 use Rattle.parity.proofs.Matrix.Packing.{at-listFrom, listFrom-cong}
 use Rattle.parity.proofs.Matrix.Accept.{Accepted, accepts, accepting-refuses, passes}

@@ -14,7 +14,7 @@ use Rattle.parity.specs.Cycles.{share, cycles, takenBack, others, Orthog
 use Rattle.parity.specs.Causes.{Reply, answer, refusal, Outcome}
 use Rattle.parity.specs.Calls.{notPair, splitReply, splitOutcome, takeBackOutcome, orthogonalisedReply, orthogonalising}
 use Rattle.parity.specs.Demand3.{Call, splits, orthogonalises, takes-back, Last, orthogonalise-said, Stand, madeSum, madeK, orthogonaliseAdds, orthogonaliseK, next, runs, start}
-use Rattle.parity.specs.Promises.{SplitTakenBack}
+use Rattle.parity.specs.CyclesPromises.{SplitTakenBack}
 use Rattle.parity.proofs.Finite.Sums.{is-true, is-false, is}
 use Rattle.parity.proofs.Matrix.Accept.{Accepted, accepts, pack-same, pack-accepted, accepting-refuses}
 use Rattle.parity.proofs.Splits.Orthogonal.{finished-cycles}

@@ -13,7 +13,7 @@ use Rattle.parity.specs.Determining.{someAgrees}
 use Rattle.parity.specs.Causes.{Outcome}
 use Rattle.parity.specs.Calls.{byteOf, extendOutcome, determineOutcome}
 use Rattle.parity.specs.Demand3.{Stand, runs, start, Keeps}
-use Rattle.parity.specs.Promises.{Agreeing, DeterminedAlike}
+use Rattle.parity.specs.DeterminingPromises.{Agreeing, DeterminedAlike}
 use Rattle.parity.proofs.Finite.Sums.{is-true, is-false, is}
 use Rattle.parity.proofs.Matrix.Accept.{accepts}
 use Rattle.parity.proofs.Words.Agreeing.{some-of, some-at, none-of}

@@ -10,7 +10,7 @@ use Rattle.parity.specs.Matrix.{lent, pack, cause}
 use Rattle.parity.specs.Cycles.{share, heldBy, splitOf, Orthogonalised}
 use Rattle.parity.specs.Causes.{Reply, answer, Outcome}
 use Rattle.parity.specs.Calls.{notPair, shareReply, splitOutcome, orthogonalisedReply, orthogonalising, orthogonaliseOutcome}
-use Rattle.parity.specs.Promises.{ShareHolders, SplitHolders, OrthogonaliseHolders}
+use Rattle.parity.specs.CyclesPromises.{ShareHolders, SplitHolders, OrthogonaliseHolders}
 use Rattle.parity.proofs.Finite.Sums.{is-true, is-false, is}
 use Rattle.parity.proofs.Matrix.Accept.{accepts, accepting-answers, accepting-refuses}
 use Rattle.parity.proofs.Splits.Splitting.{split-made, split-lent, orthogonalises, orthogonal-lent}

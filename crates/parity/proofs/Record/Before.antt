@@ -14,7 +14,7 @@ use Rattle.parity.specs.Splits.{Pair, splitAll, splitRight, splitsRight,
 use Rattle.parity.specs.Record.{kindOf, headKind, formOf, bitWords, opening, checkWords, splitting, splitWords, recordOf, withoutSplits}
 use Rattle.parity.specs.declared.Form.{Form}
 use Rattle.parity.specs.declared.Form.the-variants.{First, Second, Third}
-use Rattle.parity.specs.Promises.{LoadsBefore}
+use Rattle.parity.specs.RecordPromises.{LoadsBefore}
 use Rattle.parity.proofs.Finite.Sums.{count-bound}
 use Rattle.parity.proofs.Matrix.Accept.{pack-same}
 use Rattle.parity.proofs.Lists.Rebuilt.{built-recovers}

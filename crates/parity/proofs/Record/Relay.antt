@@ -12,7 +12,7 @@ use Rattle.parity.specs.Record.{written}
 use Rattle.parity.specs.Causes.{Outcome}
 use Rattle.parity.specs.Calls.{loadOutcome}
 use Rattle.parity.specs.Demand3.{Stand, runs}
-use Rattle.parity.specs.Promises.{checksBefore, loadedStart, Relayed, Relays}
+use Rattle.parity.specs.RecordPromises.{checksBefore, loadedStart, Relayed, Relays}
 use Rattle.parity.proofs.Matrix.Accept.{Accepted, accepts, pack-same, pack-accepted, pack-words}
 use Rattle.parity.proofs.Lists.Rebuilt.{built-recovers, all-sound, built-written, written-built}
 use Rattle.parity.proofs.Lists.Chain.{Stands, other-last, stands-runs}

@@ -14,7 +14,7 @@ use Rattle.parity.specs.Record.{Loaded, faulty, loaded, loading, recordO
 use Rattle.parity.specs.declared.Form.the-variants.{First, Second, Third}
 use Rattle.parity.specs.Causes.{Reply, answer, Outcome}
 use Rattle.parity.specs.Calls.{loadOutcome, writeOutcome}
-use Rattle.parity.specs.Promises.{WrittenLoads, SecondFormKept, FirstFormNumbered, ThirdFormKept, WrittenMost, NotRebuilt}
+use Rattle.parity.specs.RecordPromises.{WrittenLoads, SecondFormKept, FirstFormNumbered, ThirdFormKept, WrittenMost, NotRebuilt}
 use Rattle.parity.specs.Sound.{Sound}
 use Rattle.parity.proofs.Finite.Sums.{is-true, is-false, is}
 use Rattle.parity.proofs.Matrix.Accept.{Accepted, accepts, pack-same, pack-accepted, pack-words, accepting-refuses}

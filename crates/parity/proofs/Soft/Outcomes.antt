@@ -19,7 +19,7 @@ use Rattle.parity.specs.Demand3.{erasing}
 use Rattle.parity.specs.Floats.{positiveZero, finite, magnitude, limit, tooLarge}
 use Rattle.parity.specs.Soft.{channelOf, byteFor, floatFor, messageAt, sentAfter, but, toBits, resultAfter, sound}
 use Rattle.parity.specs.SoftCall.{wrongRounds, wrongLengths, wrongFloat, softReply, minSumReply, floatsFrom, minSumOutcome}
-use Rattle.parity.specs.Promises.{AnswerIsInput, EndsAsPeeling, WritesFinite, RoundsEnd}
+use Rattle.parity.specs.SoftPromises.{AnswerIsInput, EndsAsPeeling, WritesFinite, RoundsEnd}
 use Rattle.parity.specs.declared.Channel.{Channel}
 use Rattle.parity.specs.declared.Channel.the-variants.{Sure, Soft, Erased}
 use Rattle.parity.proofs.Finite.Bools.{or-false-both}

@@ -6,7 +6,7 @@ use native.Mathlib.Nat.{suc-add, zero-add}
 use native.Mathlib.Omega.{arith}
 use Rattle.parity.specs.Matrix.{Matrix}
 use Rattle.parity.specs.Soft.{Messages, settled, bitSends, but, toBits, toChecks, sentAfter, resultAfter}
-use Rattle.parity.specs.Promises.{Agree}
+use Rattle.parity.specs.SoftPromises.{Agree}
 use Rattle.parity.specs.declared.Channel.{Channel}
 use Rattle.parity.proofs.Soft.Cong.{gathered-at, check-at'}
 

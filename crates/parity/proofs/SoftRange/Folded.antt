@@ -14,7 +14,7 @@ use Rattle.parity.specs.declared.Channel.{Channel}
 use Rattle.parity.specs.declared.Channel.the-variants.{Soft}
 use Rattle.parity.proofs.Soft.Counts.{odd-more}
 use Rattle.parity.proofs.Soft.Exact.{below-infinite}
-use Rattle.parity.specs.Promises.{sendsFor}
+use Rattle.parity.specs.SoftRangePromises.{sendsFor}
 use Rattle.parity.proofs.SoftRange.Keys.{bound, key}
 use Rattle.parity.proofs.SoftRange.Clip.{clip, clip-sign}
 use Rattle.parity.proofs.SoftRange.Pairs.{Real, key-top, zero-twice, real-magnitude, real-lesser, key-lesser, real-turned, key-turned, key-parts}

@@ -11,7 +11,7 @@ use borrow.Author.Tests.{eq-eqb, ne-eqb, ltb-false, le-ltb, not-true}
 use lib.Ieee.{Float, nan, inf, fin, binary32, lt, eq, le, fits}
 use Rattle.parity.specs.Floats.{plusZero, lesser, finite}
 use Rattle.parity.specs.SoftRange.{sendsForTwo, greater, endsAt, plusZeros, combined, rangeTo}
-use Rattle.parity.specs.Promises.{Choice, Reached, IsRange}
+use Rattle.parity.specs.SoftRangePromises.{Choice, Reached, IsRange}
 use Rattle.parity.specs.declared.Ends.{Ends}
 use Rattle.parity.proofs.SoftRange.Keys.{bound, key, le-key}
 use Rattle.parity.proofs.SoftRange.Clip.{clip, corners}

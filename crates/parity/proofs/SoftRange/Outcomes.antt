@@ -12,7 +12,7 @@ use Rattle.parity.specs.Finite.{any}
 use Rattle.parity.specs.Causes.{Reply, answer}
 use Rattle.parity.specs.Floats.{finite, magnitude, limit, plusZero}
 use Rattle.parity.specs.SoftRange.{rangeTo, wrongSizes, unfit, crossed, minSumRangeReply, RangeOutcome, minSumRangeOutcome}
-use Rattle.parity.specs.Promises.{Reached, IsRange, Gives, RangeGiven, RangeOnly, sendsFor}
+use Rattle.parity.specs.SoftRangePromises.{Reached, IsRange, Gives, RangeGiven, RangeOnly, sendsFor}
 use Rattle.parity.specs.declared.Channel.the-variants.{Soft}
 use Rattle.parity.proofs.Finite.Bools.{or-false-both}
 use Rattle.parity.proofs.Finite.Sums.{is-true, is-false, is, any-of}

@@ -12,7 +12,7 @@ use Rattle.parity.specs.Finite.{any, least}
 use Rattle.parity.specs.Causes.{Reply, answer, refusal, refuse}
 use Rattle.parity.specs.Floats.{positiveZero, plusZero, finite, magnitude, limit, tooLarge}
 use Rattle.parity.specs.SoftRange.{sendsForTwo, endsAt, combined, rangeTo, wrongSizes, unfit, crossed, minSumRangeReply, RangeOutcome, minSumRangeOutcome}
-use Rattle.parity.specs.Promises.{SameValues, ZerosAlike}
+use Rattle.parity.specs.SoftRangePromises.{SameValues, ZerosAlike}
 use Rattle.parity.specs.declared.Ends.{Ends}
 use Rattle.parity.proofs.Finite.Sums.{is-true, is-false, is}
 use Rattle.parity.proofs.Soft.Numbers.{zero-is}

@@ -10,7 +10,7 @@ use borrow.Author.Tests.{ne-eqb, eqb-false, not-true}
 use Rattle.parity.specs.Finite.{any}
 use Rattle.parity.specs.Matrix.{Matrix}
 use Rattle.parity.specs.Cycles.{share, heldBy, splitOf, lowerBit, higherBit, Orthogonalised, orthogonal}
-use Rattle.parity.specs.Promises.{Names, holding, holdingBeside}
+use Rattle.parity.specs.CyclesPromises.{Names, holding, holdingBeside}
 use Rattle.parity.proofs.Finite.Sums.{is-true, is-false, is, any-of, count-at, count-pos}
 use Rattle.parity.proofs.Finite.Firsts.{any-none}
 use Rattle.parity.proofs.Finite.Outermost.{outermost-none, outermost-names, names-same}

@@ -18,7 +18,7 @@ use Rattle.parity.specs.Determining.{someAgrees, determined}
 use Rattle.parity.specs.Causes.{Reply, answer, refusal, accepting, Outcome}
 use Rattle.parity.specs.Calls.{byteOf, wrongByte, checkingBytes, verifyReply, peelReply, peelOutcome, determineReply, determineOutcome}
 use Rattle.parity.specs.Demand3.{Verifies, erasing, Left}
-use Rattle.parity.specs.Promises.{Agreeing, Determines, WritesOneValue, RefusedIfNone, PeeledIsDetermined, RefusedWithPeeling, ErasedCodeword, DeterminedTwice, NothingErased}
+use Rattle.parity.specs.DeterminingPromises.{Agreeing, Determines, WritesOneValue, RefusedIfNone, PeeledIsDetermined, RefusedWithPeeling, ErasedCodeword, DeterminedTwice, NothingErased}
 use Rattle.parity.proofs.Finite.Sums.{is-true, is-false, is, one≤1, sum-zero, byte-one, eqb-one}
 use Rattle.parity.proofs.Matrix.Packing.{length-listFrom, at-listFrom}
 use Rattle.parity.proofs.Matrix.Accept.{Accepted, accepts, accepting-answers, accepting-refuses, passes}

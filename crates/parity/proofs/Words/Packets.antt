@@ -18,8 +18,9 @@ use Rattle.parity.specs.Words.{erased, isOne, inside}
 use Rattle.parity.specs.Determining.{someAgrees, determined}
 use Rattle.parity.specs.Causes.{Outcome}
 use Rattle.parity.specs.Calls.{byteOf}
-use Rattle.parity.specs.Packets.{laneWord, lostWord, laneOutcome, oddLane, mendedBit, stillLost, wordsOf, packetsReply, packetsOutcome, PacketsAsLanes, StillLost}
-use Rattle.parity.specs.Promises.{Agreeing}
+use Rattle.parity.specs.Packets.{laneWord, lostWord, laneOutcome, oddLane, mendedBit, stillLost, wordsOf, packetsReply, packetsOutcome}
+use Rattle.parity.specs.PacketsPromises.{PacketsAsLanes, StillLost}
+use Rattle.parity.specs.DeterminingPromises.{Agreeing}
 use Rattle.parity.proofs.Finite.Bools.{same-test}
 use Rattle.parity.proofs.Finite.Sums.{is-true, is-false, is, byte-one, sum-zero}
 use Rattle.parity.proofs.Matrix.Digits.{same-bits}

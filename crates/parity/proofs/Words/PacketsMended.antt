@@ -17,8 +17,9 @@ use Rattle.parity.specs.Words.{erased, isOne, recovered, losses}
 use Rattle.parity.specs.Determining.{someAgrees, determined}
 use Rattle.parity.specs.Causes.{Reply, Outcome, answer}
 use Rattle.parity.specs.Calls.{byteOf, wrongLength, wrongByte, determineOutcome}
-use Rattle.parity.specs.Packets.{isLost, laneWord, lostWord, laneOutcome, oddLane, mendedBit, stillLost, wordsOf, wrongLengths, packetsReply, PacketsOutcome, packetsOutcome, LossesDecide, PacketsTold, Codewords, CodewordsMended, MendedTwice}
-use Rattle.parity.specs.Promises.{Agreeing}
+use Rattle.parity.specs.Packets.{isLost, laneWord, lostWord, laneOutcome, oddLane, mendedBit, stillLost, wordsOf, wrongLengths, packetsReply, PacketsOutcome, packetsOutcome}
+use Rattle.parity.specs.PacketsPromises.{LossesDecide, PacketsTold, Codewords, CodewordsMended, MendedTwice}
+use Rattle.parity.specs.DeterminingPromises.{Agreeing}
 use Rattle.parity.proofs.Finite.Bools.{or-false-both}
 use Rattle.parity.proofs.Finite.Sums.{is-true, is-false, is, one≤1, eqb-one, eqb-two, sum-zero, count-cong}
 use Rattle.parity.proofs.Matrix.Lent.{lent-empty}

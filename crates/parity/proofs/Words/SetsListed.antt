@@ -17,7 +17,7 @@ use Rattle.parity.specs.StoppingSets.{isIn, flat, stoppingSets}
 use Rattle.parity.specs.Causes.{Reply, answer, refusal, refusalOf, Outcome}
 use Rattle.parity.specs.Calls.{byteOf, acceptReply, isStoppingReply, wrongSize, stoppingSetsOutcome}
 use Rattle.parity.specs.declared.Refusal.{Refusal}
-use Rattle.parity.specs.Promises.{bytesOf, SmallStoppingSets, LengthNeeded}
+use Rattle.parity.specs.StoppingSetsPromises.{bytesOf, SmallStoppingSets, LengthNeeded}
 use Rattle.parity.proofs.Finite.Sums.{is-true, is-false, is, one≤1, eqb-one, byte-one, count-pos}
 use Rattle.parity.proofs.Finite.Firsts.{all-cong}
 use Rattle.parity.proofs.Matrix.Packing.{length-listFrom, at-listFrom}

@@ -17,7 +17,7 @@ use Rattle.parity.specs.Causes.{Reply, answer, Outcome}
 use Rattle.parity.specs.Calls.{byteOf, verifyReply, peelOutcome}
 use Rattle.parity.specs.Demand3.{Verifies, erasing, Left}
 use Rattle.parity.specs.Solving.{ready, solving, solvingAll, isRun, isComplete}
-use Rattle.parity.specs.Promises.{AnyOrder, SolvedInAnyOrder}
+use Rattle.parity.specs.SolvingPromises.{AnyOrder, SolvedInAnyOrder}
 use Rattle.parity.proofs.Finite.Sums.{is-true, is-false, is, byte-one, eqb-one, eqb-two, any-of, any-at, count-at, count-two, count-part, sum-point}
 use Rattle.parity.proofs.Matrix.Lent.{count-add}
 use Rattle.parity.proofs.Matrix.Packing.{length-listFrom, at-listFrom}

@@ -21,19 +21,20 @@ use Rattle.parity.proofs.Words.Peeling.{losses-same}
 use Rattle.parity.proofs.Causes.Refused.{refused-number}
 use Rattle.parity.proofs.Matrix.Accept.{accepting-answers}
 use Rattle.word.specs.Answers.{admitReply}
-use Rattle.word.specs.Sets.{SetOf}
+use Rattle.sets.specs.Sets.{SetOf}
 use Rattle.word.proofs.Told.{refused}
 use Rattle.steps.specs.Steps.{held, Settled, filled}
 use Rattle.steps.proofs.Held.{erased-held, Held}
-use Rattle.peel.specs.Losses.{Counted}
-use Rattle.peel.proofs.Ending.{set-short, settled-held, fewer-left, losses-sizes}
+use Rattle.sets.specs.Losses.{Counted}
+use Rattle.sets.proofs.Sizes.{fewer-left, losses-sizes}
+use Rattle.steps.proofs.Start.{set-short, settled-held}
 use Rattle.residue.specs.Sets.{Apart, Determined}
 use Rattle.determine.specs.Answers.{wordReply, wordOutcome}
 
 module _ (W : ℕ) (h : Matrix) (n k M : ℕ) (w es os : List ℕ) (size : length w ≡ n + k) (few : length w ≤ W * 64) (right : wrongByte 2 w ≡ false) (E : SetOf W w 2 es) (O : SetOf W w 1 os)
     (e o : ℕ → Bool) (S : Settled h (W * 64) M (lent W es 0) (lent W os 0) e o) where
   H : Held h (n + k) M (byteOf w) e o
-  H = rw size at (settled-held W h n k M w es os size few right E O e o S)
+  H = rw size at (settled-held W h M w es os few right E O e o S)
 
   -- what peeling leaves
   pub word-apart : Apart (n + k) e o

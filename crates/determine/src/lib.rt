@@ -1,13 +1,13 @@
 // Everything the checks determine: each bit at which all codewords that agree with a word have one value.
 use parity::Refusal;
-use peel::losses::Sizes;
-use peel::losses::sizes_of;
 use residue::finish;
 use rows::words_of;
+use sets::losses::Sizes;
+use sets::losses::sizes_of;
+use sets::pairs::make_sets;
 use steps::solving::settle;
 use word::Admission;
 use word::admit;
-use word::pairs::make_sets;
 ghost use mathlib.Core.Path.{_≡_};
 ghost use mathlib.Core.Bool.{false};
 ghost use mathlib.Core.List.{[], _∷_};

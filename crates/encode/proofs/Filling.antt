@@ -20,7 +20,7 @@ use Rattle.parity.proofs.Words.Extend.{odd-added}
 use Rattle.parity.proofs.Matrix.Packing.{length-listFrom, at-listFrom}
 use Rattle.elimination.specs.Reduction.{pivot}
 use Rattle.elimination.proofs.Reduced.{pivot-at, pivot-of, pivot-count}
-use Rattle.word.specs.Sets.{SetOf}
+use Rattle.sets.specs.Sets.{SetOf}
 use Rattle.encode.specs.Filling.{pivotAt, Rising, placed, Placing, Open, Filled}
 
 -- a list, by its entries

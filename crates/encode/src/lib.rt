@@ -7,7 +7,7 @@ use elimination::checks::copy;
 use elimination::echelon::to_echelon;
 use matrix::Accepting;
 use parity::Refusal;
-use word::bytes::first_above;
+use sets::bytes::first_above;
 ghost use mathlib.Core.Path.{_≡_};
 ghost use Prim.Native.Nat.{_≤_};
 ghost use lib.ListN.{length, replicate};

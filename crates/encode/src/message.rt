@@ -2,7 +2,7 @@
 use rows::is_odd;
 use rows::lower;
 use rows::raise;
-use word::sets::make_set;
+use sets::make_set;
 ghost use mathlib.Core.Path.{_≡_};
 ghost use mathlib.Core.Bool.{_&&_};
 ghost use Prim.Native.Nat.{_+_, _≤_, _<_};
@@ -12,7 +12,7 @@ ghost use Rattle.parity.specs.Finite.{one, listFrom};
 ghost use Rattle.parity.specs.Matrix.{lent, put};
 ghost use Rattle.parity.specs.Words.{isOne, inside, odd};
 ghost use Rattle.parity.specs.Calls.{byteOf};
-ghost use Rattle.word.specs.Sets.{SetOf};
+ghost use Rattle.sets.specs.Sets.{SetOf};
 ghost use Rattle.encode.specs.Filling.{Rising, Open, Filled, placed};
 
 // Whether bit `b` is the pivot that stands at `p`.

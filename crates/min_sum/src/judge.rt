@@ -1,8 +1,8 @@
 // Causes 22, 10, 11 and 23.
 use parity::Refusal;
+use sets::bytes::first_above;
 use soft::floats::too_large;
 use word::Admission;
-use word::bytes::first_above;
 ghost use mathlib.Core.Path.{_≡_};
 ghost use mathlib.Core.Bool.{_&&_};
 ghost use lib.Dec.{eqb};

@@ -2,7 +2,7 @@
 use mathlib.Core.Path.{_≡_, refl, sym, ap, _∙_, fun-ext}
 use mathlib.Core.Bool.{Bool, true, false, not, cond, _&&_, and-false, false≢true}
 use mathlib.Core.List.{List, [], _∷_, _++_}
-use Prim.Native.Nat.{ℕ, zero, suc, _+_, _*_, _-_, _^_, _≤_, _<_}
+use Prim.Native.Nat.{ℕ, _+_, _*_, _-_, _^_, _≤_, _<_}
 use native.Mathlib.Nat.{one-mul}
 use native.Mathlib.Omega.{arith}
 use native.Mathlib.Decide.{decLt}
@@ -24,11 +24,12 @@ use Rattle.parity.proofs.Words.Bytes.{right-bytes}
 use Rattle.parity.proofs.Words.Determining.{Taken, determine-made, determine-refused, after-at}
 use Rattle.parity.proofs.Words.Packets.{words-made, zeros-agree, lane-at, lane-size, lane-word, lost-at, lost-size, lost-word}
 use Rattle.parity.proofs.Words.Peeling.{losses-same}
-use Rattle.word.specs.Sets.{SetOf}
+use Rattle.sets.specs.Sets.{SetOf}
 use Rattle.steps.specs.Steps.{held, filled}
 use Rattle.steps.proofs.Held.{erased-held, ones-held}
-use Rattle.peel.specs.Losses.{Counted}
-use Rattle.peel.proofs.Ending.{fewer-left, losses-sizes}
+use Rattle.steps.proofs.Start.{three}
+use Rattle.sets.specs.Losses.{Counted}
+use Rattle.sets.proofs.Sizes.{fewer-left, losses-sizes}
 use Rattle.lanes.specs.Tiles.{arrived}
 use Rattle.lanes.proofs.Mending.{no-packet}
 use Rattle.packets.specs.Sets.{SetMended}
@@ -170,12 +171,6 @@ module _ (ws : List ℕ) (n m k : ℕ) (lost packets odd packets′ odd′ gone 
     end-at : (b : ℕ) → b < N → determined h N M (held e none) b ≡ end b
     unfolding end
     end-at b l = rw (D .leaves b l) (sym (three (determined h N M (held e none) b) (determined-byte h N M (held e none) b)))
-      where
-        three : (a : ℕ) → a ≤ 2 → cond (eqb a 2) 2 (one (eqb a 1)) ≡ a
-        three zero k = refl
-        three (suc zero) k = refl
-        three (suc (suc zero)) k = refl
-        three (suc (suc (suc a))) k = absurd (omega arith)
 
     left-out : (b : ℕ) → N ≤ b → lent 8 left 0 b ≡ false
     left-out b l = elim (is (lent 8 left 0 b)) [ is-false q ↦ q | is-true q ↦ absurd (false≢true (sym (e-out b l) ∙ D .fewer b q)) ]

@@ -1,8 +1,8 @@
 // The lists that are lent: causes 10 and 11, and the lanes that are flagged.
 use parity::Refusal;
 use rows::wide;
+use sets::bytes::first_above;
 use word::Admission;
-use word::bytes::first_above;
 ghost use mathlib.Core.Path.{_≡_};
 ghost use mathlib.Core.List.{[]};
 ghost use Prim.Native.Nat.{_*_, _^_, _≤_, _<_};

@@ -1,17 +1,17 @@
 // Packets: each bit of the code is a packet of words, and every lane of bits at one place is determined, all by one plan.
 mod lengths;
-mod sets;
+mod lost;
 
 use crate::lengths::admit_lists;
 use crate::lengths::count_lanes;
-use crate::sets::mend_set;
+use crate::lost::mend_set;
 use matrix::Accepting;
 use parity::Refusal;
-use peel::losses::Sizes;
-use peel::losses::sizes_of;
+use sets::losses::Sizes;
+use sets::losses::sizes_of;
+use sets::set_of;
 use steps::result::write;
 use word::Admission;
-use word::sets::set_of;
 ghost use mathlib.Core.Path.{_≡_};
 ghost use mathlib.Core.Bool.{false};
 ghost use mathlib.Core.List.{[], _∷_};

@@ -1,15 +1,13 @@
 // Peeling: what the checks with exactly one erased bit recover of a word.
-pub mod losses;
-
-use crate::losses::Sizes;
-use crate::losses::sizes_of;
 use parity::Refusal;
 use rows::words_of;
+use sets::losses::Sizes;
+use sets::losses::sizes_of;
+use sets::pairs::make_sets;
 use steps::result::finish;
 use steps::solving::settle;
 use word::Admission;
 use word::admit;
-use word::pairs::make_sets;
 ghost use mathlib.Core.Path.{_≡_};
 ghost use mathlib.Core.Bool.{false};
 ghost use mathlib.Core.List.{[], _∷_};

@@ -2,9 +2,9 @@
 use parity::Check;
 use rows::lower;
 use rows::raise;
+use sets::touches;
 use steps::scan::Single;
 use steps::scan::next_single;
-use word::sets::touches;
 ghost use mathlib.Core.Path.{_≡_};
 ghost use mathlib.Core.Bool.{true, false};
 ghost use Prim.Native.Nat.{_*_, _<_, _≤_};

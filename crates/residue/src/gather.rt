@@ -1,7 +1,7 @@
 // The checks that touch a set of bits.
 use elimination::checks::copy_check;
 use parity::Check;
-use word::sets::touches;
+use sets::touches;
 ghost use mathlib.Core.Path.{_≡_};
 ghost use Prim.Native.Nat.{_*_, _≤_};
 ghost use lib.ListN.{length};

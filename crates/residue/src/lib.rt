@@ -5,9 +5,9 @@ mod pivots;
 
 use crate::eliminate::eliminate;
 use rows::words_of;
+use sets::size;
 use steps::result::agree;
 use steps::result::write;
-use word::sets::size;
 ghost use mathlib.Core.Path.{_≡_};
 ghost use mathlib.Core.Bool.{true};
 ghost use Prim.Native.Nat.{_≤_};

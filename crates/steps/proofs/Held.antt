@@ -9,7 +9,7 @@ use borrow.Author.Tests.{eq-eqb, ne-eqb, lt-ltb, le-ltb}
 use Rattle.parity.specs.Finite.{one, count}
 use Rattle.parity.specs.Matrix.{Matrix, put}
 use Rattle.parity.specs.Words.{erased, isOne, inside, odd, solved, agrees}
-use Rattle.parity.proofs.Finite.Sums.{sum-point, count-end, count-at, count-pos}
+use Rattle.parity.proofs.Finite.Sums.{sum-point, count-at, count-pos}
 use Rattle.parity.proofs.Matrix.Lent.{put-here, put-place}
 use Rattle.parity.proofs.Words.Steps.{Stage, step, Ended, ended}
 use Rattle.parity.proofs.Finite.Firsts.{all-cong}
@@ -78,9 +78,6 @@ short-below N s f b = elim (decLt b N) [ yes k ↦ rw (lt-ltb b N k) | no k ↦ 
 
 pub inside-short : (h : Matrix) (B N c : ℕ) (s : ℕ → Bool) → N ≤ B → ((a : ℕ) → N ≤ a → s a ≡ false) → inside h B c s ≡ inside h N c s
 inside-short h B N c s l f = inside-below h B N c s s l (short-below N s f)
-
-pub count-short : (B N : ℕ) (s : ℕ → Bool) → N ≤ B → ((a : ℕ) → N ≤ a → s a ≡ false) → count B s ≡ count N s
-count-short B N s l f = count-end N B s l (λ b k m. f b k)
 
 -- a search among the first N bits, where no erased bit is at N or above
 pub next-wider : (h : Matrix) (N B M from : ℕ) (e : ℕ → Bool) (r : Single) → N ≤ B → Short N e → NextSingle h N M from e r → NextSingle h B M from e r

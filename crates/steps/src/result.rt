@@ -2,8 +2,8 @@
 use parity::Check;
 use rows::contains;
 use rows::wide;
-use word::sets::is_odd;
-use word::sets::touches;
+use sets::is_odd;
+use sets::touches;
 ghost use mathlib.Core.Path.{_≡_};
 ghost use Prim.Native.Nat.{_*_, _<_, _≤_};
 ghost use lib.ListN.{length};

@@ -6,7 +6,7 @@ use parity::Check;
 use rows::lower;
 use rows::raise;
 use rows::touches;
-use word::sets::is_odd;
+use sets::is_odd;
 ghost use mathlib.Core.Path.{_≡_};
 ghost use Prim.Native.Nat.{_*_, _<_, _≤_};
 ghost use lib.ListN.{length};

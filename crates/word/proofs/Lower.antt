@@ -9,8 +9,8 @@ use native.Mathlib.Omega.{arith}
 use native.Mathlib.Decide.{ℕ-discrete, decLt}
 use lib.Bits.{bitXor}
 use lib.Dec.{eqb}
-use lib.ListN.{getD, length, set, take, drop, List·getD-append}
-use lib.Seq.{ext-getD, getD-set-same, getD-set-other, paste-suc}
+use lib.ListN.{length, set, List·getD-append}
+use lib.Seq.{ext-getD, getD-set-same, getD-set-other}
 use borrow.Author.Tests.{eq-eqb, ne-eqb}
 use Rattle.parity.specs.Finite.{one, sum, count, listFrom}
 use Rattle.parity.specs.Matrix.{Matrix}
@@ -102,10 +102,6 @@ xor-odd (suc (suc a)) b k l = absurd (omega arith)
 
 pub copied-bits : (sent w : List ℕ) (n : ℕ) → Copied sent n w → Bits sent n → Bits w n
 copied-bits sent w n C B = record { at = λ b l. rw (C .at b l) (B .at b l) }
-
--- one more byte is copied to the front
-pub front-more : (d s : List ℕ) (j : ℕ) → j < length d → j < length s → set (take j s ++ drop j d) j (getD s j 0) ≡ take (j + 1) s ++ drop (j + 1) d
-front-more d s j l k = rw add-one (rw (zero-add j, zero-add (suc j)) at (paste-suc d 0 s j 0 (omega arith) k))
 
 pub front-copied : (sent w rest : List ℕ) (n : ℕ) → length sent ≡ n → w ≡ sent ++ rest → Copied sent n w
 front-copied sent w rest n l e = record { at = λ b q. rw e (List·getD-append sent rest 0 b (omega arith)) }

@@ -2,13 +2,13 @@
 use mathlib.Core.Path.{_≡_, sym, ap, _∙_}
 use mathlib.Core.Bool.{Bool, true, false, not}
 use mathlib.Core.List.{List, [], _∷_}
-use Prim.Native.Nat.{ℕ, _+_, _*_, _%_, _≤_}
+use Prim.Native.Nat.{ℕ, _+_, _%_, _≤_}
 use lib.Dec.{eqb, ltb, leb}
 use lib.ListN.{length}
 use borrow.Author.Tests.{eq-eqb, ltb-true, lt-leb, le-leb}
 use Rattle.parity.specs.Finite.{one}
 use Rattle.parity.specs.Matrix.{Matrix, lent}
-use Rattle.parity.specs.Words.{isOne, inside, evenChecks, codeword, stopping}
+use Rattle.parity.specs.Words.{isOne, evenChecks, codeword, stopping}
 use Rattle.parity.specs.Causes.{Reply, answer, refusalOf, accepting}
 use Rattle.parity.specs.Calls.{byteOf, wrongByte, checkingBytes, verifyReply, isStoppingReply}
 use Rattle.parity.specs.declared.Refusal.{Refusal}
@@ -16,15 +16,10 @@ use Rattle.parity.proofs.Finite.Sums.{any-at, all-of, all-false}
 use Rattle.parity.proofs.Matrix.Accept.{Accepted, accepts, accepting-answers}
 use Rattle.parity.proofs.Words.Bytes.{right-bytes, Word, word-right}
 use Rattle.parity.proofs.Finite.Firsts.{all-cong}
-use Rattle.parity.proofs.Words.Sets.{inside-below}
 use Rattle.parity.proofs.Causes.Admit.{admitted, admit-first}
 use Rattle.word.specs.Answers.{admitReply}
-use Rattle.word.specs.Sets.{SetOf}
-
--- the bits of a check that are in the set, of the bytes that there are
-pub set-inside : (W : ℕ) (h : Matrix) (c : ℕ) (w : List ℕ) (v : ℕ) (r : List ℕ) → SetOf W w v r → length w ≤ W * 64
-    → inside h (W * 64) c (lent W r 0) ≡ inside h (length w) c (λ b. eqb (byteOf w b) v)
-set-inside W h c w v r S l = inside-below h (W * 64) (length w) c (lent W r 0) (λ b. eqb (byteOf w b) v) l (S .at)
+use Rattle.sets.specs.Sets.{SetOf}
+use Rattle.sets.proofs.Making.{set-inside}
 
 module _ (h : Matrix) (M : ℕ) (w : List ℕ) where
   -- a byte above 1 is in no codeword
@@ -36,18 +31,15 @@ module _ (h : Matrix) (M : ℕ) (w : List ℕ) where
 
   -- among so many bits that all bytes are
   module _ (W : ℕ) (r : List ℕ) (S : SetOf W w 1 r) (N : ℕ) (l : length w ≤ N) where
-    ones-inside : (c : ℕ) → inside h N c (lent W r 0) ≡ inside h (length w) c (isOne (byteOf w))
-    ones-inside c = inside-below h N (length w) c (lent W r 0) (λ b. eqb (byteOf w b) 1) l (S .at)
-
     pub codeword-is : wrongByte 1 w ≡ false → evenChecks h N M (lent W r 0) ≡ codeword h (length w) M (byteOf w)
     unfolding codeword evenChecks
     codeword-is e =
         rw (all-of (length w) (λ b. leb (byteOf w b) 1) (λ b k. le-leb (byteOf w b) 1 (right-bytes 1 w .0 e b k)))
-        (all-cong M (λ c k. ap (λ a. eqb (a % 2) 0) (ones-inside c)))
+        (all-cong M (λ c k. ap (λ a. eqb (a % 2) 0) (set-inside W h N c w 1 r S l)))
 
     pub stopping-is : stopping h N M (lent W r 0) ≡ stopping h (length w) M (isOne (byteOf w))
     unfolding stopping
-    stopping-is = all-cong M (λ c k. ap (λ a. not (eqb a 1)) (ones-inside c))
+    stopping-is = all-cong M (λ c k. ap (λ a. not (eqb a 1)) (set-inside W h N c w 1 r S l))
 
 module _ (ws : List ℕ) (n m k : ℕ) (w : List ℕ) (top : ℕ) where
   -- what causes 1 to 4, 10 and 11 leave

@@ -1,7 +1,7 @@
 // Extending: the sent bits, and then each added bit as the sum modulo 2 of the two lower bits of its added check.
-use crate::bytes::copy_front;
 use parity::Check;
 use rows::ones::next_one;
+use sets::bytes::copy_front;
 ghost use mathlib.Core.Path.{_≡_};
 ghost use Prim.Native.Nat.{_+_, _<_};
 ghost use lib.ListN.{length};

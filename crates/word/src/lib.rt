@@ -1,18 +1,15 @@
 // Words and sets of bits, one byte for each bit: verifying, extending, and testing stopping sets.
 mod added;
-pub mod bytes;
-pub mod pairs;
-pub mod sets;
 
 use crate::added::write_word;
-use crate::bytes::first_above;
-use crate::sets::is_odd;
-use crate::sets::is_single;
-use crate::sets::set_of;
 use matrix::Accepting;
 use parity::Check;
 use parity::Refusal;
 use rows::words_of;
+use sets::bytes::first_above;
+use sets::is_odd;
+use sets::is_single;
+use sets::set_of;
 ghost use mathlib.Core.Path.{_≡_};
 ghost use Prim.Native.Nat.{_*_, _<_, _≤_};
 ghost use lib.ListN.{length};

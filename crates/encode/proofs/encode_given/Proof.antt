@@ -1,6 +1,6 @@
 -- `encode_given` meets its contract. Assumes nothing.
 use Rattle.encode.proofs.Told.{is-rank, opened, codeword-read, given-length, given-byte, given-written}
-use Rattle.word.proofs.Above.{byte-wrong, byte-right}
+use Rattle.sets.proofs.Above.{byte-wrong, byte-right}
 use native.Mathlib.Omega.{arith}
 use mathlib.Core.Path.{_∙_}
 use borrow.Author.Needs.{needs}

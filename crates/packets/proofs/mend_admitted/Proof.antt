@@ -7,7 +7,7 @@ use Rattle.parity.specs.Matrix.{lent}
 use Rattle.parity.specs.Packets.{PacketsOutcome}
 use Rattle.parity.proofs.Matrix.Accept.{accepts}
 use Rattle.parity.proofs.Matrix.Lent.{lent-empty}
-use Rattle.peel.proofs.Ending.{set-short}
+use Rattle.steps.proofs.Start.{set-short}
 use Rattle.packets.proofs.Ending.{fewer-packets, outcome-is}
 use native.Mathlib.Omega.{arith}
 use borrow.Author.Needs.{needs}

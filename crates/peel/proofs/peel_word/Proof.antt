@@ -5,7 +5,8 @@ use native.Mathlib.Omega.{arith}
 use borrow.Author.Tests.{not-true, not-false}
 use Rattle.parity.specs.Matrix.{lent}
 use Rattle.parity.specs.Causes.{Outcome}
-use Rattle.peel.proofs.Ending.{set-short, settled-short, word-refused, word-fewer, word-made}
+use Rattle.steps.proofs.Start.{set-short, settled-short}
+use Rattle.peel.proofs.Ending.{word-refused, word-fewer, word-made}
 use borrow.Author.Needs.{needs}
 use Rattle.peel.proofs.peel_word.Statement.{statement}
 use Rattle.peel.proofs.peel_word.Tie as tie
@@ -63,7 +64,7 @@ finish-requires c κs =
     let s = m .before .before .before .before .before .before in
     let (E, O) = m .make-sets .ensures in (
       (s .pre .0, s .pre .1, E .size, t .settle .kept .1 .1 .1 .0 ∙ E .size, t .settle .kept .1 .1 .1 .1 .0 ∙ O .size, omega (arith, u .words-of .ensures .1, s .pre .3), set-short 8 (s .args .word .now) 2 _ E),
-      settled-short 8 (lent 8 (s .args .words .now)) (s .args .n) (s .args .k) (s .args .checks) (s .args .word .now) _ _ (s .pre .2) (omega (arith, s .pre .2, s .pre .3)) (s .pre .5) E O _ _ (t .settle .ensures) (u .words-of .result * 64) (omega (arith, u .words-of .ensures .0, s .pre .2)),
+      settled-short 8 (lent 8 (s .args .words .now)) (s .args .checks) (s .args .word .now) _ _ (omega (arith, s .pre .2, s .pre .3)) (s .pre .5) E O _ _ (t .settle .ensures) (u .words-of .result * 64) (omega (arith, u .words-of .ensures .0, s .pre .2)),
     )
 
 same-length : tie.Need-same-length

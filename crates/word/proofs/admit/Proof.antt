@@ -8,7 +8,7 @@ use Rattle.parity.proofs.Matrix.Accept.{accepts, accepting-answers}
 use Rattle.parity.proofs.Causes.Refused.{accepted-words, refused-same}
 use Rattle.matrix.specs.Answers.{acceptingReply}
 use Rattle.word.specs.Answers.{admitReply}
-use Rattle.word.proofs.Above.{byte-wrong, byte-right}
+use Rattle.sets.proofs.Above.{byte-wrong, byte-right}
 use borrow.Author.Needs.{needs}
 use Rattle.word.proofs.admit.Statement.{statement}
 use Rattle.word.proofs.admit.Tie as tie

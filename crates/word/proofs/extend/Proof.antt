@@ -7,7 +7,7 @@ use Rattle.parity.proofs.Causes.Refused.{accepted-words}
 use Rattle.parity.proofs.Words.Bytes.{Word, right-bytes}
 use Rattle.parity.proofs.Words.Verifying.{extends}
 use Rattle.word.specs.Added.{extendedBytes}
-use Rattle.word.proofs.Above.{byte-wrong, byte-right}
+use Rattle.sets.proofs.Above.{byte-wrong, byte-right}
 use Rattle.word.proofs.Outcome.{extend-refused, word-length, sent-length, sent-byte}
 use borrow.Author.Needs.{needs}
 use Rattle.word.proofs.extend.Statement.{statement}

@@ -3,7 +3,7 @@ use Prim.Native.Nat.{_*_}
 use Rattle.parity.specs.Matrix.{lent}
 use mathlib.Core.Path.{sym, _∙_}
 use native.Mathlib.Omega.{arith}
-use Rattle.word.proofs.Above.{byte-wrong, byte-right}
+use Rattle.sets.proofs.Above.{byte-wrong, byte-right}
 use Rattle.word.proofs.Told.{codeword-not, codeword-is}
 use borrow.Author.Needs.{needs}
 use Rattle.word.proofs.is_codeword.Statement.{statement}

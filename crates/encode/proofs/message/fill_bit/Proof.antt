@@ -1,6 +1,6 @@
 -- `message::fill_bit` meets its contract. Assumes nothing.
 use Rattle.encode.proofs.Filling.{set-put}
-use Rattle.word.proofs.Told.{set-inside}
+use Rattle.sets.proofs.Making.{set-inside}
 use Rattle.parity.specs.Finite.{one}
 use Rattle.parity.specs.Matrix.{lent}
 use Rattle.parity.specs.Words.{odd}
@@ -34,7 +34,7 @@ returns c =
     let p = c .before .before .before .put-bit in
     let o = c .before .before .before .before .before .is-odd in
     let s = c .before .before .before .before .before .before .before .before .before .before in
-    let sum = set-inside 2 (lent 2 (s .args .rows .now)) (s .args .c) (s .args .word .now) 1 _ (s .pre .4) (omega arith) in (
+    let sum = set-inside 2 (lent 2 (s .args .rows .now)) 128 (s .args .c) (s .args .word .now) 1 _ (s .pre .4) (omega arith) in (
       ap (set (s .args .word .now) (s .args .b)) (c .byte .ensures ∙ ap one (o .ensures ∙ ap odd sum)),
       rw (c .byte .ensures) (set-put _ _ _ _ _ _ (s .pre .4) (s .pre .2) (p .kept .0) (p .ensures)),
     )

@@ -1,7 +1,7 @@
 -- `message::fill_down` meets its contract. Assumes nothing.
 use Rattle.encode.proofs.Filling.{fill-start, fill-more}
 use Rattle.encode.specs.Filling.{Filled}
-use Rattle.word.specs.Sets.{SetOf}
+use Rattle.sets.specs.Sets.{SetOf}
 use Rattle.parity.specs.Calls.{byteOf}
 use Rattle.parity.specs.Matrix.{lent}
 use lib.ListN.{length}

@@ -1,7 +1,7 @@
 -- `judge` meets its contract. Assumes nothing.
 use Rattle.parity.specs.Finite.{any}
 use Rattle.parity.specs.SoftCall.{wrongFloat, softReply}
-use Rattle.word.proofs.Above.{byte-wrong, byte-right}
+use Rattle.sets.proofs.Above.{byte-wrong, byte-right}
 use Rattle.parity.proofs.Finite.Firsts.{least-in, least-out}
 use Rattle.parity.specs.Calls.{wrongByte}
 use borrow.Author.Tests.{le-leb, lt-leb, eq-eqb, ne-eqb}

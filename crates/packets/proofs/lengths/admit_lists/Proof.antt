@@ -4,7 +4,7 @@ use Prim.Native.Nat.{_^_}
 use lib.ListN.{length}
 use borrow.Author.Tests.{eq-eqb, ne-eqb, lt-ltb, le-ltb, not-true, not-false}
 use Rattle.parity.specs.Packets.{wrongLengths}
-use Rattle.word.proofs.Above.{byte-wrong, byte-right}
+use Rattle.sets.proofs.Above.{byte-wrong, byte-right}
 use Rattle.packets.specs.Answers.{listsReply}
 use native.Mathlib.Omega.{arith}
 use borrow.Author.Needs.{needs}

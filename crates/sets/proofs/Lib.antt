@@ -1,0 +1,5 @@
+pub mod Above
+pub mod Making
+pub mod Eights
+pub mod Single
+pub mod Sizes

@@ -1,4 +1,3 @@
-pub mod Joining
 pub mod Performing
 pub mod Recovering
 pub mod Putting

@@ -1,42 +1,35 @@
 -- Performing the splits of a record, one after another. Assumes nothing.
 use mathlib.Core.Path.{_≡_, refl, sym, _∙_}
-use mathlib.Core.Bool.{Bool, true, false, _&&_, true≢false, false≢true}
+use mathlib.Core.Bool.{Bool, true, false, true≢false, false≢true}
 use mathlib.Core.List.{List}
 use Prim.Native.Nat.{ℕ, _+_, _/_, _%_, _≤_, _<_}
 use native.Mathlib.Nat.{add-zero, add-suc}
 use native.Mathlib.Numerals.{add-one}
 use native.Mathlib.Omega.{arith}
 use lib.ListN.{getD, length}
-use borrow.Author.Tests.{eq-eqb, lt-ltb, le-ltb}
-use Rattle.parity.specs.Finite.{count}
+use borrow.Author.Tests.{eq-eqb}
 use Rattle.parity.specs.Matrix.{Matrix}
 use Rattle.parity.specs.Cycles.{share, splitOf}
 use Rattle.parity.specs.Splits.{Pair, splitRight}
 use Rattle.parity.specs.Record.{kindOf, payload, pairIn, splitWord}
 use Rattle.parity.specs.declared.Form.the-variants.{Third}
 use Rattle.parity.specs.Sound.{Sound}
-use Rattle.parity.proofs.Finite.Sums.{is-true, is-false, is, count-cong, count-end}
+use Rattle.parity.proofs.Finite.Sums.{is-true, is-false, is}
 use Rattle.parity.proofs.Matrix.Sound.{split-sound}
 use Rattle.parity.proofs.Splits.Given.{apart, given-le, given}
 use Rattle.parity.proofs.Lists.Rebuilt.{Right, right}
 use Rattle.parity.proofs.Record.Reading.{split-yes, split-kind, split-wrong, performingAt, read-split}
-use Rattle.rows.specs.Rows.{Columns}
+use Rattle.columns.specs.Columns.{Columns, together}
+use Rattle.columns.specs.Splits.{parted, Parted}
+use Rattle.columns.proofs.Shares.{together-share}
+use Rattle.columns.proofs.Splitting.{parted-columns}
 use Rattle.reading.specs.Read.{Kind}
-use Rattle.choice.specs.Given.{together, parted, Parted}
-use Rattle.choice.proofs.Columns.{parted-columns}
 use Rattle.exchange.specs.Merge.{Apart, Both}
 use Rattle.exchange.proofs.Common.{twice}
 use Rattle.carried.specs.Perform.{Performed, Performs}
 
 abbrev carriedIn : ℕ → Pair
 carriedIn x = record { lower = x % 512; higher = x / 512 }
-
--- the columns of two words count the shares over the given checks
-pub columns-share : (m : ℕ) (h g : Matrix) → Columns m h g → m ≤ 128 → (x y : ℕ) → together 2 g x y ≡ share h m x y
-unfolding together share
-columns-share m h g C k x y =
-    count-end m 128 (λ c. g x c && g y c) k (λ c l r. rw (C .at x c, le-ltb c m l))
-    ∙ count-cong m {p = λ c. g x c && g y c} {q = λ c. h c x && h c y} (λ c l. rw (C .at x c, C .at y c, lt-ltb c m l))
 
 module _ (h g : Matrix) (n m k x : ℕ) (S : Sound h n m k) (C : Columns m h g) where
   wrong : (h′ g′ : Matrix) → h′ ≡ h → (Right h n m k (x % 512) (x / 512) → ⊥) → Performed h h′ g′ n m k x false
@@ -63,13 +56,13 @@ module _ (h g : Matrix) (n m k x : ℕ) (S : Sound h n m k) (C : Columns m h g) 
 
     pub too-few : (g′ : Matrix) → together 2 g (x % 512) (x / 512) < 2 → Performed h h g′ n m k x false
     too-few g′ l =
-        let e = columns-share m h g C few (x % 512) (x / 512) in
+        let e = together-share 2 m h g C few (x % 512) (x / 512) in
         wrong h g′ refl (λ r. omega (arith, r .shares, given h n m k S (x % 512) (x / 512) (omega arith) b (λ q. omega arith) (r .shares)))
 
     module _ (l : 2 ≤ together 2 g (x % 512) (x / 512)) where
       shares : 2 ≤ share h (m + k) (x % 512) (x / 512)
       shares =
-          let e = columns-share m h g C few (x % 512) (x / 512) in
+          let e = together-share 2 m h g C few (x % 512) (x / 512) in
           omega (arith, given-le h n m k S (x % 512) (x / 512) (omega arith) b (λ q. omega arith))
 
       never : Apart h m (m + k) (x % 512) (x / 512)

@@ -14,7 +14,7 @@ use Rattle.parity.proofs.Splits.Back.{split-others}
 use Rattle.parity.proofs.Splits.Undo.{newest, pair-lower, pair-higher, back-split, back-share}
 use Rattle.parity.proofs.Lists.Built.{Built, given, more, good, undone}
 use Rattle.parity.proofs.Lists.Rebuilt.{all-sound, built-written, written-built}
-use Rattle.rows.specs.Rows.{Columns, ColumnsOf}
+use Rattle.columns.specs.Columns.{Columns, ColumnsOf}
 use Rattle.carried.specs.Recover.{standing, Raw, BackOne, AllBack}
 use Rattle.carried.proofs.Standing.{standing-given, columns-end, raw-back}
 

@@ -15,28 +15,14 @@ use Rattle.parity.proofs.Finite.Sums.{is-true, is-false, is, count-cong, count-
 use Rattle.parity.proofs.Matrix.Sound.{sound-rule}
 use Rattle.parity.proofs.Splits.Back.{back-at, back-bit, back-clean}
 use Rattle.parity.proofs.Splits.Undo.{newest, no-third, lower-at, higher-at, pair-own}
-use Rattle.rows.specs.Rows.{Columns, NextOne}
-use Rattle.choice.specs.Given.{together}
+use Rattle.rows.specs.Rows.{NextOne}
+use Rattle.columns.specs.Columns.{Columns}
+use Rattle.columns.specs.Splits.{joined, Joined}
+use Rattle.columns.specs.Three.{Apart}
+use Rattle.columns.proofs.Apart.{none-columns, columns-none, none-shares, shares-none}
 use Rattle.exchange.specs.Back.{Newer}
 use Rattle.exchange.proofs.ReadPair.{first-one, second-one}
-use Rattle.carried.specs.Join.{joined, Joined}
-use Rattle.carried.specs.Recover.{allApart, standing, Raw, BackOne}
-use Rattle.carried.proofs.Performing.{columns-share}
-
--- what the code reads of the three columns
-pub apart-no : (g : Matrix) (u v z : ℕ) (r : Bool) → r ≡ not (eqb (together 2 g u v) 0) → r ≡ true → false ≡ allApart g u v z
-unfolding allApart
-apart-no g u v z r e t = rw (not-true (eqb (together 2 g u v) 0) (sym e ∙ t))
-
-pub apart-no-too : (g : Matrix) (u v z : ℕ) (r : Bool) → r ≡ not (eqb (together 2 g u z) 0) → r ≡ true → false ≡ allApart g u v z
-unfolding allApart
-apart-no-too g u v z r e t = rw (not-true (eqb (together 2 g u z) 0) (sym e ∙ t), and-false)
-
-pub apart-last : (g : Matrix) (u v z : ℕ) (p q r : Bool) → p ≡ not (eqb (together 2 g u v) 0) → p ≡ false → q ≡ not (eqb (together 2 g u z) 0) → q ≡ false
-    → r ≡ not (eqb (together 2 g v z) 0) → not r ≡ allApart g u v z
-unfolding allApart
-apart-last g u v z p q r a x b y c =
-    rw (not-false (eqb (together 2 g u v) 0) (sym a ∙ x), not-false (eqb (together 2 g u z) 0) (sym b ∙ y), c) (Bool·not-not (eqb (together 2 g v z) 0))
+use Rattle.carried.specs.Recover.{standing, Raw, BackOne}
 
 -- the entries of the matrix that stands
 module _ (h g : Matrix) (m k : ℕ) where
@@ -221,17 +207,13 @@ module _ (g : Matrix) (n m j : ℕ) (R : Raw g n m (suc j)) where
 
   -- q has the columns of the given checks
   module _ (q : Matrix) (C : Columns m g q) where
-    abbrev counted : (x y : ℕ) → together 2 q x y ≡ share g m x y
-    counted x y = columns-share m g q C (omega (arith, R .sound .m120)) x y
+    few : m ≤ 128
+    few = omega (arith, R .sound .m120)
 
     -- the three bits share no given check: the newest check keeps rule A
-    module _ (t : allApart q u v N ≡ true) where
+    module _ (r : Bool) (E : Apart 128 q u v N r) (t : r ≡ true) where
       none-given : (share g m u v ≡ 0) × (share g m u N ≡ 0) × (share g m v N ≡ 0)
-      unfolding allApart
-      none-given =
-          let (x, c) = and-eq-true-iff (eqb (together 2 q u v) 0 && eqb (together 2 q u N) 0) (eqb (together 2 q v N) 0) .0 t in
-          let (a, b) = and-eq-true-iff (eqb (together 2 q u v) 0) (eqb (together 2 q u N) 0) .0 x in
-          (sym (counted u v) ∙ eqb-true _ 0 a, sym (counted u N) ∙ eqb-true _ 0 b, sym (counted v N) ∙ eqb-true _ 0 c)
+      none-given = none-shares g m u v N (none-columns 128 g q m u v N C few (E .yes-none t))
 
       one-share : (a b : ℕ) → a < b → b < suc N → g M a ≡ true → g M b ≡ true → share g m a b ≡ 0
       one-share a b ab bn p q =
@@ -256,17 +238,15 @@ module _ (g : Matrix) (n m j : ℕ) (R : Raw g n m (suc j)) where
         alone = λ a b ab bn p q. share-own a b ab bn p q ∙ ap suc (one-share a b ab bn p q);
       }
 
-    breaks-rule : allApart q u v N ≡ false → Newest g N M → ⊥
-    unfolding allApart
-    breaks-rule t A =
+    breaks-rule : (r : Bool) → Apart 128 q u v N r → r ≡ false → Newest g N M → ⊥
+    breaks-rule r E t A =
         let (x, y, z, w) = two-bits in
-        let none : (a b : ℕ) → a < b → b < suc N → g M a ≡ true → g M b ≡ true → together 2 q a b ≡ 0 =
-        λ a b ab bn p q. let e = share-own a b ab bn p q in let f = A .alone a b ab bn p q in omega (arith, counted a b) in
-        true≢false (sym (rw (
-          eq-eqb (together 2 q u v) 0 (none u v x (omega arith) z w),
-          eq-eqb (together 2 q u N) 0 (none u N (omega arith) (omega arith) z rule-own),
-          eq-eqb (together 2 q v N) 0 (none v N y (omega arith) w rule-own),
-        )) ∙ t)
+        let none : (a b : ℕ) → a < b → b < suc N → g M a ≡ true → g M b ≡ true → share g m a b ≡ 0 =
+        λ a b ab bn p q. let e = share-own a b ab bn p q in let f = A .alone a b ab bn p q in omega arith in
+        true≢false (sym (E .none-yes (columns-none 128 g q m u v N C few (shares-none g m u v N
+        (none u v x (omega arith) z w)
+        (none u N (omega arith) (omega arith) z rule-own)
+        (none v N y (omega arith) w rule-own)))) ∙ t)
 
     -- the other checks that contain the newest bit are those of its column
     others-weight : (s : ℕ) → s ≡ count 128 (q N) → others g N M ≡ s
@@ -277,17 +257,17 @@ module _ (g : Matrix) (n m j : ℕ) (R : Raw g n m (suc j)) where
         a ∙ count-cong m {p = λ c. g c N} {q = q N} (λ c l. sym (C .at N c ∙ rw (lt-ltb c m l))) ∙ sym (e ∙ b)
 
     -- what one step answers, from the two bits x and y that it reads
-    module _ (x y : ℕ) (r : Bool) (a : x ≡ u) (b : y ≡ v) (e : r ≡ allApart q x y N) where
+    module _ (x y : ℕ) (r : Bool) (a : x ≡ u) (b : y ≡ v) (E : Apart 128 q x y N r) where
       pub one-stops : r ≡ false → (g′ : Matrix) → BackOne g g′ N M false
       one-stops f g′ = record {
         newest = λ q. absurd (false≢true q);
         two = λ q. absurd (false≢true q);
         matrix = λ q. absurd (false≢true q);
-        stops = λ q A. absurd (breaks-rule (sym (rw (a, b) at e) ∙ f) A);
+        stops = λ q A. absurd (breaks-rule r (rw (a, b) at E) f A);
       }
 
       pub one-keeps : r ≡ true → Newest g N M
-      one-keeps f = keeps-rule (sym (rw (a, b) at e) ∙ f)
+      one-keeps f = keeps-rule r (rw (a, b) at E) f
 
     pub one-few : (s : ℕ) → s ≡ count 128 (q N) → s < 2 → (g′ : Matrix) → BackOne g g′ N M false
     one-few s e l g′ = record {

@@ -10,7 +10,7 @@ use Rattle.parity.specs.Splits.{splitRight}
 use Rattle.parity.specs.Record.{splitWord, performing}
 use Rattle.parity.specs.declared.Form.the-variants.{Third}
 use Rattle.parity.specs.Sound.{Sound}
-use Rattle.rows.specs.Rows.{Columns}
+use Rattle.columns.specs.Columns.{Columns}
 
 -- r says whether the split of a payload x is right for h, which has k added bits; h′ is then the matrix after it, and g its columns
 pub record Performed (h h′ g : Matrix) (n m k x : ℕ) (r : Bool) : Type 0 where

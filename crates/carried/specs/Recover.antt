@@ -2,16 +2,11 @@
 use mathlib.Core.Path.{_≡_}
 use mathlib.Core.Bool.{Bool, true, false, not, cond, _&&_}
 use Prim.Native.Nat.{ℕ, _+_, _≤_, _<_}
-use lib.Dec.{eqb, ltb}
+use lib.Dec.{ltb}
 use Rattle.parity.specs.Matrix.{Matrix}
 use Rattle.parity.specs.Cycles.{takenBack, others}
 use Rattle.parity.specs.Splits.{allBack, notBuilt}
 use Rattle.parity.specs.Sound.{Clean, Sound, Newest}
-use Rattle.choice.specs.Given.{together}
-
--- no two of three columns have a place in common
-unfoldable pub allApart : Matrix → ℕ → ℕ → ℕ → Bool
-allApart g u v z = eqb (together 2 g u v) 0 && eqb (together 2 g u z) 0 && eqb (together 2 g v z) 0
 
 -- the matrix with m given checks, which have the columns g, and with the k added ones of h
 unfoldable pub standing : Matrix → Matrix → ℕ → ℕ → Matrix

@@ -1,5 +1,4 @@
 // The splits that a record carries: those of its words performed on a matrix, and those of a matrix taken back.
-mod columns;
 pub mod perform;
 pub mod recover;
 pub mod words;

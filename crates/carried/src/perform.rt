@@ -1,19 +1,18 @@
 // Performing the splits of a record on the words of its checks.
-use choice::given::part;
-use choice::given::shared;
+use columns::given_columns;
+use columns::shared;
+use columns::splits::part;
 use exchange::merge::merge;
 use parity::Bit;
 use parity::Check;
 use reading::words::Word;
 use reading::words::read;
-use rows::columns::fill;
-use rows::columns::no_columns;
 ghost use mathlib.Core.Path.{_≡_};
 ghost use Prim.Native.Nat.{_≤_};
 ghost use lib.ListN.{length};
 ghost use Rattle.parity.specs.Matrix.{lent};
 ghost use Rattle.parity.specs.Sound.{Sound};
-ghost use Rattle.rows.specs.Rows.{Columns};
+ghost use Rattle.columns.specs.Columns.{Columns};
 ghost use Rattle.carried.specs.Perform.{Performed, Performs};
 
 // Performs the split that a kind 6 word with the payload `x` carries, if it would not be refused; says whether it is made.
@@ -41,7 +40,7 @@ fn perform_split(
     if z <= v {
         return false;
     }
-    if shared(cols, Bit(u), Bit(v)) < 2 {
+    if shared(cols, 2, Bit(u), Bit(v)) < 2 {
         return false;
     }
     part(cols, 2, Bit(u), Bit(v), Bit(z));
@@ -55,8 +54,7 @@ pub fn perform(source: &[u32], words: &mut [u64], n: usize, m: usize, p: usize) 
     requires { ⌜ Sound (lent 8 (now words)) n m 0 ⌝ }
     ensures { λ r. ⌜ Performs (now (source .entry)) n m p (lent 8 (now (words .entry))) (lent 8 (now (words .exit))) r ⌝ }
 {
-    let mut cols = no_columns();
-    fill(words, &mut cols, 2, m);
+    let mut cols = given_columns(words, m);
     let mut k = 0;
     while p + k < source.len() {
         let Word::Split(x) = read(source[p + k]) else {

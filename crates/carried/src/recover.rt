@@ -1,34 +1,20 @@
 // Taking all splits of an accepted matrix back, on the columns of its given checks, as far as the splits made it.
-use crate::columns::join;
+use columns::fill_checks;
+use columns::given_columns;
+use columns::splits::join;
+use columns::three::apart;
 use parity::Bit;
 use parity::Check;
-use rows::columns::fill;
-use rows::columns::fill_checks;
-use rows::columns::no_columns;
 use rows::ones::next_one;
-use rows::touches;
 use rows::weight;
 ghost use mathlib.Core.Path.{_≡_};
 ghost use Prim.Native.Nat.{_+_, _<_};
 ghost use lib.ListN.{length};
 ghost use Rattle.parity.specs.Matrix.{lent};
 ghost use Rattle.parity.specs.Sound.{Sound};
-ghost use Rattle.rows.specs.Rows.{Columns, Empty};
-ghost use Rattle.carried.specs.Recover.{allApart, standing, Raw, BackOne, AllBack};
-
-// Whether no two of the columns of `u`, `v` and `z` have a check in common.
-fn apart(cols: &[u64], u: Bit, v: Bit, z: Bit) -> bool
-    requires { ⌜ (length (now cols) ≡ 1024) × (u .0 < 512) × (v .0 < 512) × (z .0 < 512) ⌝ }
-    ensures { λ r. ⌜ r ≡ allApart (lent 2 (now (cols .entry))) (u .0) (v .0) (z .0) ⌝ }
-{
-    if touches(cols, u.0, cols, v.0, 2, 2) {
-        return false;
-    }
-    if touches(cols, u.0, cols, z.0, 2, 2) {
-        return false;
-    }
-    !touches(cols, v.0, cols, z.0, 2, 2)
-}
+ghost use Rattle.rows.specs.Rows.{Empty};
+ghost use Rattle.columns.specs.Columns.{Columns};
+ghost use Rattle.carried.specs.Recover.{standing, Raw, BackOne, AllBack};
 
 // Takes back the newest of `j + 1` splits, if its check keeps rule A and two or more other checks contain its bit; says whether it does.
 fn back_one(words: &[u64], cols: &mut [u64], n: usize, m: usize, j: usize) -> bool
@@ -41,13 +27,13 @@ fn back_one(words: &[u64], cols: &mut [u64], n: usize, m: usize, j: usize) -> bo
     let c = m + j;
     let u = next_one(words, Check(c), 0);
     let v = next_one(words, Check(c), u + 1);
-    if !apart(cols, Bit(u), Bit(v), Bit(z)) {
+    if !apart(cols, 2, u, v, z) {
         return false;
     }
     if weight(cols, 2, z) < 2 {
         return false;
     }
-    join(cols, Bit(u), Bit(v), Bit(z));
+    join(cols, 2, Bit(u), Bit(v), Bit(z));
     true
 }
 
@@ -73,8 +59,7 @@ pub fn all_back(words: &[u64], rows: &mut [u64], n: usize, m: usize, k: usize) -
     requires { ⌜ (length (now words) ≡ 4096) × (length (now rows) ≡ 256) × Empty (lent 2 (now rows)) × Sound (lent 8 (now words)) n m k ⌝ }
     ensures { λ r. ⌜ AllBack (lent 8 (now (words .entry))) (lent 2 (now (rows .exit))) n m k r ⌝ }
 {
-    let mut cols = no_columns();
-    fill(words, &mut cols, 2, m);
+    let mut cols = given_columns(words, m);
     if !each_back(words, &mut cols, n, m, k) {
         return false;
     }

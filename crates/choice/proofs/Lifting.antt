@@ -16,8 +16,9 @@ use Rattle.parity.proofs.Finite.Bools.{or-false-both}
 use Rattle.parity.proofs.Matrix.Digits.{one-shl, bit-zero, bit-or, bit-test}
 use Rattle.parity.proofs.Matrix.Ones.{Lowest}
 use Rattle.parity.proofs.Matrix.Rest.{rest-bit}
-use Rattle.choice.specs.Planes.{number, high, Several, Lifted}
-use Rattle.choice.specs.declared.planes.Planes.{Planes}
+use Rattle.columns.specs.Planes.{number}
+use Rattle.choice.specs.Numbers.{high, Several, Lifted}
+use Rattle.columns.specs.declared.planes.Planes.{Planes}
 
 -- the numbers that are two or more
 pub several-places : (p : Planes) → Several p (bitOr (bitOr (bitOr (bitOr (bitOr (p .p1) (p .p2)) (p .p3)) (p .p4)) (p .p5)) (p .p6))

@@ -15,8 +15,9 @@ use Rattle.parity.specs.Matrix.{bitOf}
 use Rattle.parity.proofs.Finite.Sums.{is, is-true, is-false, sum-point}
 use Rattle.parity.proofs.Matrix.Digits.{bit-zero}
 use Rattle.parity.proofs.Matrix.Ones.{Lowest, trailing-lowest}
-use Rattle.choice.specs.Planes.{number, Shares, Best, From, Lifted}
-use Rattle.choice.specs.declared.planes.Planes.{Planes}
+use Rattle.columns.specs.Planes.{number, Shares, From}
+use Rattle.choice.specs.Numbers.{Best, Lifted}
+use Rattle.columns.specs.declared.planes.Planes.{Planes}
 use Rattle.choice.specs.Bounds.{Weights, Bounded, Head, Largest, FirstAt, RowBelow, Narrow, Scanned, Picked, NoPair, Raised}
 
 -- the first bounds

@@ -1,3 +1,2 @@
-pub mod Given
-pub mod Planes
 pub mod Bounds
+pub mod Numbers

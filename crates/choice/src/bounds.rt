@@ -1,17 +1,17 @@
 // Row bounds: for each bit, a bound on its shares of two or more with the bits above it. They give the pair to split.
-use crate::given::shared;
-use crate::planes::above;
-use crate::planes::best;
-use crate::planes::larger;
-use crate::planes::lift;
-use crate::planes::tally;
+use crate::numbers::best;
+use crate::numbers::lift;
+use columns::planes::above;
+use columns::planes::larger;
+use columns::planes::tally;
+use columns::shared;
 use parity::Bit;
 use rows::wide;
 ghost use mathlib.Core.Path.{_≡_};
 ghost use Prim.Native.Nat.{_≤_, _<_};
 ghost use lib.ListN.{length, replicate};
 ghost use Rattle.parity.specs.Matrix.{lent};
-ghost use Rattle.choice.specs.Given.{shares, Given};
+ghost use Rattle.columns.specs.Columns.{shares, Given};
 ghost use Rattle.choice.specs.Bounds.{Weights, Bounded, Head, Largest, FirstAt, RowBelow, Narrow, Scanned, Chosen, Raised};
 
 // Bounds of 0.
@@ -28,7 +28,7 @@ pub fn weights(cols: &[u64], bits: usize) -> [u64; 512]
 {
     let mut bound = no_bounds();
     for x in 0..bits {
-        bound[x] = shared(cols, Bit(x), Bit(x));
+        bound[x] = shared(cols, 2, Bit(x), Bit(x));
     }
     bound
 }
@@ -104,7 +104,7 @@ fn scan(words: &[u64], cols: &[u64], bits: usize, u: Bit, s: u64) -> Seen
     let mut mask = above(from);
     let mut most: u64 = 0;
     while i * 64 < bits {
-        let top = best(tally(words, cols, 2, u, i), mask);
+        let top = best(tally(cols, 2, u.0, 2, words, 8, i), mask);
         let t = top.value;
         let left = top.left;
         if t == s {
@@ -174,7 +174,7 @@ pub fn widen(words: &[u64], cols: &[u64], z: Bit, bound: &mut [u64])
     let new = z.0;
     let mut i: usize = 0;
     while i * 64 < new {
-        lift(bound, tally(words, cols, 2, z, i), i);
+        lift(bound, tally(cols, 2, z.0, 2, words, 8, i), i);
         i += 1;
     }
     bound[new] = 0;

@@ -1,4 +1,3 @@
 // The choice of the pair that orthogonalising splits: the largest share, then the smallest lower bit, then the smallest higher bit.
 pub mod bounds;
-pub mod given;
-pub mod planes;
+mod numbers;

@@ -1,4 +1,3 @@
-pub mod Columns
 pub mod Given
 pub mod Meeting
 pub mod Weighing

@@ -15,7 +15,7 @@ use Rattle.parity.specs.Matrix.{Matrix, lent}
 use Rattle.parity.specs.Sound.{Clean}
 use Rattle.parity.proofs.Matrix.Digits.{bit-and}
 use Rattle.parity.proofs.Matrix.Lent.{lent-in, lent-out}
-use Rattle.rows.specs.Rows.{ColumnIn}
+use Rattle.columns.specs.Columns.{ColumnIn}
 use Rattle.exchange.specs.Merge.{Apart, Both, Meeting, Kept}
 
 -- the words below i are the and of both, and the others are left

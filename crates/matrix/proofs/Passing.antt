@@ -10,8 +10,10 @@ use Rattle.parity.specs.Matrix.{Matrix, ruleAt, ruleA}
 use Rattle.parity.proofs.Finite.Sums.{is-true, is-false, is, all-of}
 use Rattle.parity.proofs.Matrix.Lent.{lent-empty}
 use Rattle.parity.proofs.Matrix.Rule.{first, second, new}
-use Rattle.matrix.specs.Three.{two, NoneIn, OnlyIn, Three, NoneOf, Passed, rowOf, placeOf, paired, PairIn, Seen, Passing, Fresh, Judged}
-use Rattle.matrix.proofs.Three.{two-false, two-none, place-of, three-rule, rule-three}
+use Rattle.columns.specs.Three.{two, NoneIn}
+use Rattle.columns.proofs.Apart.{two-false, two-none}
+use Rattle.matrix.specs.Three.{OnlyIn, Three, NoneOf, Passed, rowOf, placeOf, paired, PairIn, Seen, Passing, Fresh, Judged}
+use Rattle.matrix.proofs.Three.{place-of, three-rule, rule-three}
 
 -- no check contains both bits where it contains not both
 both-false : (h : Matrix) (c p q : ℕ) → (h c p ≡ true → h c q ≡ true → ⊥) → (h c p && h c q) ≡ false

@@ -11,23 +11,9 @@ use Rattle.parity.specs.Matrix.{Matrix, noOther, ruleAt}
 use Rattle.parity.proofs.Finite.Sums.{is-true, is-false, is, all-at, all-of, count-suc, count-mono, count-end}
 use Rattle.parity.proofs.Matrix.Rule.{Rule, rule, alone-share, share-alone, Place, first, second, new}
 use Rattle.rows.specs.Rows.{NextOne}
-use Rattle.matrix.specs.Three.{two, OnlyIn, Three}
-
-pub two-false : (x y w : Bool) → (x && y) || ((x || y) && w) ≡ false → (x && y ≡ false) × (x && w ≡ false) × (y && w ≡ false)
-two-false true true w e = absurd (true≢false e)
-two-false true false true e = absurd (true≢false e)
-two-false true false false e = (refl, refl, refl)
-two-false false true true e = absurd (true≢false e)
-two-false false true false e = (refl, refl, refl)
-two-false false false w e = (refl, refl, refl)
-
-pub two-none : (x y w : Bool) → x && y ≡ false → x && w ≡ false → y && w ≡ false → (x && y) || ((x || y) && w) ≡ false
-two-none true true w e f g = absurd (true≢false e)
-two-none true false true e f g = absurd (true≢false f)
-two-none true false false e f g = refl
-two-none false true true e f g = absurd (true≢false g)
-two-none false true false e f g = refl
-two-none false false w e f g = refl
+use Rattle.columns.specs.Three.{two}
+use Rattle.columns.proofs.Apart.{two-false, two-none}
+use Rattle.matrix.specs.Three.{OnlyIn, Three}
 
 -- a bit of the check is one of the three
 pub place-of : (h : Matrix) (c x y z : ℕ) → Three h c x y z → (b : ℕ) → h c b ≡ true → Place x y z b

@@ -1,9 +1,9 @@
 // Rule A on the words, by columns of the given checks and a table of the pairs of lower bits.
+use columns::given_columns;
+use columns::three::apart;
 use parity::Bit;
 use parity::Check;
 use rows::bits::has;
-use rows::columns::fill;
-use rows::columns::no_columns;
 use rows::contains;
 use rows::ones::next_one;
 use rows::ones::weight;
@@ -14,39 +14,8 @@ ghost use Prim.Native.Nat.{_+_, _*_, _-_, _≤_, _<_};
 ghost use lib.Dec.{leb};
 ghost use lib.ListN.{length, replicate};
 ghost use Rattle.parity.specs.Matrix.{lent, clean, ruleA};
-ghost use Rattle.rows.specs.Rows.{Columns};
-ghost use Rattle.matrix.specs.Three.{inTwo, twoIn, Apart, Three, rowOf, placeOf, paired, PairIn, Passing, Fresh, Judged};
-
-// The bits that are ones of at least two of the three words.
-fn in_two(x: u64, y: u64, z: u64) -> u64
-    ensures { λ r. ⌜ r ≡ inTwo x y z ⌝ }
-{
-    (x & y) | ((x | y) & z)
-}
-
-// The checks of column word `i` that contain two of the bits `x`, `y` and `z`.
-fn shared(cols: &[u64], width: usize, x: usize, y: usize, z: usize, i: usize) -> u64
-    requires { ⌜ (x * width + width ≤ length (now cols)) × (y * width + width ≤ length (now cols)) × (z * width + width ≤ length (now cols)) × (i < width) ⌝ }
-    ensures { λ r. ⌜ r ≡ twoIn width (now (cols .entry)) x y z i ⌝ }
-{
-    in_two(
-        cols[x * width + i],
-        cols[y * width + i],
-        cols[z * width + i],
-    )
-}
-
-// Whether no check of the columns contains two of the bits `x`, `y` and `z`.
-fn apart(cols: &[u64], width: usize, x: usize, y: usize, z: usize) -> bool
-    requires { ⌜ (x * width + width ≤ length (now cols)) × (y * width + width ≤ length (now cols)) × (z * width + width ≤ length (now cols)) ⌝ }
-    ensures { λ r. ⌜ Apart width (now (cols .entry)) x y z r ⌝ }
-{
-    let mut acc: u64 = 0;
-    for i in 0..width {
-        acc = acc | shared(cols, width, x, y, z, i);
-    }
-    acc == 0
-}
+ghost use Rattle.columns.specs.Columns.{Columns};
+ghost use Rattle.matrix.specs.Three.{Three, rowOf, placeOf, paired, PairIn, Passing, Fresh, Judged};
 
 // The row of bit `b` in the table of pairs, of which a row has `width` words.
 fn row_of(width: usize, b: usize) -> usize
@@ -203,8 +172,7 @@ pub fn rule_a(words: &[u64], n: usize, m: usize, k: usize) -> bool
     if k == 0 {
         return true;
     }
-    let mut cols = no_columns();
-    fill(words, &mut cols, 2, m);
+    let cols = given_columns(words, m);
     if n + k <= 256 {
         let mut pairs = no_first_pairs();
         return all_rules(words, &cols, &mut pairs, 4, n, m, k);

@@ -12,7 +12,7 @@ use Rattle.parity.specs.Finite.{count}
 use Rattle.parity.specs.Matrix.{Matrix}
 use Rattle.parity.specs.Soft.{Messages, messageAt, settled, bitSends, toChecks, but}
 use Rattle.soft.specs.Pass.{every, bitAnswer}
-use Rattle.rows.specs.Rows.{Columns}
+use Rattle.columns.specs.Columns.{Columns}
 use Rattle.messages.specs.Memory.{held, across, column, heldAt, Part, from, Collected, Spread, BitSent, Sending, resultOf, Holds, Within}
 use Rattle.messages.specs.Loops.{SentAll}
 use Rattle.parity.specs.declared.Channel.{Channel}

@@ -1,4 +1,3 @@
 pub mod Next
-pub mod Fill
 pub mod Zeros
 pub mod Touch

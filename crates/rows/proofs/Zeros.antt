@@ -1,4 +1,4 @@
--- Laws of an or that is zero exactly if all its parts are, and of words that are made 0. Assumes nothing.
+-- Laws of an or that is zero exactly if all its parts are, and of words that are 0. Assumes nothing.
 use mathlib.Core.Path.{_≡_, refl, sym, ap, _∙_}
 use mathlib.Core.Logic.{_↔_}
 use mathlib.Core.List.{List}
@@ -6,8 +6,11 @@ use Prim.Native.Nat.{ℕ, _+_, _≤_, _<_}
 use native.Mathlib.Omega.{arith}
 use native.Mathlib.Decide.{ℕ-discrete, decLt}
 use lib.Bits.{bitOr, or-add-and, and-le-l, and-le-r}
-use lib.ListN.{length, set}
+use lib.ListN.{length, set, replicate}
 use lib.Seq.{getD-set-same, getD-set-other}
+use Rattle.parity.specs.Matrix.{lent}
+use Rattle.parity.proofs.Matrix.Lent.{lent-empty}
+use Rattle.rows.specs.Rows.{Empty}
 use Rattle.rows.specs.Zeros.{Zeros, Zeroed}
 
 -- an or is zero exactly if both its parts are
@@ -45,3 +48,7 @@ zeroed-next words i k Z = record {
     | no d ↦ getD-set-other words i j 0 0 d ∙ Z .none j (omega arith)
   ];
 }
+
+-- words that are 0 are rows without a bit
+pub empty : (W n : ℕ) (r : List ℕ) → r ≡ replicate n 0 → Empty (lent W r)
+empty W n r z = record { at = lent-empty W n r z }

@@ -1,6 +1,5 @@
 // Rows of `width` words of 64 bits: the checks of a matrix, its columns, or a set of bits, which is one row.
 pub mod bits;
-pub mod columns;
 pub mod ones;
 
 ghost use mathlib.Core.Path.{_≡_};

@@ -13,7 +13,6 @@ use Rattle.parity.specs.Cycles.{share, heldBy, pairs, splitOf, largestShare, lo
 use Rattle.parity.specs.Calls.{orthogonalisedReply}
 use Rattle.parity.specs.CyclesPromises.{holding}
 use Rattle.parity.specs.Sound.{Clean, Sound}
-use Rattle.parity.proofs.Finite.Sums.{count-cong, count-end}
 use Rattle.parity.proofs.Finite.Outermost.{outermost-same}
 use Rattle.parity.proofs.Splits.Pairs.{pairs-suc}
 use Rattle.parity.proofs.Splits.Split.{at-new-bit}
@@ -23,11 +22,12 @@ use Rattle.parity.proofs.Matrix.Sound.{split-sound}
 use Rattle.parity.proofs.Splits.Pick.{Chosen, picked, chosen-only}
 use Rattle.parity.proofs.Splits.Given.{apart, given, given-too}
 use Rattle.parity.proofs.Splits.Orthogonal.{finishes, stops-full, repeats}
-use Rattle.rows.specs.Rows.{Columns}
-use Rattle.outermost.specs.Rows.{inBoth}
-use Rattle.choice.specs.Given.{together, parted, Parted, Given}
+use Rattle.columns.specs.Columns.{Columns, Given, together}
+use Rattle.columns.specs.Splits.{parted, Parted}
+use Rattle.columns.proofs.Shares.{together-le, together-top, together-none, together-share}
+use Rattle.columns.proofs.Splitting.{parted-columns}
+use Rattle.pairs.specs.Rows.{inBoth}
 use Rattle.choice.specs.Bounds.{Bounded, Head, Picked, NoPair, Narrow, Raised, Weights}
-use Rattle.choice.proofs.Columns.{together-le, together-top, together-none, parted-columns}
 use Rattle.choice.proofs.RowBounds.{bounded-split, raised-head, weights-bound, weights-head}
 use Rattle.split.specs.Answers.{courseReply}
 use Rattle.exchange.specs.Merge.{Apart, Both}
@@ -57,13 +57,6 @@ held-parted h cols u v z M K B = outermost-same (2 * 64) (inBoth 2 cols z cols z
       | yes s ↦ (s, and-eq-true-iff (lent 2 cols z c) (lent 2 cols z c) .1 (r, r))
       | no s ↦ absurd (true≢false (sym r ∙ lent-out 2 cols z c (omega arith)))
     ])
-
--- the columns of two words count the shares over the given checks
-pub together-share : (m : ℕ) (h g : Matrix) → Columns m h g → m ≤ 128 → (x y : ℕ) → together 2 g x y ≡ share h m x y
-unfolding together share
-together-share m h g C k x y =
-    count-end m 128 (λ c. g x c && g y c) k (λ c l r. rw (C .at x c, le-ltb c m l))
-    ∙ count-cong m {p = λ c. g x c && g y c} {q = λ c. h c x && h c y} (λ c l. rw (C .at x c, C .at y c, lt-ltb c m l))
 
 -- the columns are those of the given checks, and the bits from n + k on share nothing
 pub given-columns : (m : ℕ) (h g : Matrix) → m ≤ 120 → Columns m h g → Given h g
@@ -114,7 +107,7 @@ stands-bound h₀ n m k₀ h g bound bound' k splits total held S B = record {
 
 module _ (h₀ : Matrix) (n m k₀ : ℕ) (h g : Matrix) (bound : List ℕ) (k splits total : ℕ) (held : List ℕ) (S : Stands h₀ n m k₀ h g bound k splits total held) where
   shares : (x y : ℕ) → together 2 g x y ≡ share h m x y
-  shares x y = together-share m h g (S .columns) (omega (arith, S .sound .m120)) x y
+  shares x y = together-share 2 m h g (S .columns) (omega (arith, S .sound .m120)) x y
 
   -- shares of two or more are those of the columns
   large : (x y : ℕ) → x < y → y < n + k → 2 ≤ share h (m + k) x y → together 2 g x y ≡ share h (m + k) x y

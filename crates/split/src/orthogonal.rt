@@ -3,10 +3,10 @@ use choice::bounds::Choice;
 use choice::bounds::pick;
 use choice::bounds::weights;
 use choice::bounds::widen;
-use choice::given::columns;
-use choice::given::part;
+use columns::given_columns;
+use columns::splits::part;
 use exchange::merge::merge;
-use outermost::holders;
+use pairs::held::holders;
 use parity::Bit;
 use parity::Check;
 use parity::Holders;
@@ -17,7 +17,7 @@ ghost use Rattle.parity.specs.Matrix.{lent};
 ghost use Rattle.parity.specs.Cycles.{heldBy, splitOf};
 ghost use Rattle.parity.specs.Causes.{heldValues};
 ghost use Rattle.parity.specs.Sound.{Clean, Sound};
-ghost use Rattle.choice.specs.Given.{Parted};
+ghost use Rattle.columns.specs.Splits.{Parted};
 ghost use Rattle.split.specs.Turns.{Meet, Ended};
 
 // The split of `u` and `v` on the words and on the columns; answers the lowest and the highest check that contained both, from the column of `z`.
@@ -49,7 +49,7 @@ pub fn repeat(words: &mut [u64], n: usize, m: usize, k: usize) -> Course
     requires { ⌜ Sound (lent 8 (now words)) n m k ⌝ }
     ensures { λ r. ⌜ Ended (lent 8 (now (words .entry))) n m k (lent 8 (now (words .exit))) (r .finished) (r .splits) (r .sum) (r .k) (heldValues (r .held)) ⌝ }
 {
-    let mut cols = columns(words, m);
+    let mut cols = given_columns(words, m);
     let mut bound = weights(&cols, n + k);
     let mut first = Bit(0);
     let mut cap: u64 = 128;

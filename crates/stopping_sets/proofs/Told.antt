@@ -21,7 +21,7 @@ use Rattle.parity.proofs.Splits.Common.{transposed}
 use Rattle.parity.proofs.Words.Sets.{inside-below}
 use Rattle.parity.proofs.Words.StoppingSets.{rising-out, sets-are, keep-cong}
 use Rattle.parity.proofs.Words.SetsListed.{found, found-places}
-use Rattle.rows.specs.Rows.{ColumnsOf}
+use Rattle.columns.specs.Columns.{ColumnsOf}
 use Rattle.enumeration.specs.Search.{across, Put}
 
 -- members that are below n count as far as n

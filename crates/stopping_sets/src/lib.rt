@@ -1,8 +1,8 @@
 // The stopping sets of a few sent bits.
+use columns::first_columns;
 use enumeration::list_all;
 use matrix::Accepting;
 use parity::Refusal;
-use rows::columns::first_columns;
 use rows::words_of;
 ghost use mathlib.Core.Path.{_≡_};
 ghost use mathlib.Core.Bool.{not};

@@ -5,7 +5,7 @@ use Rattle.parity.specs.Floats.{positiveZero}
 use lib.ListN.{length, length-replicate}
 use mathlib.Core.Path.{ap, _∙_}
 use native.Mathlib.Omega.{arith}
-use Rattle.rows.proofs.Fill.{empty}
+use Rattle.rows.proofs.Zeros.{empty}
 use Rattle.messages.proofs.Sends.{across-is}
 use Rattle.messages.specs.Loops.{Sized}
 use Rattle.parity.specs.Matrix.{lent}

@@ -20,7 +20,7 @@ use Rattle.stopping_sets.proofs.list.Tie as tie
 use Rattle.stopping_sets.proofs.list.Lts as lts
 use Rattle.stopping_sets.proofs.list.Reads as reads
 use Rattle.matrix.proofs.accept.Reads as accept-reads
-use Rattle.rows.proofs.columns.first_columns.Reads as first-columns-reads
+use Rattle.columns.proofs.first_columns.Reads as first-columns-reads
 use Rattle.stopping_sets.proofs.words_used.Reads as words-used-reads
 use Rattle.stopping_sets.proofs.is_size.Reads as is-size-reads
 use Rattle.enumeration.proofs.list_all.Reads as list-all-reads

@@ -10,7 +10,7 @@ use Rattle.parity.specs.Causes.{Outcome}
 use Rattle.parity.proofs.Matrix.Accept.{accepts}
 use Rattle.parity.proofs.Record.Records.{write-unbuilt}
 use Rattle.parity.proofs.Lists.Rebuilt.{none-built}
-use Rattle.rows.proofs.Fill.{empty}
+use Rattle.rows.proofs.Zeros.{empty}
 use borrow.Author.Needs.{needs}
 use Rattle.writing.proofs.write_accepted.Statement.{statement}
 use Rattle.writing.proofs.write_accepted.Tie as tie

@@ -6,7 +6,6 @@ use native.Mathlib.Omega.{arith}
 use lib.ListN.{length, length-replicate}
 use borrow.Author.Tests.{not-true, not-false}
 use Rattle.parity.specs.Matrix.{lent}
-use Rattle.rows.proofs.Fill.{empty}
 use Rattle.reading.proofs.Other.{other-kind}
 use Rattle.carried.proofs.Performing.{Going, going-start, going-ends, going-other, going-stops, going-next}
 use borrow.Author.Needs.{needs}
@@ -20,20 +19,11 @@ Inv-loop source words₀ n m p cols₀ k₀ words cols k =
 abbrev μ-loop : tie.MeasureT-loop
 μ-loop source words₀ n m p cols₀ k₀ words cols k = length source - (p + k)
 
-no-columns-requires : tie.Need-no-columns-requires Inv-loop μ-loop
-no-columns-requires c κs = search needs
-
-slice-aggregate-fill : tie.Need-slice-aggregate-fill Inv-loop μ-loop
-slice-aggregate-fill c = search needs
-
-fill-requires : tie.Need-fill-requires Inv-loop μ-loop
-fill-requires c κs =
-    let s = c .before .before .before .before .before in
-    let e = c .before .before .no-columns .ensures in
-    ((s .pre .0 .0, rw e (length-replicate {A = ℕ} 1024 0), omega (arith, s .pre .1 .m120), omega (arith, s .pre .1 .m120)), empty 2 1024 _ e)
+given-columns-requires : tie.Need-given-columns-requires Inv-loop μ-loop
+given-columns-requires c κs = let s = c .before .before .before in (s .pre .0 .0, omega (arith, s .pre .1 .m120))
 
 loop-holds : tie.Need-loop-holds Inv-loop μ-loop
-loop-holds c = let s = c .before .before .before .before .before .before .before in (refl, search needs, going-start _ _ _ _ _ _ (s .pre .0 .1) (s .pre .1) (c .before .fill .ensures))
+loop-holds c = let s = c .before .before .before .before in (refl, search needs, going-start _ _ _ _ _ _ (s .pre .0 .1) (s .pre .1) (c .given-columns .ensures))
 
 add-loop : tie.Need-add-loop Inv-loop μ-loop
 add-loop c = omega (arith, c .loop .inv .2 .inside)
@@ -67,7 +57,7 @@ slice-aggregate-perform-split c = sym (c .before .before .before .before .before
 perform-split-requires : tie.Need-perform-split-requires Inv-loop μ-loop
 perform-split-requires c κs =
     let l = c .before .before .before .before .before .before .before .before .loop in
-    let s = c .before .before .before .before .before .before .before .before .before .before .before .before .before .before .before .before in
+    let s = c .before .before .before .before .before .before .before .before .before .before .before .before .before in
     ((l .inv .0 ∙ s .pre .0 .0, l .inv .1), (l .inv .2 .sound, l .inv .2 .columns))
 
 same-length-2 : tie.Need-same-length-2 Inv-loop μ-loop
@@ -107,9 +97,7 @@ perform-spec =
     (tie.spec
     Inv-loop
     μ-loop
-    no-columns-requires
-    slice-aggregate-fill
-    fill-requires
+    given-columns-requires
     loop-holds
     add-loop
     add-read

@@ -35,7 +35,7 @@ apart-requires c κs =
     let b = standing-higher _ _ _ _ _ R _ _ a (c .before .next-one2 .ensures) in
     let l = bits-below _ _ _ _ R in
     let t = raw-small _ _ _ _ R in
-    (s .pre .0 .1, omega (arith, a, l .0, l .1, t), omega (arith, b, l .1, t), t)
+    (omega (arith, s .pre .0 .1, a, l .0, l .1, t), omega (arith, s .pre .0 .1, b, l .1, t), omega (arith, s .pre .0 .1, t))
 
 same-length : tie.Need-same-length
 same-length c = search needs

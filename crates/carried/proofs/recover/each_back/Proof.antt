@@ -6,7 +6,7 @@ use native.Mathlib.Omega.{arith}
 use lib.ListN.{length}
 use borrow.Author.Tests.{not-true, not-false}
 use Rattle.parity.specs.Matrix.{lent}
-use Rattle.rows.specs.Rows.{Columns}
+use Rattle.columns.specs.Columns.{Columns}
 use Rattle.carried.specs.Recover.{standing}
 use Rattle.carried.proofs.Standing.{standing-same, standing-start}
 use Rattle.carried.proofs.Recovering.{Taking, taking-start, taking-next, taking-stops, taking-ends}

@@ -3,7 +3,7 @@ use mathlib.Core.Path.{_≡_, refl}
 use native.Mathlib.Omega.{arith}
 use lib.ListN.{length, length-set, getD}
 use Rattle.parity.specs.Finite.{sum}
-use Rattle.choice.specs.Given.{shares}
+use Rattle.columns.specs.Columns.{shares}
 use Rattle.choice.specs.Bounds.{Bounded, Head}
 use Rattle.choice.proofs.RowBounds.{row-below, pick-none, pick-found, pick-lower, pick-falls, largest-head, lowered-head}
 use Rattle.choice.proofs.bounds.pick.Statement.{statement}

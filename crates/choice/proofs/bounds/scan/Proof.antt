@@ -3,9 +3,10 @@ use Prim.Native.Nat.{_+_, _*_, _-_, _≤_, _<_, max}
 use native.Mathlib.Omega.{arith}
 use borrow.Author.Needs.{needs}
 use lib.Count.{trailing-le}
-use Rattle.choice.specs.Given.{shares}
-use Rattle.choice.specs.Planes.{From}
-use Rattle.choice.proofs.Highest.{from-all}
+use Rattle.columns.specs.Columns.{shares}
+use Rattle.columns.specs.Planes.{From}
+use Rattle.columns.proofs.Adders.{given-light, shares-met}
+use Rattle.columns.proofs.From.{from-all}
 use Rattle.choice.proofs.RowBounds.{RowTo, row-start, row-miss, word-hit, word-next}
 use Rattle.choice.proofs.bounds.scan.Statement.{statement}
 use Rattle.choice.proofs.bounds.scan.Tie as tie
@@ -30,7 +31,9 @@ mul-loop : tie.Need-mul-loop Inv-loop μ-loop
 mul-loop c = omega (arith, c .loop .inv .0)
 
 tally-requires : tie.Need-tally-requires Inv-loop μ-loop
-tally-requires c κs = let s = c .before .before .before .before .before .before in ((s .pre .0 .0, s .pre .0 .1, omega arith, omega arith, omega (arith, c .loop-test .taken)), s .pre .1 .0)
+tally-requires c κs =
+    let s = c .before .before .before .before .before .before in
+    ((omega (arith, s .pre .0 .1, s .pre .0 .3), omega arith, omega (arith, s .pre .0 .0), omega (arith, c .loop-test .taken)), given-light 2 _ _ (s .pre .1 .0) _)
 
 best-requires : tie.Need-best-requires Inv-loop μ-loop
 best-requires c κs = search needs
@@ -49,7 +52,7 @@ returns c =
     let s = c .before .before .before .before .before .before .before .before .before .before in
     let l = c .before .before .before .before .before .loop in
     rw (c .wide .ensures)
-    (word-hit _ (s .args .bits) _ _ _ _ (l .inv .3) _ (l .inv .2) _ (c .before .before .before .tally .ensures) _ _ (c .before .before .best .ensures) (s .pre .1 .1) (omega arith) (s .pre .1 .2) (l .inv .1) (c .before .if1 .taken))
+    (word-hit _ (s .args .bits) _ _ _ _ (l .inv .3) _ (l .inv .2) _ (shares-met 2 _ _ (s .pre .1 .0) _ _ _ (c .before .before .before .tally .ensures)) _ _ (c .before .before .best .ensures) (s .pre .1 .1) (omega arith) (s .pre .1 .2) (l .inv .1) (c .before .if1 .taken))
 
 larger-requires : tie.Need-larger-requires Inv-loop μ-loop
 larger-requires c κs = search needs
@@ -67,7 +70,7 @@ loop-again c =
       omega (arith, c .before .before .before .before .loop-test .taken),
       omega (arith, l .inv .1),
       from-all _ _ (omega (arith, l .inv .1)),
-      rw (c .larger .ensures) (word-next _ (s .args .bits) _ _ _ _ (l .inv .3) _ (l .inv .2) _ (c .before .before .before .tally .ensures) _ _ (c .before .before .best .ensures) (s .pre .1 .1) (omega arith) (s .pre .1 .2) (l .inv .1) (c .before .if1 .left)),
+      rw (c .larger .ensures) (word-next _ (s .args .bits) _ _ _ _ (l .inv .3) _ (l .inv .2) _ (shares-met 2 _ _ (s .pre .1 .0) _ _ _ (c .before .before .before .tally .ensures)) _ _ (c .before .before .best .ensures) (s .pre .1 .1) (omega arith) (s .pre .1 .2) (l .inv .1) (c .before .if1 .left)),
     )
 
 returns-2 : tie.Need-returns-2 Inv-loop μ-loop

@@ -3,7 +3,7 @@ use mathlib.Core.Path.{_≡_}
 use Prim.Native.Nat.{ℕ, _-_, _≤_}
 use native.Mathlib.Omega.{arith}
 use lib.ListN.{length, length-set, length-replicate}
-use Rattle.choice.specs.Given.{shares}
+use Rattle.columns.specs.Columns.{shares}
 use Rattle.choice.specs.Bounds.{Weights}
 use Rattle.choice.proofs.RowBounds.{weights-next}
 use borrow.Author.Needs.{needs}

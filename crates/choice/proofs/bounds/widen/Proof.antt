@@ -4,8 +4,9 @@ use Prim.Native.Nat.{_+_, _*_, _-_, _<_}
 use native.Mathlib.Omega.{arith}
 use borrow.Author.Needs.{needs}
 use lib.ListN.{length, length-set}
-use Rattle.choice.specs.Given.{shares}
-use Rattle.choice.proofs.Columns.{together-comm}
+use Rattle.columns.specs.Columns.{shares}
+use Rattle.columns.proofs.Adders.{given-light, shares-met}
+use Rattle.columns.proofs.Shares.{together-comm}
 use Rattle.choice.proofs.RowBounds.{Raising, raising-none, raising-next, raising-all}
 use Rattle.choice.proofs.bounds.widen.Statement.{statement}
 use Rattle.choice.proofs.bounds.widen.Tie as tie
@@ -23,7 +24,9 @@ mul-loop : tie.Need-mul-loop Inv-loop μ-loop
 mul-loop c = omega (arith, c .loop .inv .0)
 
 tally-requires : tie.Need-tally-requires Inv-loop μ-loop
-tally-requires c κs = let s = c .before .before .before .before .before .before in ((s .pre .0 .0, s .pre .0 .1, omega arith, s .pre .0 .3, omega (arith, c .before .loop-test .taken)), s .pre .1)
+tally-requires c κs =
+    let s = c .before .before .before .before .before .before in
+    ((omega (arith, s .pre .0 .1, s .pre .0 .3), omega arith, omega (arith, s .pre .0 .0), omega (arith, c .before .loop-test .taken)), given-light 2 _ _ (s .pre .1) _)
 
 lift-requires : tie.Need-lift-requires Inv-loop μ-loop
 lift-requires c κs = (c .before .before .before .loop .inv .1, omega (arith, c .before .before .loop-test .taken))
@@ -35,7 +38,13 @@ loop-less : tie.Need-loop-less Inv-loop μ-loop
 loop-less c = omega (arith, c .before .before .before .before .before .loop-test .taken)
 
 loop-again : tie.Need-loop-again Inv-loop μ-loop
-loop-again c = (omega (arith, c .before .before .before .before .before .loop-test .taken), c .before .before .lift .kept .0 ∙ c .before .before .before .before .before .before .loop .inv .1, raising-next _ (together-comm 2 _) _ _ _ _ _ _ (c .before .before .before .before .before .before .loop .inv .2) (c .before .before .before .tally .ensures) (c .before .before .lift .ensures))
+loop-again c =
+    let l = c .before .before .before .before .before .before in
+    let s = l .before .before .before .before in (
+      omega (arith, c .before .before .before .before .before .loop-test .taken),
+      c .before .before .lift .kept .0 ∙ l .loop .inv .1,
+      raising-next _ (together-comm 2 _) _ _ _ _ _ _ (l .loop .inv .2) (shares-met 2 _ _ (s .pre .1) _ _ _ (c .before .before .before .tally .ensures)) (c .before .before .lift .ensures),
+    )
 
 mul-bound : tie.Need-mul-bound Inv-loop μ-loop
 mul-bound c = omega arith

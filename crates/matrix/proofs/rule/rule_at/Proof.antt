@@ -10,7 +10,7 @@ use Rattle.parity.specs.Matrix.{lent, ruleAt}
 use Rattle.parity.proofs.Matrix.Clean.{clean-bits}
 use Rattle.matrix.specs.Three.{Three}
 use Rattle.matrix.proofs.Three.{not-three, not-own, first-below, not-lower, these-three}
-use Rattle.matrix.proofs.Apart.{none-columns, columns-none}
+use Rattle.columns.proofs.Apart.{none-columns, columns-none}
 use Rattle.matrix.proofs.Passing.{unless, judged-no, judged, rule-given}
 use Rattle.matrix.proofs.rule.rule_at.Statement.{statement}
 use Rattle.matrix.proofs.rule.rule_at.Tie as tie
@@ -101,7 +101,7 @@ returns-4 c =
     let T : Three (lent 8 (a .words .now)) (a .m + a .j) (x .next-one .result) (y .next-one2 .result) (a .n + a .j) = these-three 512 (lent 8 (a .words .now)) (a .n) (a .m) (a .k) (a .j) jk end few t (x .next-one .result) (x .next-one .ensures) (y .next-one2 .result) (y .next-one2 .ensures) own yz in
     let m128 : a .m ≤ 2 * 64 = omega (arith, s .pre .0) in
     judged-no (a .width) (lent 8 (a .words .now)) (a .n) (a .m) (a .k) (a .j) _ (unless (ruleAt (lent 8 (a .words .now)) (a .n) (a .m) (a .k) (a .j)) (c .before .apart .result)
-    (λ t. c .before .apart .ensures .none-yes (columns-none 2 (lent 8 (a .words .now)) (a .cols .now) (a .m) (x .next-one .result) (y .next-one2 .result) (a .n + a .j) (s .pre .1 .1) m128 (rule-given (lent 8 (a .words .now)) (a .n) (a .m) (a .k) (a .j) (x .next-one .result) (y .next-one2 .result) jk T t)))
+    (λ t. c .before .apart .ensures .none-yes (columns-none 128 (lent 8 (a .words .now)) (lent 2 (a .cols .now)) (a .m) (x .next-one .result) (y .next-one2 .result) (a .n + a .j) (s .pre .1 .1) m128 (rule-given (lent 8 (a .words .now)) (a .n) (a .m) (a .k) (a .j) (x .next-one .result) (y .next-one2 .result) jk T t)))
     (not-true (c .before .apart .result) (c .if4 .taken)))
 
 fresh-requires : tie.Need-fresh-requires
@@ -146,7 +146,7 @@ returns-5 c =
     let m128 : a .m ≤ 2 * 64 = omega (arith, s .pre .0) in
     let top : a .n + a .j < 64 * a .width = omega (arith, s .pre .0) in
     judged (a .width) (lent 8 (a .words .now)) (a .n) (a .m) (a .k) (a .j) (x .next-one .result) (y .next-one2 .result) (a .pairs .now) _ (f .fresh .result) jk top T (s .pre .1 .2)
-    (none-columns 2 (lent 8 (a .words .now)) (a .cols .now) (a .m) (x .next-one .result) (y .next-one2 .result) (a .n + a .j) (s .pre .1 .1) m128 (g .before .apart .ensures .yes-none (not-false (g .before .apart .result) (g .if4 .left))))
+    (none-columns 128 (lent 8 (a .words .now)) (lent 2 (a .cols .now)) (a .m) (x .next-one .result) (y .next-one2 .result) (a .n + a .j) (s .pre .1 .1) m128 (g .before .apart .ensures .yes-none (not-false (g .before .apart .result) (g .if4 .left))))
     (f .fresh .ensures)
 
 pub rule-at-spec : {M : Type 1} → statement M

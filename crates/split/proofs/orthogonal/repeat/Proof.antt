@@ -20,8 +20,8 @@ abbrev μ-loop : tie.MeasureT-loop
 μ-loop words₀ n m k cols₀ bound₀ first₀ cap₀ now-k₀ splits₀ sum₀ held₀ words cols bound first cap now-k splits sum held =
     392 - now-k
 
-columns-requires : tie.Need-columns-requires Inv-loop μ-loop
-columns-requires c κs = let s = c .before .before in (s .pre .0, omega (arith, s .pre .1 .m120))
+given-columns-requires : tie.Need-given-columns-requires Inv-loop μ-loop
+given-columns-requires c κs = let s = c .before .before in (s .pre .0, omega (arith, s .pre .1 .m120))
 
 slice-aggregate-weights : tie.Need-slice-aggregate-weights Inv-loop μ-loop
 slice-aggregate-weights c = search needs
@@ -35,7 +35,7 @@ weights-requires c κs = let A = c .before .before .before .before .pre .1 in (s
 loop-holds : tie.Need-loop-holds Inv-loop μ-loop
 loop-holds c =
     let s = c .before .before .before .before .before in
-    let C = c .before .before .columns .ensures in
+    let C = c .before .before .given-columns .ensures in
     let W = c .weights .ensures in
     (refl, search needs, search needs, stands-start _ _ _ _ _ _ (s .pre .1) C W, head-start _ _ _ W)
 
@@ -166,7 +166,7 @@ repeat-spec =
     (tie.spec
     Inv-loop
     μ-loop
-    columns-requires
+    given-columns-requires
     slice-aggregate-weights
     add-weights
     weights-requires

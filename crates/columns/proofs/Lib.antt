@@ -1,0 +1,6 @@
+pub mod Adders
+pub mod Apart
+pub mod Filling
+pub mod From
+pub mod Shares
+pub mod Splitting

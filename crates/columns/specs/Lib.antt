@@ -1,0 +1,4 @@
+pub mod Columns
+pub mod Planes
+pub mod Splits
+pub mod Three

@@ -16,8 +16,9 @@ use Rattle.parity.proofs.Finite.Firsts.{all-cong}
 use Rattle.parity.proofs.Splits.Split.{Even, evens}
 use Rattle.parity.proofs.Words.Residue.{below}
 use Rattle.parity.proofs.Words.Sets.{inside-below}
-use Rattle.elimination.specs.Reduction.{plus, when, cleared, Same, Pivoted}
-use Rattle.elimination.proofs.Adding.{plus-at, plus-else}
+use Rattle.rows.specs.Whole.{plus}
+use Rattle.rows.proofs.Writing.{combined-at, combined-else}
+use Rattle.elimination.specs.Reduction.{when, cleared, Same, Pivoted}
 
 pub xor-false : (a : Bool) → xor a false ≡ a
 unfolding xor
@@ -113,14 +114,14 @@ module _ (g k : Matrix) (n m : ℕ) (p : ℕ) (pm : p < m) where
 -- check p added to check c
 module _ (g : Matrix) (p c : ℕ) (d : p ≡ c → ⊥) where
   pub added-same : (n m : ℕ) → p < m → Same g (plus c (g p) g) n m
-  added-same n m pm = plus-same g (plus c (g p) g) n m p pm (λ b. plus-else c (g p) g p b d) (λ i l e. elim (ℕ-discrete i c) [
-    | yes q ↦ (true, λ b. rw q (plus-at c (g p) g b))
-    | no s ↦ (false, λ b. plus-else c (g p) g i b s ∙ sym (xor-false (g i b)))
+  added-same n m pm = plus-same g (plus c (g p) g) n m p pm (λ b. combined-else xor c (g p) g p b d) (λ i l e. elim (ℕ-discrete i c) [
+    | yes q ↦ (true, λ b. rw q (combined-at xor c (g p) g b))
+    | no s ↦ (false, λ b. combined-else xor c (g p) g i b s ∙ sym (xor-false (g i b)))
   ])
 
   -- where check p has no bit, nothing changes
   pub added-keep : (i b : ℕ) → g p b ≡ false → plus c (g p) g i b ≡ g i b
-  added-keep i b q = elim (ℕ-discrete i c) [ yes e ↦ rw (e, plus-at c (g p) g b, q) (xor-false (g c b)) | no s ↦ plus-else c (g p) g i b s ]
+  added-keep i b q = elim (ℕ-discrete i c) [ yes e ↦ rw (e, combined-at xor c (g p) g b, q) (xor-false (g c b)) | no s ↦ combined-else xor c (g p) g i b s ]
 
 -- Clearing, check by check
 module _ (row : ℕ → Bool) (b : ℕ) (g : Matrix) where
@@ -144,9 +145,9 @@ module _ (row : ℕ → Bool) (b : ℕ) (g : Matrix) where
   cleared-more first c l = fun-ext (λ i. fun-ext (λ j.
       let k = cleared row b first c g in
       elim (ℕ-discrete i c) [
-        | yes q ↦ rw (q, plus-at c (when (k c b) row) k j, cleared-in first (c + 1) c j l (omega arith))
+        | yes q ↦ rw (q, combined-at xor c (when (k c b) row) k j, cleared-in first (c + 1) c j l (omega arith))
             (rw (cleared-out first c c j (λ _ m. omega arith), cleared-out first c c b (λ _ m. omega arith)))
-        | no d ↦ plus-else c (when (k c b) row) k i j d ∙ elim (decLt i first) [
+        | no d ↦ combined-else xor c (when (k c b) row) k i j d ∙ elim (decLt i first) [
           | yes m ↦ cleared-out first c i j (λ x _. omega arith) ∙ sym (cleared-out first (c + 1) i j (λ x _. omega arith))
           | no m ↦ elim (decLt i c) [
             | yes y ↦ cleared-in first c i j (omega arith) y ∙ sym (cleared-in first (c + 1) i j (omega arith) (omega arith))
@@ -202,7 +203,7 @@ lifted g k m p r b l d has out C = record {
 }
   where
     sum : (j : ℕ) → g p j ≡ false → g r j ≡ false → plus r (g p) g r j ≡ false
-    sum j z y = plus-at r (g p) g j ∙ rw (y, z) (xor-self false)
+    sum j z y = combined-at xor r (g p) g j ∙ rw (y, z) (xor-self false)
 
 pub lifted-own : (g : Matrix) (p r b : ℕ) → g p b ≡ true → g r b ≡ false → plus r (g p) g r b ≡ true
-lifted-own g p r b has out = plus-at r (g p) g b ∙ rw (has, out) (unfold xor in refl)
+lifted-own g p r b has out = combined-at xor r (g p) g b ∙ rw (has, out) (unfold xor in refl)

@@ -8,8 +8,9 @@ use native.Mathlib.Decide.{ℕ-discrete, decLt}
 use lib.ListN.{getD, length, set}
 use lib.Seq.{getD-set-same, getD-set-other}
 use Rattle.parity.specs.Matrix.{Matrix}
-use Rattle.elimination.specs.Reduction.{plus, when, cleared, Same, Lower, everyBit, Echelon, Stepped}
-use Rattle.elimination.proofs.Adding.{plus-at, plus-else}
+use Rattle.rows.specs.Whole.{plus}
+use Rattle.rows.proofs.Writing.{combined-at, combined-else}
+use Rattle.elimination.specs.Reduction.{when, cleared, Same, Lower, everyBit, Echelon, Stepped}
 use Rattle.elimination.proofs.Clearing.{xor-false, xor-self, same-trans, plus-same, added-same, cleared-in, cleared-out, around, around-else, around-behind, around-pivoted, lifted}
 use Rattle.elimination.proofs.Turns.{turned-none, turned-pivot, reduction-start}
 
@@ -52,13 +53,13 @@ module _ (g : Matrix) (m r b : ℕ) (rm : r < m) where
 pub lower-lifted : (g k : Matrix) (m p r b : ℕ) → p < m → r < p → g p b ≡ true → g r b ≡ false → Lower (plus r (g p) g) k m r r b → Lower g k m p r b
 lower-lifted g k m p r b l i has out L = record {
   same = λ n. same-trans g (plus r (g p) g) k n m (added-same g p r d n m l) (L .same n);
-  above = λ c j x. L .above c j x ∙ plus-else r (g p) g c j (λ z. omega arith);
+  above = λ c j x. L .above c j x ∙ combined-else xor r (g p) g c j (λ z. omega arith);
   own = L .own;
-  keep = λ j z y. let s : plus r (g p) g r j ≡ false = plus-at r (g p) g j ∙ rw (y, z) (xor-self false) in L .keep j s s;
+  keep = λ j z y. let s : plus r (g p) g r j ≡ false = combined-at xor r (g p) g j ∙ rw (y, z) (xor-self false) in L .keep j s s;
   follows = λ f a.
       let (K, P, t) = L .follows (plus r (f p) f) (λ c j x. elim (ℕ-discrete c r) [
-        | yes q ↦ rw q (plus-at r (g p) g j ∙ rw (a r j (omega arith), a p j (omega arith)) (sym (plus-at r (f p) f j)))
-        | no q ↦ plus-else r (g p) g c j q ∙ a c j x ∙ sym (plus-else r (f p) f c j q)
+        | yes q ↦ rw q (combined-at xor r (g p) g j ∙ rw (a r j (omega arith), a p j (omega arith)) (sym (combined-at xor r (f p) f j)))
+        | no q ↦ combined-else xor r (g p) g c j q ∙ a c j x ∙ sym (combined-else xor r (f p) f c j q)
       ]) in
       (K, lifted f K m p r b l d (sym (a p b (omega arith)) ∙ has) (sym (a r b (omega arith)) ∙ out) P, t);
 }

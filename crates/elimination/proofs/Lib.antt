@@ -1,5 +1,4 @@
-pub mod Adding
-pub mod Copying
+pub mod Picking
 pub mod Clearing
 pub mod Turns
 pub mod Reduced

@@ -13,10 +13,6 @@ use Rattle.parity.specs.Words.{evenChecks}
 abbrev pub when : Bool → (ℕ → Bool) → ℕ → Bool
 when x row b = x && row b
 
--- the row added to check c, modulo 2
-unfoldable pub plus : ℕ → (ℕ → Bool) → Matrix → Matrix
-plus c row g i b = cond (eqb i c) (xor (g i b) (row b)) (g i b)
-
 -- the row added to each check from `first` up to `end` that contains bit b
 unfoldable pub cleared : (ℕ → Bool) → ℕ → ℕ → ℕ → Matrix → Matrix
 cleared row b first end g i j = cond (leb first i && ltb i end) (xor (g i j) (when (g i b) row j)) (g i j)

@@ -1,11 +1,14 @@
 // Rows of `width` words of 64 bits, one for each check.
 use rows::contains;
+use rows::whole::add_row;
+use rows::whole::copy_words;
 ghost use mathlib.Core.Path.{_≡_};
 ghost use Prim.Native.Nat.{_+_, _*_, _/_, _<_, _≤_};
 ghost use lib.ListN.{length};
 ghost use Rattle.parity.specs.Matrix.{lent};
-ghost use Rattle.elimination.specs.Reduction.{plus, when, cleared, FirstIn};
-ghost use Rattle.elimination.specs.Rows.{Blank, RowOf, CheckAt, SameRows};
+ghost use Rattle.rows.specs.Whole.{plus};
+ghost use Rattle.elimination.specs.Reduction.{when, cleared, FirstIn};
+ghost use Rattle.elimination.specs.Rows.{Blank, RowOf};
 
 // Two rows: an empty one, and that of check `c`.
 pub fn row_of(rows: &[u64], width: usize, c: usize) -> [u64; 16]
@@ -13,20 +16,8 @@ pub fn row_of(rows: &[u64], width: usize, c: usize) -> [u64; 16]
     ensures { λ r. ⌜ RowOf width (now (rows .entry)) c r ⌝ }
 {
     let mut row = [0u64; 16];
-    for i in 0..width {
-        row[width + i] = rows[c * width + i];
-    }
+    copy_words(rows, c * width, &mut row, width, width);
     row
-}
-
-// Row `q` of `row` is added to check `c`, modulo 2.
-pub fn add_row(rows: &mut [u64], width: usize, c: usize, row: &[u64], q: usize)
-    requires { ⌜ (c * width + width ≤ length (now rows)) × (q * width + width ≤ length (now row)) ⌝ }
-    ensures { λ _. ⌜ lent width (now (rows .exit)) ≡ plus c (lent width (now (row .entry)) q) (lent width (now (rows .entry))) ⌝ }
-{
-    for i in 0..width {
-        rows[c * width + i] = rows[c * width + i] ^ row[q * width + i];
-    }
 }
 
 // Check `p` is added to check `c`, another one, modulo 2.
@@ -97,24 +88,4 @@ pub fn first_with(rows: &[u64], width: usize, checks: usize, first: usize, b: us
         c += 1;
     }
     c
-}
-
-// The first `width` of the `wide` words of check `c` become row `d`.
-pub fn copy_check(words: &[u64], wide: usize, width: usize, c: usize, rows: &mut [u64], d: usize)
-    requires { ⌜ (c * wide + width ≤ length (now words)) × (d * width + width ≤ length (now rows)) ⌝ }
-    ensures { λ _. ⌜ CheckAt wide width (now (words .entry)) (now (rows .entry)) (now (rows .exit)) c d ⌝ }
-{
-    for i in 0..width {
-        rows[d * width + i] = words[c * wide + i];
-    }
-}
-
-// The first `width` of the `wide` words of each check become its row.
-pub fn copy(words: &[u64], wide: usize, width: usize, checks: usize, rows: &mut [u64])
-    requires { ⌜ (checks * wide ≤ length (now words)) × (width ≤ wide) × (checks * width ≤ length (now rows)) ⌝ }
-    ensures { λ _. ⌜ SameRows wide width (now (words .entry)) (now (rows .entry)) (now (rows .exit)) 0 checks ⌝ }
-{
-    for c in 0..checks {
-        copy_check(words, wide, width, c, rows, c);
-    }
 }

@@ -28,10 +28,10 @@ use Rattle.parity.proofs.Causes.Refused.{refused-number, refused-same}
 use Rattle.parity.proofs.Words.Bytes.{right-bytes}
 use Rattle.parity.proofs.Encoding.Messages.{ranks}
 use Rattle.parity.proofs.Matrix.Packing.{length-listFrom, at-listFrom}
+use Rattle.rows.specs.Whole.{RowsCopied}
+use Rattle.rows.proofs.Writing.{rows-lent}
 use Rattle.elimination.specs.Reduction.{Same, Reduced, pivot, everyBit, Echelon}
-use Rattle.elimination.specs.Rows.{SameRows}
 use Rattle.elimination.proofs.Clearing.{same-at, same-trans}
-use Rattle.elimination.proofs.Copying.{rows-lent}
 use Rattle.elimination.proofs.Reduced.{pivot-at, pivot-of}
 use Rattle.encode.specs.Answers.{givenOutcome, marks}
 use Rattle.encode.specs.Filling.{pivotAt, Rising, placed, Open, Filled}
@@ -39,15 +39,15 @@ use Rattle.encode.proofs.Pivots as pivots
 use Rattle.encode.proofs.Filling.{is-listFrom, room}
 
 -- a copy has the codewords of the lent matrix
-copy-same : (U W : ℕ) → W ≤ U → (ws w u : List ℕ) (n m : ℕ) → n ≤ W * 64 → SameRows U W ws w u 0 m → Same (lent U ws) (lent W u) n m
+copy-same : (U W : ℕ) → W ≤ U → (ws u : List ℕ) (n m : ℕ) → n ≤ W * 64 → RowsCopied U W ws u m → Same (lent U ws) (lent W u) n m
 unfolding evenChecks inside
-copy-same U W p ws w u n m k C x = all-cong m (λ c l. ap (λ a. eqb (a % 2) 0)
-    (count-cong n (λ b i. rw (rows-lent U W p ws w u m C c b l (omega arith)))))
+copy-same U W p ws u n m k C x = all-cong m (λ c l. ap (λ a. eqb (a % 2) 0)
+    (count-cong n (λ b i. rw (rows-lent U W p ws u m C c b l (omega arith)))))
 
-pub eliminated : (U W : ℕ) → W ≤ U → (ws w u : List ℕ) (g : Matrix) (n m r : ℕ) (at : List ℕ) → n ≤ W * 64 → SameRows U W ws w u 0 m
+pub eliminated : (U W : ℕ) → W ≤ U → (ws u : List ℕ) (g : Matrix) (n m r : ℕ) (at : List ℕ) → n ≤ W * 64 → RowsCopied U W ws u m
     → Echelon (lent W u) g n m n r at → Echelon (lent U ws) g n m n r at
-eliminated U W p ws w u g n m r at k C E =
-    let S = copy-same U W p ws w u n m k C in
+eliminated U W p ws u g n m r at k C E =
+    let S = copy-same U W p ws u n m k C in
     record {
       same = same-trans (lent U ws) (lent W u) g n m S (E .same);
       own = E .own;

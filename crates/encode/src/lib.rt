@@ -3,10 +3,10 @@ mod message;
 
 use crate::message::fill;
 use crate::message::place;
-use elimination::checks::copy;
 use elimination::echelon::to_echelon;
 use matrix::Accepting;
 use parity::Refusal;
+use rows::whole::copy_rows;
 use sets::bytes::first_above;
 ghost use mathlib.Core.Path.{_≡_};
 ghost use Prim.Native.Nat.{_≤_};
@@ -41,7 +41,7 @@ fn eliminate(words: &[u64], n: usize, m: usize, rows: &mut [u64], pivots: &mut [
     requires { ⌜ (length (now words) ≡ 4096) × (n ≤ 120) × (m ≤ 120) × (length (now rows) ≡ 240) × (length (now pivots) ≡ 120) ⌝ }
     ensures { λ r. ⌜ Echelon (lent 8 (now (words .entry))) (lent 2 (now (rows .exit))) n m n r (now (pivots .exit)) ⌝ }
 {
-    copy(words, 8, 2, m, rows);
+    copy_rows(words, 8, 2, m, rows);
     to_echelon(rows, m, n, pivots)
 }
 

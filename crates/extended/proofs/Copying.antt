@@ -3,7 +3,7 @@ use mathlib.Core.Path.{_≡_, refl, sym, ap, _∙_}
 use mathlib.Core.Bool.{true, false}
 use mathlib.Core.List.{List, [], _∷_, _++_}
 use Prim.Native.Nat.{ℕ, _+_, _-_, _*_, _/_, _%_, _≤_, _<_}
-use native.Mathlib.Nat.{div-add-mod', div-lt-iff-lt-mul, mod-lt}
+use native.Mathlib.Nat.{zero-add}
 use native.Mathlib.Omega.{arith}
 use native.Mathlib.Decide.{ℕ-discrete, decLt}
 use lib.Dec.{eqb}
@@ -24,15 +24,12 @@ use Rattle.parity.proofs.Splits.Splitting.{orthogonalises, orthogonal-accepted}
 use Rattle.parity.proofs.Words.Bytes.{right-bytes, longer-sent, longer-added, longer-size}
 use Rattle.parity.proofs.Words.Peeling.{peel-answered, after-size, losses-sent, losses-added}
 use Rattle.parity.proofs.Lists.Block.{recovered-most}
-use Rattle.elimination.specs.Rows.{SameRows}
+use Rattle.rows.specs.Whole.{Written, wordFrom}
 use Rattle.extended.specs.Answers.{Longer, inAll, copyReply, copyWord}
 
--- all rows are copied
-pub same-words : (W : ℕ) → 0 < W → (ws before after : List ℕ) → length ws ≡ 512 * W → length after ≡ 512 * W → SameRows W W ws before after 0 512 → after ≡ ws
-same-words W p ws before after l q S =
-    ext-getD 0 after ws (q ∙ sym l) (λ i j.
-    let e : i / W * W + i % W ≡ i = div-add-mod' i W in
-    ap (λ (a : ℕ). getD after a 0) (sym e) ∙ S .copied (i / W) (i % W) (omega arith) (div-lt-iff-lt-mul p .1 (omega arith)) (mod-lt i p) ∙ ap (λ (a : ℕ). getD ws a 0) e)
+-- all words are copied
+pub same-words : (n : ℕ) (ws before after : List ℕ) → length ws ≡ n → length after ≡ n → Written before after 0 (wordFrom ws 0) n → after ≡ ws
+same-words n ws before after l q A = ext-getD 0 after ws (q ∙ sym l) (λ i k. rw (zero-add i) at (A .done i (omega arith)))
 
 -- Four numbers as two.
 pub refused-in-all : (r : Refusal) (reply : Reply) → refusalOf r ≡ reply → refusalOf r ≡ inAll reply

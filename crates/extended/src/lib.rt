@@ -1,8 +1,8 @@
 // Peeling with the orthogonalised copy of a matrix.
-use elimination::checks::copy;
 use parity::Refusal;
 use peel::Peeling;
 use peel::peel_admitted;
+use rows::whole::copy_words;
 use split::Orthogonalising;
 use split::orthogonalise_accepted;
 ghost use mathlib.Core.Path.{_≡_};
@@ -37,7 +37,7 @@ fn copied(words: &[u64]) -> [u64; 4096]
     ensures { λ r. ⌜ r ≡ now (words .entry) ⌝ }
 {
     let mut own = no_words();
-    copy(words, 8, 8, 512, &mut own);
+    copy_words(words, 0, &mut own, 0, 4096);
     own
 }
 

@@ -23,7 +23,7 @@ use Rattle.parity.proofs.Matrix.Digits.{same-bits, bit-zero}
 use Rattle.parity.proofs.Matrix.Packing.{word-lt, word-bit, pack-length, pack-at, pack-lent}
 use Rattle.parity.proofs.Joining.Checks.{same-bits-of, join-equal, join-new, with-checks, with-last, with-other, checks-most}
 use Rattle.rows.specs.Zeros.{Zeroed}
-use Rattle.elimination.specs.Rows.{CheckAt, SameRows}
+use Rattle.rows.specs.Whole.{Written, wordFrom, RowsCopied}
 use Rattle.join.specs.Rows.{isRow, HasRows, Gathered, Added, Spread}
 
 -- bit j of word i of a check
@@ -64,12 +64,12 @@ any-cong n p q f =
     (λ e. let (i, l, r) = any-at n q e in any-of n p i l (f i l ∙ r))
 
 -- The first checks of the first matrix, as rows.
-pub rows-first : (U W : ℕ) → 0 < W → U ≤ W → (ws before after : List ℕ) (m : ℕ) → length ws ≡ 512 * W → ((i : ℕ) → getD ws i 0 < 2 ^ 64) → m ≤ 512
-    → SameRows W U ws before after 0 m → HasRows U W (lent W ws) m after
-rows-first U W p u ws before after m e a l S = record {
+pub rows-first : (U W : ℕ) → 0 < W → U ≤ W → (ws after : List ℕ) (m : ℕ) → length ws ≡ 512 * W → ((i : ℕ) → getD ws i 0 < 2 ^ 64) → m ≤ 512
+    → RowsCopied W U ws after m → HasRows U W (lent W ws) m after
+rows-first U W p u ws after m e a l S = record {
   at = λ c i k q.
       let k′ : c < 512 = omega arith in
-      S .copied c i (omega arith) k q ∙ lent-word-of W p ws e a (c * W + i) (digits-lt k′ (omega arith));
+      S .at c i k q ∙ lent-word-of W p ws e a (c * W + i) (digits-lt k′ (omega arith));
 }
 
 -- one of the rows has the first two words of check c
@@ -100,17 +100,17 @@ module _ (W : ℕ) (w : 2 ≤ W) (ws : List ℕ) (size : length ws ≡ 512 * W) 
       ∙ ap (λ (x : ℕ). any x (λ d. sameCheck 128 (j .matrix d) (lent W ws c))) e
 
   -- it is put behind the rows
-  rows-next : (after : List ℕ) → CheckAt W 2 ws before after c at → HasRows 2 W (withCheck j (lent W ws c) .matrix) (at + 1) after
+  rows-next : (after : List ℕ) → Written before after (at * 2) (wordFrom ws (c * W)) 2 → HasRows 2 W (withCheck j (lent W ws c) .matrix) (at + 1) after
   rows-next after C = record {
     at = λ d i k m. elim (ℕ-discrete d at) [
       | yes q ↦
           let t : withCheck j (lent W ws c) .matrix at ≡ lent W ws c = rw e (with-last j (lent W ws c)) in
-          rw q (C .copied i m ∙ word-is i (omega arith)
+          rw q (C .done i m ∙ word-is i (omega arith)
           ∙ row-same W (lent W ws) (withCheck j (lent W ws c) .matrix) c at i (omega arith) (λ b n. ap (λ (r : ℕ → Bool). r (i * 64 + b)) (sym t)))
       | no q ↦
           let d<at : d < at = omega arith in
           let t = with-other j (lent W ws c) d (λ r. q (r ∙ sym e)) in
-          C .kept (d * 2 + i) (omega arith) ∙ H .at d i d<at m
+          C .else (d * 2 + i) (λ b n q. omega arith) ∙ H .at d i d<at m
           ∙ row-same W (j .matrix) (withCheck j (lent W ws c) .matrix) d d i (omega arith) (λ b n. ap (λ (r : ℕ → Bool). r (i * 64 + b)) (sym t))
     ];
   }
@@ -141,7 +141,7 @@ module _ (ws : List ℕ) (size : length ws ≡ 4096) (machine : (i : ℕ) → ge
   }
 
   -- or it is put behind them.
-  pub added-one : at < 120 → found 8 ws c before at ≡ false → (after : List ℕ) → CheckAt 8 2 ws before after c at → Added ws c before at after (at + 1)
+  pub added-one : at < 120 → found 8 ws c before at ≡ false → (after : List ℕ) → Written before after (at * 2) (wordFrom ws (c * 8)) 2 → Added ws c before at after (at + 1)
   added-one l f after C = record {
     added = λ j e H.
         let s : ℕ → Bool = lent 8 ws c in
@@ -176,40 +176,20 @@ gathered-many h m g c M k rows r l G =
 pub spread-none : (U W : ℕ) (rows words : List ℕ) → Zeroed words (512 * W) → Spread U W rows 0 words
 spread-none U W rows words Z = record { at = λ i l. rw (le-ltb (i / W) 0 (omega arith)) (Z .none i l) }
 
--- the next row of two words is written
-pub spread-next : (W : ℕ) → 2 ≤ W → (rows : List ℕ) (c : ℕ) (words : List ℕ) → c < 512 → length words ≡ 512 * W → Spread 2 W rows c words
-    → Spread 2 W rows (c + 1) (set (set words (c * W) (getD rows (c * 2) 0)) (c * W + 1) (getD rows (c * 2 + 1) 0))
-spread-next W w rows c words k size S = record { at = at }
-  where
-    first : List ℕ
-    first = set words (c * W) (getD rows (c * 2) 0)
-
-    room : (i : ℕ) → i < W → c * W + i < length words
-    room i l = omega (arith, digits-lt k l)
-
-    at : (i : ℕ) → i < 512 * W → getD (set first (c * W + 1) (getD rows (c * 2 + 1) 0)) i 0
-        ≡ cond (ltb (i / W) (c + 1) && ltb (i % W) 2) (getD rows (i / W * 2 + i % W) 0) 0
-    at i l =
-        elim (ℕ-discrete i (c * W + 1)) [
-          | yes q ↦
-              let o : 1 < W = omega arith in
-              rw (q, digits-div c o, digits-mod c o, lt-ltb c (c + 1) (omega arith))
-              (getD-set-same first (c * W + 1) (getD rows (c * 2 + 1) 0) 0 (omega (arith, room 1 o, length-set words (c * W) (getD rows (c * 2) 0))))
-          | no q ↦ getD-set-other first (c * W + 1) i (getD rows (c * 2 + 1) 0) 0 q ∙ elim (ℕ-discrete i (c * W)) [
-            | yes r ↦
-                let o : 0 < W = omega arith in
-                let s : i ≡ c * W + 0 = omega arith in
-                let z : c * W + 0 ≡ c * W = omega arith in
-                let y : c * 2 + 0 ≡ c * 2 = omega arith in
-                rw (s, digits-div c o, digits-mod c o, lt-ltb c (c + 1) (omega arith), y, z) (getD-set-same words (c * W) (getD rows (c * 2) 0) 0 (omega (arith, room 0 o)))
-            | no r ↦ getD-set-other words (c * W) i (getD rows (c * 2) 0) 0 r ∙ S .at i l ∙ elim (ℕ-discrete (i / W) c) [
-              | no t ↦ rw (below-next (i / W) c t)
-              | yes t ↦
-                  let m : c * W + i % W ≡ i = rw t at (div-add-mod' i W) in
-                  rw (le-ltb (i / W) c (omega arith), le-ltb (i % W) 2 (omega arith), and-false)
-            ]
-          ]
+-- the next row is written
+pub spread-next : (U W : ℕ) → U ≤ W → (rows : List ℕ) (c : ℕ) (words after : List ℕ) → Spread U W rows c words
+    → Written words after (c * W) (wordFrom rows (c * U)) U → Spread U W rows (c + 1) after
+spread-next U W u rows c words after S A = record {
+  at = λ i l. elim (ℕ-discrete (i / W) c) [
+    | no t ↦ A .else i (λ j m e. let k : j < W = omega arith in t (ap (_/ W) e ∙ digits-div c k)) ∙ S .at i l ∙ rw (below-next (i / W) c t)
+    | yes t ↦
+        let e : c * W + i % W ≡ i = rw t at (div-add-mod' i W) in
+        elim (decLt (i % W) U) [
+          | yes m ↦ rw (t, lt-ltb c (c + 1) (omega arith), lt-ltb (i % W) U m) (ap (λ (a : ℕ). getD after a 0) (sym e) ∙ A .done (i % W) m)
+          | no m ↦ A .else i (λ j n q. omega arith) ∙ S .at i l ∙ rw (le-ltb (i % W) U (omega arith), and-false, and-false)
         ]
+  ];
+}
 
 -- Rows that are all checks of a matrix, written: the words are those that hold it.
 pub spread-all : (U W : ℕ) → 0 < W → (h : Matrix) (N M : ℕ) → Clean h N M → N ≤ U * 64 → (rows words : List ℕ) → length words ≡ 512 * W

@@ -1,7 +1,7 @@
 // The joined checks as rows of two words, which hold 128 bits: given checks have at most 120.
-use elimination::checks::copy;
-use elimination::checks::copy_check;
 use rows::clear;
+use rows::whole::copy_rows;
+use rows::whole::copy_words;
 ghost use mathlib.Core.Path.{_≡_};
 ghost use Prim.Native.Nat.{_+_, _*_, _≤_, _<_};
 ghost use lib.ListN.{length};
@@ -45,7 +45,7 @@ fn add(words: &[u64], c: usize, rows: &mut [u64], at: usize) -> usize
     if at == 120 {
         return 121;
     }
-    copy_check(words, 8, 2, c, rows, at);
+    copy_words(words, c * 8, rows, at * 2, 2);
     at + 1
 }
 
@@ -54,7 +54,7 @@ pub fn gather(words1: &[u64], m1: usize, words2: &[u64], m2: usize, rows: &mut [
     requires { ⌜ (length (now words1) ≡ 4096) × (m1 ≤ 120) × (length (now words2) ≡ 4096) × (m2 ≤ 120) × (length (now rows) ≡ 240) ⌝ }
     ensures { λ r. ⌜ Gathered (joined 128 (lent 8 (now (words1 .entry))) m1 (lent 8 (now (words2 .entry))) m2) (now (rows .exit)) r ⌝ }
 {
-    copy(words1, 8, 2, m1, rows);
+    copy_rows(words1, 8, 2, m1, rows);
     let mut at = m1;
     for c in 0..m2 {
         at = add(words2, c, rows, at);
@@ -72,7 +72,6 @@ pub fn write(rows: &[u64], checks: usize, words: &mut [u64])
 {
     clear(words, 4096);
     for c in 0..checks {
-        words[c * 8] = rows[c * 2];
-        words[c * 8 + 1] = rows[c * 2 + 1];
+        copy_words(rows, c * 2, words, c * 8, 2);
     }
 }

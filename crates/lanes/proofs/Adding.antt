@@ -17,8 +17,8 @@ use Rattle.parity.proofs.Matrix.Digits.{bit-zero}
 use Rattle.parity.proofs.Matrix.Lent.{lent-word, lent-empty, count-add}
 use Rattle.parity.proofs.Matrix.Ones.{Lowest}
 use Rattle.parity.proofs.Matrix.Rest.{rest-bit}
-use Rattle.elimination.specs.Reduction.{plus}
-use Rattle.elimination.proofs.Adding.{plus-at}
+use Rattle.rows.specs.Whole.{plus}
+use Rattle.rows.proofs.Writing.{combined-at}
 use Rattle.lanes.specs.Lanes.{WordAdded, SumOf}
 use Rattle.lanes.proofs.Parity.{xor-assoc, xor-none, odd-of, odd-add}
 
@@ -57,7 +57,7 @@ pub rest-next : (x : Matrix) (i w rest t : ℕ) (a a′ : ℕ → Bool) (a″ : 
     → a″ ≡ plus 0 (x (i * 64 + t)) b → Rest x i w (bitAnd rest (rest - 1)) a (a″ 0)
 rest-next x i w rest t a a′ a″ b R L e p = record {
   fits = lt-of-le-of-lt (and-le-l rest (rest - 1)) (R .fits);
-  at = λ j. rw (p, plus-at 0 (x (i * 64 + t)) b j, ← e)
+  at = λ j. rw (p, combined-at xor 0 (x (i * 64 + t)) b j, ← e)
       (xor-assoc (a′ j) (x (i * 64 + t) j) _
       ∙ ap (xor (a′ j)) (sym (ap odd (count-drop 64 t (bitOf rest) (bitOf (bitAnd rest (rest - 1))) (λ u. x (i * 64 + u) j) (L .short) (L .here) (rest-bit 64 rest t L)) ∙ odd-add (one (x (i * 64 + t) j)) _ ∙ rw (odd-of (x (i * 64 + t) j))))
       ∙ R .at j);

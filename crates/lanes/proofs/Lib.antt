@@ -1,6 +1,5 @@
 pub mod Parity
 pub mod Adding
-pub mod Putting
 pub mod Running
 pub mod Writing
 pub mod Storing

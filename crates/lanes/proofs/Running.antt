@@ -13,8 +13,8 @@ use Rattle.parity.specs.Finite.{any}
 use Rattle.parity.specs.Matrix.{Matrix}
 use Rattle.parity.specs.Words.{inside, odd}
 use Rattle.parity.proofs.Finite.Firsts.{any-none}
+use Rattle.rows.proofs.Writing.{combined-at, combined-else}
 use Rattle.lanes.specs.Lanes.{lane, either, Solved, solvedBy, ran, Ran, uneven, Checked, Tested, SumOf, Low}
-use Rattle.lanes.proofs.Putting.{either-at, either-else}
 
 pub ran-none : (h : Matrix) (B : ℕ) (of at : List ℕ) (x : Matrix) → Ran h B of at 0 x x
 unfolding ran
@@ -70,9 +70,9 @@ tested-skip h B first c skip x f g T q = rw (add-one c) record { at = λ j. T .a
 -- what a sum that enters a row solves, and what it flags
 pub solved-by : (h : Matrix) (B c b : ℕ) (x x′ : Matrix) (r : ℕ → Bool) → SumOf h B c x r → x′ ≡ either b r x → Solved h B c b x x′
 solved-by h B c b x x′ r S e = record {
-  here = λ j. ap (λ (g : Matrix). g b j) e ∙ either-at b r x j ∙ rw (S .at j);
-  else = λ a j d. ap (λ (g : Matrix). g a j) e ∙ either-else b r x a j d;
+  here = λ j. ap (λ (g : Matrix). g b j) e ∙ combined-at _||_ b r x j ∙ rw (S .at j);
+  else = λ a j d. ap (λ (g : Matrix). g a j) e ∙ combined-else _||_ b r x a j d;
 }
 
 pub checked-by : (h : Matrix) (B c : ℕ) (x : Matrix) (r : ℕ → Bool) (y z : Matrix) → SumOf h B c x r → z ≡ either 0 r y → Checked h B c x (y 0) (z 0)
-checked-by h B c x r y z S e = record { at = λ j. ap (λ (g : Matrix). g 0 j) e ∙ either-at 0 r y j ∙ rw (S .at j) }
+checked-by h B c x r y z S e = record { at = λ j. ap (λ (g : Matrix). g 0 j) e ∙ combined-at _||_ 0 r y j ∙ rw (S .at j) }

@@ -1,6 +1,6 @@
 -- Rows of lanes: bit j of row b is bit b of lane j. Steps that are taken in all lanes at once, in the checks of a matrix h of B bits. Assumes nothing.
 use mathlib.Core.Path.{_≡_}
-use mathlib.Core.Bool.{Bool, false, not, cond, _&&_, _||_, xor}
+use mathlib.Core.Bool.{Bool, false, not, _&&_, _||_, xor}
 use mathlib.Core.List.{List}
 use Prim.Native.Nat.{ℕ, zero, suc, _+_, _*_, _<_}
 use lib.Dec.{eqb, leb}
@@ -8,6 +8,7 @@ use lib.ListN.{getD}
 use Rattle.parity.specs.Finite.{count, any}
 use Rattle.parity.specs.Matrix.{Matrix, bitOf}
 use Rattle.parity.specs.Words.{inside, odd}
+use Rattle.rows.specs.Whole.{combined}
 
 -- lane j of the rows x, as the set of its ones
 abbrev pub lane : Matrix → ℕ → ℕ → Bool
@@ -22,8 +23,8 @@ pub record SumOf (h : Matrix) (B c : ℕ) (x : Matrix) (s : ℕ → Bool) : Type
   pub at : (j : ℕ) → s j ≡ odd (inside h B c (lane x j))
 
 -- row c with the bits of a row besides
-unfoldable pub either : ℕ → (ℕ → Bool) → Matrix → Matrix
-either c row x b j = cond (eqb b c) (x b j || row j) (x b j)
+abbrev pub either : ℕ → (ℕ → Bool) → Matrix → Matrix
+either c row x = combined _||_ c row x
 
 -- Bit b is solved by check c in every lane: it enters if the check contains an odd number of the lane's bits.
 pub record Solved (h : Matrix) (B c b : ℕ) (x x′ : Matrix) : Type 0 where

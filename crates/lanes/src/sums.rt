@@ -1,5 +1,5 @@
-// Sums modulo 2 of the rows that a check contains, in all lanes of a tile at once. A row is added as elimination adds one, by the same function.
-use elimination::checks::add_row;
+// Sums modulo 2 of the rows that a check contains, in all lanes of a tile at once.
+use rows::whole::add_row;
 use rows::wide;
 ghost use mathlib.Core.Path.{_≡_};
 ghost use Prim.Native.Nat.{_+_, _*_, _≤_, _<_};

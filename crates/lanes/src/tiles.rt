@@ -1,6 +1,7 @@
 // Tiles: a few words of every packet are brought into rows side by side, and put back.
 use crate::Plan;
 use rows::contains;
+use rows::whole::copy_words;
 ghost use mathlib.Core.Path.{_≡_};
 ghost use Prim.Native.Nat.{_+_, _*_, _≤_};
 ghost use lib.ListN.{length};
@@ -20,11 +21,7 @@ fn take_row(
     requires { ⌜ (b * len + len ≤ length (now packets)) × (from + count ≤ len) × (count ≤ lanes) × (b * lanes + lanes ≤ length (now tile)) ⌝ }
     ensures { λ _. ⌜ Taken (lent len (now (packets .entry))) from count b (lent lanes (now (tile .entry))) (lent lanes (now (tile .exit))) ⌝ }
 {
-    let first = b * len + from;
-    let row = b * lanes;
-    for i in 0..count {
-        tile[row + i] = packets[first + i];
-    }
+    copy_words(packets, b * len + from, tile, b * lanes, count);
 }
 
 // The eight words of a list from `first` on.
@@ -33,9 +30,7 @@ fn eight_of(words: &[u64], first: usize) -> [u64; 8]
     ensures { λ r. ⌜ Eight (now (words .entry)) first r ⌝ }
 {
     let mut eight = [0u64; 8];
-    for i in 0..8 {
-        eight[i] = words[first + i];
-    }
+    copy_words(words, first, &mut eight, 0, 8);
     eight
 }
 
@@ -45,10 +40,7 @@ fn take_eight(packets: &[u64], len: usize, from: usize, b: usize, tile: &mut [u6
     ensures { λ _. ⌜ Taken (lent len (now (packets .entry))) from 8 b (lent lanes (now (tile .entry))) (lent lanes (now (tile .exit))) ⌝ }
 {
     let eight = eight_of(packets, b * len + from);
-    let row = b * lanes;
-    for i in 0..8 {
-        tile[row + i] = eight[i];
-    }
+    copy_words(&eight, 0, tile, b * lanes, 8);
 }
 
 // The words of packet `b` become the first of row `b`, by the one or the other.
@@ -154,7 +146,5 @@ pub fn put_flags(odd: &mut [u64], from: usize, count: usize, flags: &[u64], lane
     requires { ⌜ (from + count ≤ length (now odd)) × (count ≤ lanes) × (lanes ≤ length (now flags)) ⌝ }
     ensures { λ _. ⌜ Flagged from count (lent lanes (now (flags .entry)) 0) (lent (length (now (odd .entry))) (now (odd .entry)) 0) (lent (length (now (odd .entry))) (now (odd .exit)) 0) ⌝ }
 {
-    for i in 0..count {
-        odd[from + i] = flags[i];
-    }
+    copy_words(flags, 0, odd, from, count);
 }

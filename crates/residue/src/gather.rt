@@ -1,6 +1,6 @@
 // The checks that touch a set of bits.
-use elimination::checks::copy_check;
 use parity::Check;
+use rows::whole::copy_words;
 use sets::touches;
 ghost use mathlib.Core.Path.{_≡_};
 ghost use Prim.Native.Nat.{_*_, _≤_};
@@ -16,7 +16,7 @@ fn gather_in(words: &[u64], width: usize, checks: usize, set: &[u64], rows: &mut
     let mut count: usize = 0;
     for c in 0..checks {
         if touches(words, width, Check(c), set) {
-            copy_check(words, 8, width, c, rows, count);
+            copy_words(words, c * 8, rows, count * width, width);
             count += 1;
         }
     }

@@ -1,3 +1,4 @@
 pub mod Next
 pub mod Zeros
+pub mod Writing
 pub mod Touch

@@ -3,15 +3,16 @@ use mathlib.Core.Path.{_≡_, refl, sym, ap, _∙_}
 use mathlib.Core.Logic.{_↔_}
 use mathlib.Core.List.{List}
 use Prim.Native.Nat.{ℕ, _+_, _≤_, _<_}
+use native.Mathlib.Nat.{zero-add}
 use native.Mathlib.Omega.{arith}
-use native.Mathlib.Decide.{ℕ-discrete, decLt}
+use native.Mathlib.Decide.{decLt}
 use lib.Bits.{bitOr, or-add-and, and-le-l, and-le-r}
-use lib.ListN.{length, set, replicate}
-use lib.Seq.{getD-set-same, getD-set-other}
+use lib.ListN.{replicate}
 use Rattle.parity.specs.Matrix.{lent}
 use Rattle.parity.proofs.Matrix.Lent.{lent-empty}
 use Rattle.rows.specs.Rows.{Empty}
 use Rattle.rows.specs.Zeros.{Zeros, Zeroed}
+use Rattle.rows.specs.Whole.{Written}
 
 -- an or is zero exactly if both its parts are
 pub or-zero : (a b : ℕ) → (bitOr a b ≡ 0) ↔ ((a ≡ 0) × (b ≡ 0))
@@ -40,14 +41,9 @@ zeros-join a b d f x y p q X Y = record {
 pub zeros-more : (a b : ℕ) (f : ℕ → ℕ) (x y : ℕ) → a ≤ b → Zeros a b f x → y ≡ f b → Zeros a (b + 1) f (bitOr x y)
 zeros-more a b f x y p X e = zeros-join a b (b + 1) f x y p (omega arith) X (zeros-one b f y e)
 
--- one word more is made 0
-pub zeroed-next : (words : List ℕ) (i : ℕ) → i < length words → Zeroed words i → Zeroed (set words i 0) (i + 1)
-zeroed-next words i k Z = record {
-  none = λ j l. elim (ℕ-discrete j i) [
-    | yes e ↦ rw e (getD-set-same words i 0 0 k)
-    | no d ↦ getD-set-other words i j 0 0 d ∙ Z .none j (omega arith)
-  ];
-}
+-- words that are made 0 from the first on
+pub zeroed-all : (w u : List ℕ) (i : ℕ) → Written w u 0 (λ a. 0) i → Zeroed u i
+zeroed-all w u i A = record { none = λ j k. rw (zero-add j) at (A .done j k) }
 
 -- words that are 0 are rows without a bit
 pub empty : (W n : ℕ) (r : List ℕ) → r ≡ replicate n 0 → Empty (lent W r)

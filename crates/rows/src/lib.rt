@@ -1,6 +1,7 @@
 // Rows of `width` words of 64 bits: the checks of a matrix, its columns, or a set of bits, which is one row.
 pub mod bits;
 pub mod ones;
+pub mod whole;
 
 ghost use mathlib.Core.Path.{_≡_};
 ghost use mathlib.Core.Bool.{true, false, not, _&&_};

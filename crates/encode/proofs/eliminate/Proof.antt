@@ -5,8 +5,8 @@ use borrow.Author.Needs.{needs}
 use Rattle.encode.proofs.eliminate.Statement.{statement}
 use Rattle.encode.proofs.eliminate.Tie as tie
 
-copy-requires : tie.Need-copy-requires
-copy-requires c κs = search needs
+copy-rows-requires : tie.Need-copy-rows-requires
+copy-rows-requires c κs = search needs
 
 to-echelon-requires : tie.Need-to-echelon-requires
 to-echelon-requires c κs = search needs
@@ -21,8 +21,8 @@ returns : tie.Need-returns
 returns c =
     let e = c .before .before .before .before in
     let p = e .before .before .before .before .before in
-    eliminated 8 2 (omega arith) _ _ _ _ _ _ _ _ (omega (arith, p .before .before .before .before .before .pre .1)) (p .copy .ensures) (e .to-echelon .ensures)
+    eliminated 8 2 (omega arith) _ _ _ _ _ _ _ (omega (arith, p .before .before .before .before .before .pre .1)) (p .copy-rows .ensures) (e .to-echelon .ensures)
 
 pub eliminate-spec : {M : Type 1} → statement M
 eliminate-spec =
-    tie.close (tie.spec copy-requires to-echelon-requires same-length same-length-2 returns)
+    tie.close (tie.spec copy-rows-requires to-echelon-requires same-length same-length-2 returns)

@@ -1,20 +1,24 @@
 -- `checks::add_check` meets its contract. Assumes nothing.
-use mathlib.Core.Path.{_≡_}
-use Prim.Native.Nat.{_≤_, _-_}
+use mathlib.Core.Path.{_≡_, refl}
+use mathlib.Core.Bool.{xor}
+use Prim.Native.Nat.{_*_, _-_, _≤_}
 use native.Mathlib.Omega.{arith}
-use Rattle.elimination.proofs.Adding.{apart, Adding, adding-none, adding-more, adding-all}
+use lib.Bits.{bitXor}
+use Rattle.parity.proofs.Words.Sets.{bit-xor}
+use Rattle.rows.specs.Whole.{Written, wordFrom}
+use Rattle.rows.proofs.Writing.{apart, onto, written-none, written-onto, combined-all}
 use borrow.Author.Needs.{needs}
 use Rattle.elimination.proofs.checks.add_check.Statement.{statement}
 use Rattle.elimination.proofs.checks.add_check.Tie as tie
 
 abbrev Inv-loop : tie.InvT-loop
-Inv-loop rows₀ width p c i₀ rows i = (i ≤ width) × Adding width rows₀ rows c rows₀ p i
+Inv-loop rows₀ width p c i₀ rows i = (i ≤ width) × Written rows₀ rows (c * width) (onto bitXor rows₀ (c * width) (wordFrom rows₀ (p * width))) i
 
 abbrev μ-loop : tie.MeasureT-loop
 μ-loop rows₀ width p c i₀ rows i = width - i
 
 loop-holds : tie.Need-loop-holds Inv-loop μ-loop
-loop-holds c = (omega arith, adding-none _ _ _ _ _)
+loop-holds c = (omega arith, written-none _ _ _)
 
 mul-rows : tie.Need-mul-rows Inv-loop μ-loop
 mul-rows c = omega arith
@@ -63,7 +67,7 @@ loop-again c =
     let l = c .before .before .before .loop in
     let s = c .before .before .before .before in
     let p-kept = l .inv .1 .else _ (λ j k. apart (s .args .width) (s .args .p) (s .args .c) (l .i) j (omega arith) (omega arith) (s .pre .2)) in
-    (omega arith, adding-more _ _ _ _ _ _ _ (l .inv .1) (omega arith) (omega arith) _ p-kept)
+    (omega arith, written-onto bitXor _ _ _ _ _ _ (l .inv .1) (omega arith) p-kept)
 
 same-length : tie.Need-same-length Inv-loop μ-loop
 same-length c = search needs
@@ -73,7 +77,7 @@ returns c =
     let l = c .before .loop in
     let s = c .before .before in
     let e : l .i ≡ s .args .width = omega arith in
-    adding-all _ _ _ _ _ _ (rw e at (l .inv .1))
+    combined-all xor bitXor bit-xor (unfold xor in refl) _ _ _ _ _ _ (rw e at (l .inv .1))
 
 pub add-check-spec : {M : Type 1} → statement M
 add-check-spec =

@@ -6,8 +6,8 @@ use borrow.Author.Needs.{needs}
 use lib.ListN.{getD}
 use Rattle.parity.specs.Matrix.{lent, bitOf}
 use Rattle.parity.proofs.Matrix.Lent.{lent-in}
-use Rattle.elimination.specs.Reduction.{plus}
-use Rattle.elimination.proofs.Adding.{pick-room, picked}
+use Rattle.rows.specs.Whole.{plus}
+use Rattle.elimination.proofs.Picking.{pick-room, picked}
 use Rattle.elimination.proofs.checks.clear_check.Statement.{statement}
 use Rattle.elimination.proofs.checks.clear_check.Tie as tie
 

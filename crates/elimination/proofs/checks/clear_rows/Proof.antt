@@ -1,7 +1,8 @@
 -- `checks::clear_rows` meets its contract. Assumes nothing.
 use Rattle.elimination.proofs.Clearing.{cleared-none, cleared-more}
 use Rattle.parity.proofs.Matrix.Lent.{row-room}
-use Rattle.elimination.specs.Reduction.{plus, when, cleared}
+use Rattle.rows.specs.Whole.{plus}
+use Rattle.elimination.specs.Reduction.{when, cleared}
 use Rattle.parity.specs.Matrix.{Matrix, lent}
 use lib.ListN.{length}
 use borrow.Author.Needs.{needs}

@@ -46,8 +46,14 @@ returns-2 c =
     let s = c .before .before .before .before .before .before .before .before in
     added-full (s .args .words .now) (s .pre .0) (λ i. c .before .before .before .before .before .before .before .shared-slice-known .given i .fits) (s .args .c) (s .pre .1) (s .args .rows .now) (s .args .at) (c .if2 .taken) (sym (c .before .before .is-there .ensures) ∙ c .before .if1 .left)
 
-copy-check-requires : tie.Need-copy-check-requires
-copy-check-requires c κs = search needs
+mul-copy-words : tie.Need-mul-copy-words
+mul-copy-words c = search needs
+
+mul-copy-words-2 : tie.Need-mul-copy-words-2
+mul-copy-words-2 c = search needs
+
+copy-words-requires : tie.Need-copy-words-requires
+copy-words-requires c κs = search needs
 
 add-result : tie.Need-add-result
 add-result c = search needs
@@ -58,7 +64,7 @@ same-length-3 c = search needs
 returns-3 : tie.Need-returns-3
 returns-3 c =
     let s = c .before .before .before .before .before .before .before .before .before .before .before .before in
-    added-one (s .args .words .now) (s .pre .0) (λ i. c .before .before .before .before .before .before .before .before .before .before .before .shared-slice-known .given i .fits) (s .args .c) (s .pre .1) (s .args .rows .now) (s .args .at) (omega (arith, s .pre .3, c .before .before .before .before .if2 .left)) (sym (c .before .before .before .before .before .before .is-there .ensures) ∙ c .before .before .before .before .before .if1 .left) _ (c .before .before .copy-check .ensures)
+    added-one (s .args .words .now) (s .pre .0) (λ i. c .before .before .before .before .before .before .before .before .before .before .before .shared-slice-known .given i .fits) (s .args .c) (s .pre .1) (s .args .rows .now) (s .args .at) (omega (arith, s .pre .3, c .before .before .before .before .if2 .left)) (sym (c .before .before .before .before .before .before .is-there .ensures) ∙ c .before .before .before .before .before .if1 .left) _ (c .before .before .copy-words .ensures)
 
 pub add-spec : {M : Type 1} → statement M
 add-spec =
@@ -76,7 +82,9 @@ add-spec =
     returns
     same-length-2
     returns-2
-    copy-check-requires
+    mul-copy-words
+    mul-copy-words-2
+    copy-words-requires
     add-result
     same-length-3
     returns-3)

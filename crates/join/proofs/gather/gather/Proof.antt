@@ -20,19 +20,19 @@ Inv-loop words1 m1 words2 m2 rows₀ at₀ c₀ rows at c =
 abbrev μ-loop : tie.MeasureT-loop
 μ-loop words1 m1 words2 m2 rows₀ at₀ c₀ rows at c = m2 - c
 
-copy-requires : tie.Need-copy-requires Inv-loop μ-loop
-copy-requires c κs = let s = c .before .before .before .before in (omega (arith, s .pre .0, s .pre .1), omega arith, omega (arith, s .pre .1, s .pre .4))
+copy-rows-requires : tie.Need-copy-rows-requires Inv-loop μ-loop
+copy-rows-requires c κs = let s = c .before .before .before .before in (omega (arith, s .pre .0, s .pre .1), omega arith, omega (arith, s .pre .1, s .pre .4))
 
 loop-holds : tie.Need-loop-holds Inv-loop μ-loop
 unfolding joined
 loop-holds c =
     let s = c .before .before .before .before .before .before .before in
-    let E = c .before .before .copy in (
+    let E = c .before .before .copy-rows in (
       omega arith,
       s .pre .1,
       E .kept .1 .1 .1 .1 .0 ∙ s .pre .4,
       refl,
-      rows-first 2 8 (lit< tt) (omega arith) (s .args .words1 .now) _ _ (s .args .m1) (s .pre .0) (λ i. c .before .before .before .before .before .before .shared-slice-known .given i .fits) (omega (arith, s .pre .1)) (E .ensures),
+      rows-first 2 8 (lit< tt) (omega arith) (s .args .words1 .now) _ (s .args .m1) (s .pre .0) (λ i. c .before .before .before .before .before .before .shared-slice-known .given i .fits) (omega (arith, s .pre .1)) (E .ensures),
     )
 
 add-requires : tie.Need-add-requires Inv-loop μ-loop
@@ -82,7 +82,7 @@ gather-spec =
     (tie.spec
     Inv-loop
     μ-loop
-    copy-requires
+    copy-rows-requires
     loop-holds
     add-requires
     same-length

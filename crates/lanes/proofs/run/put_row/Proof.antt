@@ -1,20 +1,26 @@
 -- `run::put_row` meets its contract. Assumes nothing.
-use mathlib.Core.Path.{_≡_}
-use Prim.Native.Nat.{_≤_, _-_}
-use Rattle.lanes.proofs.Putting.{Putting, putting-none, putting-more, putting-all}
+use mathlib.Core.Path.{_≡_, refl}
+use mathlib.Core.Bool.{_||_}
+use Prim.Native.Nat.{_*_, _-_, _≤_}
+use native.Mathlib.Nat.{zero-mul, zero-add}
 use native.Mathlib.Omega.{arith}
+use lib.Bits.{bitOr}
+use lib.ListN.{getD}
+use Rattle.parity.proofs.Matrix.Digits.{bit-or}
+use Rattle.rows.specs.Whole.{Written, wordFrom}
+use Rattle.rows.proofs.Writing.{onto, written-none, written-onto, combined-all}
 use borrow.Author.Needs.{needs}
 use Rattle.lanes.proofs.run.put_row.Statement.{statement}
 use Rattle.lanes.proofs.run.put_row.Tie as tie
 
 abbrev Inv-loop : tie.InvT-loop
-Inv-loop rows₀ width c row i₀ rows i = (i ≤ width) × Putting width rows₀ rows c row i
+Inv-loop rows₀ width c row i₀ rows i = (i ≤ width) × Written rows₀ rows (c * width) (onto bitOr rows₀ (c * width) (wordFrom row (0 * width))) i
 
 abbrev μ-loop : tie.MeasureT-loop
 μ-loop rows₀ width c row i₀ rows i = width - i
 
 loop-holds : tie.Need-loop-holds Inv-loop μ-loop
-loop-holds c = (omega arith, putting-none _ _ _ _)
+loop-holds c = (omega arith, written-none _ _ _)
 
 mul-rows : tie.Need-mul-rows Inv-loop μ-loop
 mul-rows c = omega arith
@@ -53,7 +59,7 @@ loop-less : tie.Need-loop-less Inv-loop μ-loop
 loop-less c = omega arith
 
 loop-again : tie.Need-loop-again Inv-loop μ-loop
-loop-again c = (omega arith, putting-more _ _ _ _ _ _ (c .before .before .before .loop .inv .1) (omega arith))
+loop-again c = (omega arith, written-onto bitOr _ _ _ _ _ _ (c .before .before .before .loop .inv .1) (omega arith) (rw (zero-mul (c .before .before .before .before .args .width), zero-add (c .before .before .before .loop .i))))
 
 same-length : tie.Need-same-length Inv-loop μ-loop
 same-length c = search needs
@@ -63,7 +69,7 @@ returns c =
     let l = c .before .loop in
     let s = c .before .before in
     let e : l .i ≡ s .args .width = omega arith in
-    putting-all _ _ _ _ _ (rw e at (l .inv .1))
+    combined-all _||_ bitOr bit-or refl _ _ _ _ _ _ (rw e at (l .inv .1))
 
 pub put-row-spec : {M : Type 1} → statement M
 put-row-spec =

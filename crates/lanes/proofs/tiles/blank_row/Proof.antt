@@ -1,5 +1,7 @@
 -- `tiles::blank_row` meets its contract. Assumes nothing.
-use Rattle.lanes.proofs.Writing.{Written, written-none, written-more, blanked-all}
+use Rattle.rows.specs.Whole.{Written}
+use Rattle.rows.proofs.Writing.{written-none, written-more}
+use Rattle.lanes.proofs.Writing.{blanked-all}
 use mathlib.Core.Path.{_≡_, refl}
 use Prim.Native.Nat.{_≤_, _*_, _-_}
 use native.Mathlib.Omega.{arith}

@@ -1,7 +1,9 @@
 -- `tiles::return_row` meets its contract. Assumes nothing.
 use Prim.Native.Nat.{ℕ, _^_, _<_}
 use Rattle.lanes.proofs.Writing.{fits-more, merged-now}
-use Rattle.lanes.proofs.Writing.{Written, written-none, written-more, merged, returned-all}
+use Rattle.rows.specs.Whole.{Written}
+use Rattle.rows.proofs.Writing.{written-none, written-more}
+use Rattle.lanes.proofs.Writing.{merged, returned-all}
 use mathlib.Core.Path.{_≡_}
 use Prim.Native.Nat.{_≤_, _+_, _*_, _-_}
 use lib.ListN.{getD}

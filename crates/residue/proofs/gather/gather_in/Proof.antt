@@ -6,7 +6,7 @@ use native.Mathlib.Omega.{arith}
 use lib.ListN.{length}
 use Rattle.parity.specs.Matrix.{lent}
 use Rattle.parity.proofs.Matrix.Lent.{row-room}
-use Rattle.elimination.proofs.Copying.{check-lent, check-kept}
+use Rattle.rows.proofs.Writing.{copied-row, row-others}
 use Rattle.residue.specs.Rows.{Gathered}
 use Rattle.residue.proofs.Gathering.{not-touched, gathered-none, gathered-past, gathered-more}
 use borrow.Author.Needs.{needs}
@@ -26,11 +26,19 @@ loop-holds c = (omega arith, refl, gathered-none _ _ _ _)
 touches-requires : tie.Need-touches-requires Inv-loop μ-loop
 touches-requires c κs = search needs
 
-copy-check-requires : tie.Need-copy-check-requires Inv-loop μ-loop
-copy-check-requires c κs =
-    let i = c .before .before .before in
-    let l = i .before .loop in
-    let s = i .before .before .before .before .before in
+mul-copy-words : tie.Need-mul-copy-words Inv-loop μ-loop
+mul-copy-words c = omega arith
+
+mul-copy-words-2 : tie.Need-mul-copy-words-2 Inv-loop μ-loop
+mul-copy-words-2 c =
+    let l = c .before .before .before .before .loop in
+    let s = c .before .before .before .before .before .before .before .before in
+    omega (arith, l .inv .1, l .inv .2 .few, row-room (s .args .width) (l .count) (s .args .checks) (omega (arith, l .inv .2 .few)))
+
+copy-words-requires : tie.Need-copy-words-requires Inv-loop μ-loop
+copy-words-requires c κs =
+    let l = c .before .before .before .before .loop in
+    let s = c .before .before .before .before .before .before .before .before in
     (omega arith, omega (arith, l .inv .1, l .inv .2 .few, row-room (s .args .width) (l .count) (s .args .checks) (omega (arith, l .inv .2 .few))))
 
 add-count : tie.Need-add-count Inv-loop μ-loop
@@ -51,8 +59,8 @@ loop-again c =
     ⊎-elim
     (λ w. rw (w .5, w .6) (
       omega arith,
-      w .2 .kept .1 .1 .1 .1 .0 ∙ l .inv .1,
-      gathered-more _ _ _ _ _ _ (l .inv .2) _ (check-lent 8 _ (s .pre .3) _ _ _ _ _ (w .2 .ensures)) (λ d b. check-kept 8 _ _ _ _ _ _ (w .2 .ensures) d b),
+      w .2 .ensures .long ∙ l .inv .1,
+      gathered-more _ _ _ _ _ _ (l .inv .2) _ (copied-row 8 _ (s .pre .3) _ _ _ _ _ (w .2 .ensures)) (λ d b k _. row-others _ _ _ (omega arith) _ _ _ (w .2 .ensures) d b (λ e. omega arith)),
     ))
     (λ w. rw (w .1, w .2) (
       omega arith,
@@ -78,7 +86,9 @@ gather-in-spec =
     μ-loop
     loop-holds
     touches-requires
-    copy-check-requires
+    mul-copy-words
+    mul-copy-words-2
+    copy-words-requires
     add-count
     add-c
     loop-less

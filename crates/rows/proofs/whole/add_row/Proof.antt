@@ -1,20 +1,24 @@
--- `checks::add_row` meets its contract. Assumes nothing.
-use Rattle.elimination.proofs.Adding.{Adding, adding-none, adding-more, adding-all}
+-- `whole::add_row` meets its contract. Assumes nothing.
 use borrow.Author.Needs.{needs}
 use native.Mathlib.Omega.{arith}
 use mathlib.Core.Path.{_≡_, refl}
-use Prim.Native.Nat.{_≤_, _-_}
-use Rattle.elimination.proofs.checks.add_row.Statement.{statement}
-use Rattle.elimination.proofs.checks.add_row.Tie as tie
+use mathlib.Core.Bool.{xor}
+use Prim.Native.Nat.{_*_, _-_, _≤_}
+use lib.Bits.{bitXor}
+use Rattle.parity.proofs.Words.Sets.{bit-xor}
+use Rattle.rows.specs.Whole.{Written, wordFrom}
+use Rattle.rows.proofs.Writing.{onto, written-none, written-onto, combined-all}
+use Rattle.rows.proofs.whole.add_row.Statement.{statement}
+use Rattle.rows.proofs.whole.add_row.Tie as tie
 
 abbrev Inv-loop : tie.InvT-loop
-Inv-loop rows₀ width c row q i₀ rows i = (i ≤ width) × Adding width rows₀ rows c row q i
+Inv-loop rows₀ width c row q i₀ rows i = (i ≤ width) × Written rows₀ rows (c * width) (onto bitXor rows₀ (c * width) (wordFrom row (q * width))) i
 
 abbrev μ-loop : tie.MeasureT-loop
 μ-loop rows₀ width c row q i₀ rows i = width - i
 
 loop-holds : tie.Need-loop-holds Inv-loop μ-loop
-loop-holds c = (omega arith, adding-none _ _ _ _ _)
+loop-holds c = (omega arith, written-none _ _ _)
 
 mul-rows : tie.Need-mul-rows Inv-loop μ-loop
 mul-rows c = omega arith
@@ -59,7 +63,7 @@ loop-less : tie.Need-loop-less Inv-loop μ-loop
 loop-less c = omega arith
 
 loop-again : tie.Need-loop-again Inv-loop μ-loop
-loop-again c = (omega arith, adding-more _ _ _ _ _ _ _ (c .before .before .before .loop .inv .1) (omega arith) (omega arith) _ refl)
+loop-again c = (omega arith, written-onto bitXor _ _ _ _ _ _ (c .before .before .before .loop .inv .1) (omega arith) refl)
 
 same-length : tie.Need-same-length Inv-loop μ-loop
 same-length c = search needs
@@ -69,7 +73,7 @@ returns c =
     let l = c .before .loop in
     let s = c .before .before in
     let e : l .i ≡ s .args .width = omega arith in
-    adding-all _ _ _ _ _ _ (rw e at (l .inv .1))
+    combined-all xor bitXor bit-xor (unfold xor in refl) _ _ _ _ _ _ (rw e at (l .inv .1))
 
 pub add-row-spec : {M : Type 1} → statement M
 add-row-spec =

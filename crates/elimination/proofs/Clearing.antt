@@ -6,7 +6,7 @@ use Prim.Native.Nat.{ℕ, _+_, _*_, _%_, _≤_, _<_}
 use native.Mathlib.Omega.{arith}
 use native.Mathlib.Decide.{ℕ-discrete, decLt}
 use lib.Dec.{eqb}
-use borrow.Author.Tests.{lt-ltb, le-ltb, le-leb, lt-leb}
+use borrow.Author.Tests.{eq-eqb, ne-eqb, lt-ltb, le-ltb, le-leb, lt-leb}
 use Rattle.parity.specs.Finite.{one, count}
 use Rattle.parity.specs.Matrix.{Matrix}
 use Rattle.parity.specs.Words.{inside, evenChecks}
@@ -18,7 +18,7 @@ use Rattle.parity.proofs.Words.Residue.{below}
 use Rattle.parity.proofs.Words.Sets.{inside-below}
 use Rattle.rows.specs.Whole.{plus}
 use Rattle.rows.proofs.Writing.{combined-at, combined-else}
-use Rattle.elimination.specs.Reduction.{when, cleared, Same, Pivoted}
+use Rattle.elimination.specs.Reduction.{when, cleared, FirstIn, Same, lifted, around}
 
 pub xor-false : (a : Bool) → xor a false ≡ a
 unfolding xor
@@ -156,54 +156,93 @@ module _ (row : ℕ → Bool) (b : ℕ) (g : Matrix) where
         ]
       ]))
 
--- Check r, which contains b, is added to each of the m checks that contains b but itself.
-module _ (g : Matrix) (m r b : ℕ) (rm : r < m) (own : g r b ≡ true) where
-  -- in two ranges
-  abbrev pub around : Matrix
-  around = cleared (g r) b (r + 1) m (cleared (g r) b 0 r g)
+-- Check r is added to each other check from `first` on that contains b.
+module _ (g : Matrix) (first m r b : ℕ) (fr : first ≤ r) (rm : r < m) where
+  abbrev upper : Matrix
+  upper = cleared (g r) b first r g
 
-  around-own : (j : ℕ) → around r j ≡ g r j
-  around-own j = cleared-out (g r) b (cleared (g r) b 0 r g) (r + 1) m r j (λ k l. omega arith) ∙ cleared-out (g r) b g 0 r r j (λ k l. omega arith)
+  pub around-own : (j : ℕ) → around first m r b g r j ≡ g r j
+  unfolding around
+  around-own j = cleared-out (g r) b upper (r + 1) m r j (λ k l. omega arith) ∙ cleared-out (g r) b g first r r j (λ k l. omega arith)
 
-  pub around-else : (c j : ℕ) → c < m → (c ≡ r → ⊥) → around c j ≡ xor (g c j) (when (g c b) (g r) j)
-  around-else c j l d = elim (decLt c r) [
-    | yes k ↦ cleared-out (g r) b (cleared (g r) b 0 r g) (r + 1) m c j (λ x y. omega arith) ∙ cleared-in (g r) b g 0 r c j (omega arith) k
-    | no k ↦ cleared-in (g r) b (cleared (g r) b 0 r g) (r + 1) m c j (omega arith) l
-        ∙ rw (cleared-out (g r) b g 0 r c j (λ x y. omega arith), cleared-out (g r) b g 0 r c b (λ x y. omega arith))
+  pub around-else : (c j : ℕ) → first ≤ c → c < m → (c ≡ r → ⊥) → around first m r b g c j ≡ xor (g c j) (when (g c b) (g r) j)
+  unfolding around
+  around-else c j f l d = elim (decLt c r) [
+    | yes k ↦ cleared-out (g r) b upper (r + 1) m c j (λ x y. omega arith) ∙ cleared-in (g r) b g first r c j f k
+    | no k ↦ cleared-in (g r) b upper (r + 1) m c j (omega arith) l
+        ∙ rw (cleared-out (g r) b g first r c j (λ x y. omega arith), cleared-out (g r) b g first r c b (λ x y. omega arith))
   ]
 
-  pub around-behind : (c j : ℕ) → m ≤ c → around c j ≡ g c j
-  around-behind c j l = cleared-out (g r) b (cleared (g r) b 0 r g) (r + 1) m c j (λ x y. omega arith) ∙ cleared-out (g r) b g 0 r c j (λ x y. omega arith)
+  pub around-out : (c j : ℕ) → (first ≤ c → c < m → ⊥) → around first m r b g c j ≡ g c j
+  unfolding around
+  around-out c j d = cleared-out (g r) b upper (r + 1) m c j (λ x y. d (omega arith) y) ∙ cleared-out (g r) b g first r c j (λ x y. d x (omega arith))
 
-  pub around-pivoted : Pivoted g around m r r b
-  around-pivoted = record {
-    same = λ n. plus-same g around n m r rm around-own (λ c l d. (g c b, λ j. around-else c j l d));
-    keep = λ c j z _. elim (ℕ-discrete c r) [
-      | yes q ↦ rw q (around-own j)
-      | no d ↦ elim (decLt c m) [
-        | yes l ↦ around-else c j l d ∙ rw (z, and-false, xor-false (g c j))
-        | no l ↦ around-behind c j (omega arith)
+  pub around-same : (n : ℕ) → Same g (around first m r b g) n m
+  around-same n = plus-same g (around first m r b g) n m r rm around-own (λ c l d. elim (decLt c first) [
+    | yes k ↦ (false, λ j. around-out c j (λ x y. omega arith) ∙ sym (xor-false (g c j)))
+    | no k ↦ (g c b, λ j. around-else c j (omega arith) l d)
+  ])
+
+  -- where check r has no bit, nothing changes
+  pub around-keep : (c j : ℕ) → g r j ≡ false → around first m r b g c j ≡ g c j
+  around-keep c j z = elim (ℕ-discrete c r) [
+    | yes q ↦ rw q (around-own j)
+    | no d ↦ elim (decLt c m) [
+      | no l ↦ around-out c j (λ x y. omega arith)
+      | yes l ↦ elim (decLt c first) [
+        | yes k ↦ around-out c j (λ x y. omega arith)
+        | no k ↦ around-else c j (omega arith) l d ∙ rw (z, and-false, xor-false (g c j))
       ]
-    ];
-    own = around-own b ∙ own;
-    alone = λ c l d. around-else c b l d ∙ cancel (g c b);
-  }
+    ]
+  ]
+
+  -- if it contains b, no other of them does then
+  pub around-alone : g r b ≡ true → (c : ℕ) → first ≤ c → c < m → (c ≡ r → ⊥) → around first m r b g c b ≡ false
+  around-alone own c k l d = around-else c b k l d ∙ cancel (g c b)
     where
       cancel : (x : Bool) → xor x (when x (g r) b) ≡ false
       cancel true = rw own (xor-self true)
       cancel false = xor-self false
 
--- r did not contain b, and check p was added to it first
-pub lifted : (g k : Matrix) (m p r b : ℕ) → p < m → (p ≡ r → ⊥) → g p b ≡ true → g r b ≡ false → Pivoted (plus r (g p) g) k m r r b → Pivoted g k m p r b
-lifted g k m p r b l d has out C = record {
-  same = λ n. same-trans g (plus r (g p) g) k n m (added-same g p r d n m l) (C .same n);
-  keep = λ c j z y. C .keep c j (sum j z y) (sum j z y) ∙ added-keep g p r d c j z;
-  own = C .own;
-  alone = C .alone;
-}
-  where
-    sum : (j : ℕ) → g p j ≡ false → g r j ≡ false → plus r (g p) g r j ≡ false
-    sum j z y = combined-at xor r (g p) g j ∙ rw (y, z) (xor-self false)
+-- Check p is added to check r, if it is another one.
+module _ (p r : ℕ) (g : Matrix) where
+  pub lifted-one : p ≡ r → lifted p r g ≡ g
+  unfolding lifted
+  lifted-one e = rw (eq-eqb p r e)
 
-pub lifted-own : (g : Matrix) (p r b : ℕ) → g p b ≡ true → g r b ≡ false → plus r (g p) g r b ≡ true
-lifted-own g p r b has out = combined-at xor r (g p) g b ∙ rw (has, out) (unfold xor in refl)
+  pub lifted-two : (p ≡ r → ⊥) → lifted p r g ≡ plus r (g p) g
+  unfolding lifted
+  lifted-two d = rw (ne-eqb p r d)
+
+  pub lifted-else : (c j : ℕ) → (c ≡ r → ⊥) → lifted p r g c j ≡ g c j
+  lifted-else c j n = elim (ℕ-discrete p r) [ yes e ↦ rw (lifted-one e) | no d ↦ rw (lifted-two d) (combined-else xor r (g p) g c j n) ]
+
+  pub lifted-same : (n m : ℕ) → p < m → Same g (lifted p r g) n m
+  lifted-same n m l = elim (ℕ-discrete p r) [ yes e ↦ rw (lifted-one e) (λ x. refl) | no d ↦ rw (lifted-two d) (added-same g p r d n m l) ]
+
+  pub lifted-keep : (c j : ℕ) → g p j ≡ false → lifted p r g c j ≡ g c j
+  lifted-keep c j z = elim (ℕ-discrete p r) [ yes e ↦ rw (lifted-one e) | no d ↦ rw (lifted-two d) (added-keep g p r d c j z) ]
+
+-- p is the first check from r on that contains b: it makes check r contain it.
+pub lifted-own : (g : Matrix) (m p r b : ℕ) → FirstIn g m r b p → p < m → lifted p r g r b ≡ true
+lifted-own g m p r b F l = elim (ℕ-discrete p r) [
+  | yes e ↦ rw (lifted-one p r g e) (rw e at (F .found l))
+  | no d ↦ rw (lifted-two p r g d) (combined-at xor r (g p) g b ∙ rw (F .found l, F .none r (omega arith) (omega (arith, F .from))) (unfold xor in refl))
+]
+
+-- k is g after bit b was made the pivot of check r; only bits that check p or check r contained may have changed.
+pub record Pivoted (g k : Matrix) (m p r b : ℕ) : Type 0 where
+  pub same : (n : ℕ) → Same g k n m
+  pub keep : (c j : ℕ) → g p j ≡ false → g r j ≡ false → k c j ≡ g c j
+  pub own : k r b ≡ true
+  pub alone : (c : ℕ) → c < m → (c ≡ r → ⊥) → k c b ≡ false
+
+pub pivoted : (g : Matrix) (m p r b : ℕ) → FirstIn g m r b p → p < m → Pivoted g (around 0 m r b (lifted p r g)) m p r b
+pivoted g m p r b F l =
+    let rm : r < m = omega (arith, F .from) in
+    let L = lifted p r g in record {
+      same = λ n. same-trans g L (around 0 m r b L) n m (lifted-same p r g n m l) (around-same L 0 m r b (omega arith) rm n);
+      keep = λ c j z y. around-keep L 0 m r b (omega arith) rm c j (lifted-keep p r g r j z ∙ y) ∙ lifted-keep p r g c j z;
+      own = around-own L 0 m r b (omega arith) rm b ∙ lifted-own g m p r b F l;
+      alone = λ c k d. around-alone L 0 m r b (omega arith) rm (lifted-own g m p r b F l) c (omega arith) k d;
+    }

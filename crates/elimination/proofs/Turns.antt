@@ -8,8 +8,8 @@ use native.Mathlib.Decide.{ℕ-discrete, decLt}
 use lib.ListN.{getD, length, set}
 use lib.Seq.{getD-set-same, getD-set-other}
 use Rattle.parity.specs.Matrix.{Matrix}
-use Rattle.elimination.specs.Reduction.{Pivoted, Reduced, Reduction, Turned}
-use Rattle.elimination.proofs.Clearing.{same-trans, same-below}
+use Rattle.elimination.specs.Reduction.{Reduced, Reduction}
+use Rattle.elimination.proofs.Clearing.{same-trans, same-below, Pivoted}
 
 -- The turn at bit b. `to` has the pivots with b put at r.
 module _ (g : Matrix) (m : ℕ) (e : ℕ → Bool) (b r : ℕ) (at : ℕ → ℕ) (R : Reduced g m e b r at) where
@@ -69,18 +69,16 @@ turn-start g m e at = record {
   rest = λ c j k l i. absurd (omega arith);
 }
 
-module _ (g : Matrix) (m b r : ℕ) (at : List ℕ) where
+module _ (g : Matrix) (m b r : ℕ) (at : List ℕ) (h : Matrix) (n : ℕ) (e : ℕ → Bool) (t : e b ≡ true) (R : Reduction h g n m e b r at) where
   -- no check from r on contains bit b
-  pub turned-none : ((c : ℕ) → r ≤ c → c < m → g c b ≡ false) → Turned g g m b r at r at
-  turned-none f = record { turned = λ h n e t R. record { same = R .same; form = turn-none g m e b r _ (R .form) (λ c k l q. f c k l) } }
+  pub reduction-none : ((c : ℕ) → r ≤ c → c < m → g c b ≡ false) → Reduction h g n m e (b + 1) r at
+  reduction-none f = record { same = R .same; form = turn-none g m e b r _ (R .form) (λ c k l q. f c k l) }
 
   -- bit b is the pivot of check r now
-  pub turned-pivot : (k : Matrix) (p : ℕ) → r ≤ p → p < m → r < length at → Pivoted g k m p r b → Turned g k m b r at (r + 1) (set at r b)
-  turned-pivot k p rp pm fit P = record {
-    turned = λ h n e t R. record {
-      same = same-trans h g k n m (R .same) (P .same n);
-      form = turn-pivot g m e b r _ (R .form) k p _ t rp pm P (getD-set-same at r b 0 fit) (λ c d. getD-set-other at r c b 0 d);
-    };
+  pub reduction-pivot : (k : Matrix) (p : ℕ) → r ≤ p → p < m → r < length at → Pivoted g k m p r b → Reduction h k n m e (b + 1) (r + 1) (set at r b)
+  reduction-pivot k p rp pm fit P = record {
+    same = same-trans h g k n m (R .same) (P .same n);
+    form = turn-pivot g m e b r _ (R .form) k p _ t rp pm P (getD-set-same at r b 0 fit) (λ c d. getD-set-other at r c b 0 d);
   }
 
 -- the bits from b up to d are not to be reduced

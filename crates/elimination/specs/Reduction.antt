@@ -8,6 +8,7 @@ use lib.ListN.{getD}
 use Rattle.parity.specs.Finite.{any}
 use Rattle.parity.specs.Matrix.{Matrix}
 use Rattle.parity.specs.Words.{evenChecks}
+use Rattle.rows.specs.Whole.{plus}
 
 -- the row if x is true, and else nothing
 abbrev pub when : Bool → (ℕ → Bool) → ℕ → Bool
@@ -28,12 +29,13 @@ pub record FirstIn (g : Matrix) (m first b p : ℕ) : Type 0 where
 abbrev pub Same : Matrix → Matrix → ℕ → ℕ → Type 0
 Same h g n m = (x : ℕ → Bool) → evenChecks h n m x ≡ evenChecks g n m x
 
--- k is g after bit b was made the pivot of check r; only bits that check p or check r contained may have changed.
-pub record Pivoted (g k : Matrix) (m p r b : ℕ) : Type 0 where
-  pub same : (n : ℕ) → Same g k n m
-  pub keep : (c j : ℕ) → g p j ≡ false → g r j ≡ false → k c j ≡ g c j
-  pub own : k r b ≡ true
-  pub alone : (c : ℕ) → c < m → (c ≡ r → ⊥) → k c b ≡ false
+-- check p is added to check r, if it is another one
+unfoldable pub lifted : ℕ → ℕ → Matrix → Matrix
+lifted p r g = cond (eqb p r) g (plus r (g p) g)
+
+-- check r is added to each other check from `first` up to m that contains bit b
+unfoldable pub around : ℕ → ℕ → ℕ → ℕ → Matrix → Matrix
+around first m r b g = cleared (g r) b (r + 1) m (cleared (g r) b first r g)
 
 -- Of the columns below b, those of the bits e are reduced. Each check c below r has a pivot, `at c`, a bit of e; the pivots rise.
 -- No other check contains it, and check c contains no lower bit of e. The checks from r on contain no bit of e below b.
@@ -56,19 +58,6 @@ pub record Reduction (h g : Matrix) (n m : ℕ) (e : ℕ → Bool) (b r : ℕ) (
   pub same : Same h g n m
   pub form : Reduced g m e b r (λ c. getD at c 0)
 
--- The turn of bit b, one of those to reduce in: what was reduced in the bits below b is afterwards reduced in b too.
-pub record Turned (g k : Matrix) (m b r : ℕ) (at : List ℕ) (s : ℕ) (to : List ℕ) : Type 0 where
-  pub turned : (h : Matrix) (n : ℕ) (e : ℕ → Bool) → e b ≡ true → Reduction h g n m e b r at → Reduction h k n m e (b + 1) s to
-
--- k is g after bit b was made the pivot of check r and cleared from the checks behind it; check p was added to check r if it is another one.
--- If the checks of f from r on are those of g, then making it the pivot in f, for all checks, has the checks of k behind r.
-pub record Lower (g k : Matrix) (m p r b : ℕ) : Type 0 where
-  pub same : (n : ℕ) → Same g k n m
-  pub above : (c j : ℕ) → c < r → k c j ≡ g c j
-  pub own : k r b ≡ true
-  pub keep : (j : ℕ) → g p j ≡ false → g r j ≡ false → k r j ≡ false
-  pub follows : (f : Matrix) → ((c j : ℕ) → r ≤ c → g c j ≡ f c j) → (l : Matrix) × Pivoted f l m p r b × ((c j : ℕ) → r < c → k c j ≡ l c j)
-
 abbrev pub everyBit : ℕ → Bool
 everyBit b = true
 
@@ -82,6 +71,8 @@ pub record Echelon (h g : Matrix) (n m b r : ℕ) (at : List ℕ) : Type 0 where
   pub reduction : Reduction h whole n m everyBit b r at
   pub rest : (c j : ℕ) → r ≤ c → g c j ≡ whole c j
 
--- The step of bit b: what was in echelon form in the bits below b is afterwards so in b too.
-pub record Stepped (g k : Matrix) (m b r : ℕ) (at : List ℕ) (s : ℕ) (to : List ℕ) : Type 0 where
-  pub stepped : (h : Matrix) (n : ℕ) → Echelon h g n m b r at → Echelon h k n m (b + 1) s to
+-- The turn of bit b, which is cleared from the checks from `first` on. Where these are all checks, what was reduced in the bits below b is afterwards reduced
+-- in b too, if it is one of those to reduce in; where they are those from r on, what was in echelon form is afterwards so in b too.
+pub record Turned (first : ℕ) (g k : Matrix) (m b r : ℕ) (at : List ℕ) (s : ℕ) (to : List ℕ) : Type 0 where
+  pub whole : first ≡ 0 → (h : Matrix) (n : ℕ) (e : ℕ → Bool) → e b ≡ true → Reduction h g n m e b r at → Reduction h k n m e (b + 1) s to
+  pub below : first ≡ r → (h : Matrix) (n : ℕ) → Echelon h g n m b r at → Echelon h k n m (b + 1) s to

@@ -1,46 +1,65 @@
-// Elimination modulo 2: a copy of the checks, in rows of `width` words, is reduced in the bits that a word leaves unknown.
-pub mod checks;
-pub mod echelon;
+// Elimination modulo 2: rows of `width` words, one for each check, are reduced in the bits that a word leaves unknown, or brought to echelon form.
+mod checks;
 
 use crate::checks::add_check;
 use crate::checks::clear;
 use crate::checks::first_with;
 use crate::checks::row_of;
 use rows::next_one;
+ghost use mathlib.Core.Path.{_≡_};
 ghost use Prim.Native.Nat.{_*_, _<_, _≤_};
 ghost use lib.ListN.{length};
 ghost use Rattle.parity.specs.Matrix.{lent};
-ghost use Rattle.elimination.specs.Reduction.{FirstIn, Pivoted, Turned, Reduction};
+ghost use Rattle.elimination.specs.Reduction.{lifted, around, Turned, Reduction, Echelon};
 
-// Bit `b`, which check `p` contains, becomes the pivot of check `r`: no other check contains it afterwards.
-fn make_pivot(rows: &mut [u64], width: usize, checks: usize, p: usize, r: usize, b: usize)
-    requires { ⌜ (checks * width ≤ length (now rows)) × (width ≤ 8) × (b < width * 64) × (p < checks) ⌝ }
-    requires { ⌜ FirstIn (lent width (now rows)) checks r b p ⌝ }
-    ensures { λ _. ⌜ Pivoted (lent width (now (rows .entry))) (lent width (now (rows .exit))) checks p r b ⌝ }
+// Check `r` is added to each other check from `first` on that contains bit `b`.
+fn clear_around(rows: &mut [u64], width: usize, first: usize, checks: usize, r: usize, b: usize)
+    requires { ⌜ (checks * width ≤ length (now rows)) × (width ≤ 8) × (b < width * 64) × (first ≤ r) × (r < checks) ⌝ }
+    ensures { λ _. ⌜ lent width (now (rows .exit)) ≡ around first checks r b (lent width (now (rows .entry))) ⌝ }
+{
+    let row = row_of(rows, width, r);
+    if first < r {
+        clear(rows, width, first, r, row, b);
+    }
+    clear(rows, width, r + 1, checks, row, b);
+}
+
+// Bit `b`, which check `p` contains, becomes the pivot of check `r`: no other check from `first` on contains it afterwards.
+fn make_pivot(
+    rows: &mut [u64],
+    width: usize,
+    first: usize,
+    checks: usize,
+    p: usize,
+    r: usize,
+    b: usize,
+)
+    requires { ⌜ (checks * width ≤ length (now rows)) × (width ≤ 8) × (b < width * 64) × (first ≤ r) × (r < checks) × (p < checks) ⌝ }
+    ensures { λ _. ⌜ lent width (now (rows .exit)) ≡ around first checks r b (lifted p r (lent width (now (rows .entry)))) ⌝ }
 {
     if p != r {
         add_check(rows, width, p, r);
     }
-    let row = row_of(rows, width, r);
-    clear(rows, width, 0, r, row, b);
-    clear(rows, width, r + 1, checks, row, b);
+    clear_around(rows, width, first, checks, r, b);
 }
 
-// The turn of bit `b`: it becomes the pivot of check `r` if one from `r` on contains it. The answer is the number of pivots afterwards.
+// The turn of bit `b`: it becomes the pivot of check `r` if one from `r` on contains it, and is cleared from the checks from `first` on. The answer is the
+// number of pivots afterwards.
 fn turn(
     rows: &mut [u64],
     width: usize,
+    first: usize,
     checks: usize,
     r: usize,
     b: usize,
     pivots: &mut [usize],
 ) -> usize
-    requires { ⌜ (checks * width ≤ length (now rows)) × (width ≤ 8) × (b < width * 64) × (r ≤ checks) × (checks ≤ length (now pivots)) ⌝ }
-    ensures { λ s. ⌜ Turned (lent width (now (rows .entry))) (lent width (now (rows .exit))) checks b r (now (pivots .entry)) s (now (pivots .exit)) ⌝ }
+    requires { ⌜ (checks * width ≤ length (now rows)) × (width ≤ 8) × (b < width * 64) × (first ≤ r) × (r ≤ checks) × (checks ≤ length (now pivots)) ⌝ }
+    ensures { λ s. ⌜ Turned first (lent width (now (rows .entry))) (lent width (now (rows .exit))) checks b r (now (pivots .entry)) s (now (pivots .exit)) ⌝ }
 {
     let p = first_with(rows, width, checks, r, b);
     if p < checks {
-        make_pivot(rows, width, checks, p, r, b);
+        make_pivot(rows, width, first, checks, p, r, b);
         pivots[r] = b;
         return r + 1;
     }
@@ -63,8 +82,21 @@ pub fn reduce_in(
     let mut r: usize = 0;
     let mut b = next_one(set, width, 0, 0);
     while b < end {
-        r = turn(rows, width, checks, r, b, pivots);
+        r = turn(rows, width, 0, checks, r, b, pivots);
         b = next_one(set, width, 0, b + 1);
+    }
+    r
+}
+
+// Rows of two words, as given checks have, are brought to echelon form in their first `bits` bits: a pivot is cleared from the checks behind it alone, which
+// is half the work. The answer is the number of pivots, which stand in `pivots`, rising.
+pub fn to_echelon(rows: &mut [u64], checks: usize, bits: usize, pivots: &mut [usize]) -> usize
+    requires { ⌜ (checks * 2 ≤ length (now rows)) × (bits ≤ 128) × (checks ≤ length (now pivots)) ⌝ }
+    ensures { λ r. ⌜ Echelon (lent 2 (now (rows .entry))) (lent 2 (now (rows .exit))) bits checks bits r (now (pivots .exit)) ⌝ }
+{
+    let mut r: usize = 0;
+    for b in 0..bits {
+        r = turn(rows, 2, r, checks, r, b, pivots);
     }
     r
 }

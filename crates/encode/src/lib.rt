@@ -3,7 +3,7 @@ mod message;
 
 use crate::message::fill;
 use crate::message::place;
-use elimination::echelon::to_echelon;
+use elimination::to_echelon;
 use matrix::Accepting;
 use parity::Refusal;
 use rows::whole::copy_rows;

@@ -33,7 +33,7 @@ loop-holds c =
 turn-requires : tie.Need-turn-requires Inv-loop μ-loop
 turn-requires c κs =
     let l = c .before .before .before .loop in
-    (search needs, search needs, search needs, l .inv .4 .form .few, search needs)
+    (search needs, search needs, search needs, omega arith, l .inv .4 .form .few, search needs)
 
 add-next-one : tie.Need-add-next-one Inv-loop μ-loop
 add-next-one c = search needs
@@ -54,8 +54,8 @@ loop-again c =
       F .top,
       F .found,
       t .turn .kept .0 ∙ l .inv .2,
-      t .turn .kept .1 .1 .1 .1 .1 .0 ∙ l .inv .3,
-      reduction-over _ _ _ _ _ _ _ _ _ (F .least) (F .none) (t .turn .ensures .turned _ _ _ (l .inv .1 (omega arith)) (l .inv .4)),
+      t .turn .kept .1 .1 .1 .1 .1 .1 .0 ∙ l .inv .3,
+      reduction-over _ _ _ _ _ _ _ _ _ (F .least) (F .none) (t .turn .ensures .whole refl _ _ _ (l .inv .1 (omega arith)) (l .inv .4)),
     )
 
 same-length : tie.Need-same-length Inv-loop μ-loop

@@ -1,4 +1,4 @@
--- `echelon::to_echelon` meets its contract. Assumes nothing.
+-- `to_echelon` meets its contract. Assumes nothing.
 use Rattle.elimination.proofs.Echelons.{echelon-start}
 use Rattle.elimination.specs.Reduction.{Echelon}
 use Rattle.parity.specs.Matrix.{lent}
@@ -7,8 +7,8 @@ use borrow.Author.Needs.{needs}
 use native.Mathlib.Omega.{arith}
 use mathlib.Core.Path.{_≡_, refl, _∙_}
 use Prim.Native.Nat.{_≤_, _-_}
-use Rattle.elimination.proofs.echelon.to_echelon.Statement.{statement}
-use Rattle.elimination.proofs.echelon.to_echelon.Tie as tie
+use Rattle.elimination.proofs.to_echelon.Statement.{statement}
+use Rattle.elimination.proofs.to_echelon.Tie as tie
 
 abbrev Inv-loop : tie.InvT-loop
 Inv-loop rows₀ checks bits pivots₀ r₀ b₀ rows pivots r b =
@@ -20,10 +20,10 @@ abbrev μ-loop : tie.MeasureT-loop
 loop-holds : tie.Need-loop-holds Inv-loop μ-loop
 loop-holds c = (omega arith, refl, refl, echelon-start _ _ _ _)
 
-step-requires : tie.Need-step-requires Inv-loop μ-loop
-step-requires c κs =
+turn-requires : tie.Need-turn-requires Inv-loop μ-loop
+turn-requires c κs =
     let l = c .before .before .before .loop in
-    (omega (arith, l .inv .1), omega arith, l .inv .3 .reduction .form .few, omega (arith, l .inv .2))
+    (omega (arith, l .inv .1), omega arith, omega arith, omega arith, l .inv .3 .reduction .form .few, omega (arith, l .inv .2))
 
 add-b : tie.Need-add-b Inv-loop μ-loop
 add-b c = search needs
@@ -36,9 +36,9 @@ loop-again c =
     let t = c .before .before .before .before in
     let l = t .before .before .before .before .loop in (
       omega arith,
-      t .step .kept .0 ∙ l .inv .1,
-      t .step .kept .1 .1 .1 .1 .0 ∙ l .inv .2,
-      t .step .ensures .stepped _ _ (l .inv .3),
+      t .turn .kept .0 ∙ l .inv .1,
+      t .turn .kept .1 .1 .1 .1 .1 .1 .0 ∙ l .inv .2,
+      t .turn .ensures .below refl _ _ (l .inv .3),
     )
 
 same-length : tie.Need-same-length Inv-loop μ-loop
@@ -60,7 +60,7 @@ to-echelon-spec =
     Inv-loop
     μ-loop
     loop-holds
-    step-requires
+    turn-requires
     add-b
     loop-less
     loop-again

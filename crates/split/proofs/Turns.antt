@@ -27,21 +27,21 @@ use Rattle.columns.specs.Splits.{parted, Parted}
 use Rattle.columns.proofs.Shares.{together-le, together-top, together-none, together-share}
 use Rattle.columns.proofs.Splitting.{parted-columns}
 use Rattle.pairs.specs.Rows.{inBoth}
-use Rattle.choice.specs.Bounds.{Bounded, Head, Picked, NoPair, Narrow, Raised, Weights}
+use Rattle.choice.specs.Bounds.{Bounded, Head, Picked, NoPair, Narrow, Weights}
 use Rattle.choice.proofs.RowBounds.{bounded-split, raised-head, weights-bound, weights-head}
 use Rattle.split.specs.Answers.{courseReply}
 use Rattle.exchange.specs.Merge.{Apart, Both}
-use Rattle.split.specs.Turns.{Meet, Ended}
+use Rattle.split.specs.Turns.{Ready, Turned, Ended}
 use Rattle.exchange.proofs.Common.{twice}
 
--- the columns of the given checks meet in the checks that contain both bits
-columns-meet : (h : Matrix) (m M z u v : ℕ) → Clean h z M → Apart h m M u v → (g : Matrix) → Columns m h g → Meet h g u v
-columns-meet h m M z u v K A g C = record { at = λ c. rw (C .at u c, C .at v c) (twice h m M z u v K A c) }
-
 -- the column of the new bit
-pub both-parted : (h g g' : Matrix) (u v z : ℕ) → Meet h g u v → Parted g g' u v z → Both h u v (g' z)
+pub both-parted : (h g g' : Matrix) (N M u v : ℕ) → Ready h g N M u v → Parted g g' u v N → Both h u v (g' N)
 unfolding parted
-both-parted h g g' u v z T P = record { at = λ c. P .at z c ∙ rw (eq-eqb z z refl) (T .at c) }
+both-parted h g g' N M u v R P = record { at = λ c. P .at N c ∙ rw (eq-eqb N N refl) (R .meet c) }
+
+-- the columns of the given checks after the split
+pub given-parted : (h g g' : Matrix) (N M u v : ℕ) → Ready h g N M u v → Parted g g' u v N → Given (splitOf h N M u v) g'
+given-parted h g g' N M u v R P = record { checks = R .given; few = R .few; columns = parted-columns h g g' (R .given) M N u v (R .before) (R .columns) P }
 
 -- has the lowest and the highest check that held the pair
 pub held-parted : (h : Matrix) (cols : List ℕ) (u v z M : ℕ) → Clean h z M → Both h u v (lent 2 cols z)
@@ -171,23 +171,23 @@ module _ (h₀ : Matrix) (n m k₀ : ℕ) (h g : Matrix) (bound : List ℕ) (k s
     pub share-few : s ≤ 128
     share-few = omega (arith, together-top 2 g u v, P .here)
 
-    pub product-few : s * (s - 1) ≤ 16257
-    unfolding pairs
-    product-few = let f = share-few in omega (arith, pairs-few (128 - s) s (omega arith))
-
-    pub picked-meet : Meet h g u v
-    picked-meet =
+    pub picked-ready : Ready h g (n + k) (m + k) u v
+    picked-ready =
         let A : Apart h m (m + k) u v =
         record { never = apart h n m k (S .sound) u v (omega (arith, P .low, P .high)) (P .high) (λ q. omega (arith, P .low)) (omega (arith, here, P .two)) } in
-        columns-meet h m (m + k) (n + k) u v (S .sound .clean) A g (S .columns)
+        record {
+          clean = S .sound .clean;
+          given = m;
+          few = S .sound .m120;
+          before = omega arith;
+          columns = S .columns;
+          meet = λ c. rw (S .columns .at u c, S .columns .at v c) (twice h m (m + k) (n + k) u v (S .sound .clean) A c);
+        }
 
-    -- after the split
-    module _ (small : k < 392) (h' g' : Matrix) (T : h' ≡ splitOf h (n + k) (m + k) u v) (Q : Parted g g' u v (n + k)) where
+    -- after a turn
+    module _ (small : k < 392) (h' g' : Matrix) (bound' held' : List ℕ) (T : Turned h h' g g' bound bound' (n + k) (m + k) u v held') where
       C : Columns m (splitOf h (n + k) (m + k) u v) g'
-      C = parted-columns h g g' m (m + k) (n + k) u v (omega arith) (S .columns) Q
-
-      pub split-columns : Columns m h' g'
-      split-columns = rw T C
+      C = parted-columns h g g' m (m + k) (n + k) u v (omega arith) (S .columns) (T .columns)
 
       -- old bits are in no more given checks, and the new one in checks of both
       fewer : (x c : ℕ) → x < n + k → g' x c ≡ true → g x c ≡ true
@@ -209,30 +209,31 @@ module _ (h₀ : Matrix) (n m k₀ : ℕ) (h g : Matrix) (bound : List ℕ) (k s
             | no q ↦ absurd (false≢true (rw (le-ltb c m (omega arith)) at (sym (C .at (n + k) c) ∙ e)))
           ]
 
-      module _ (bound' : List ℕ) (R : Raised (together 2 g') (n + k) bound bound' (n + k)) where
-        pub head-split : Head bound (n + k) u s → Head bound' (n + (k + 1)) u s
-        head-split H =
-            let z : n + (k + 1) ≡ n + k + 1 = omega arith in
-            rw z (raised-head (together 2 g) (together 2 g') (n + k) u v s bound bound' P H R
-            (λ x xl. together-le 2 g' g x (n + k) u v (λ c a b. newer c b)) (λ x xl. together-le 2 g' g x (n + k) x u (λ c a b. (fewer x c xl a, newer c b .0))))
+      pub head-split : Head bound (n + k) u s → Head bound' (n + (k + 1)) u s
+      head-split H =
+          let z : n + (k + 1) ≡ n + k + 1 = omega arith in
+          rw z (raised-head (together 2 g) (together 2 g') (n + k) u v s bound bound' P H (T .bounds)
+          (λ x xl. together-le 2 g' g x (n + k) u v (λ c a b. newer c b)) (λ x xl. together-le 2 g' g x (n + k) x u (λ c a b. (fewer x c xl a, newer c b .0))))
 
-        pub stands-split : (held' : List ℕ) → held' ≡ heldBy h (m + k) u v → Stands h₀ n m k₀ h' g' bound' (k + 1) (splits + 1) (total + s * (s - 1) / 2) held'
-        unfolding pairs
-        stands-split held' E =
-            let (t, x, y) = chosen-is in
-            let z : n + (k + 1) ≡ n + k + 1 = omega arith in
-            let at = here in
-            let two = P .two in
-            let left : 393 - (k + 1) ≡ 392 - k = omega arith in
-            let f = pairs-few (128 - s) s (omega (arith, share-few)) in
-            record {
-              sound = rw (T, add-one k) (split-sound h n m k u v (S .sound) (omega (arith, P .low, P .high)) (P .high) (λ q. omega (arith, P .low)) (omega arith) small);
-              columns = split-columns;
-              bounded = rw z (bounded-split (together 2 g) (together 2 g') (n + k) bound bound' (S .bounded) (λ x y xl yl. together-le 2 g' g x y x y (λ c a b. (fewer x c xl a, fewer y c yl b))) R);
-              count = omega (arith, S .count);
-              few = omega (arith, S .few);
-              same = S .same ∙ rw turns-left (repeats (392 - k) h n m k splits total held (omega arith) (λ q. omega arith) ∙ rw (x, y, t, at, T, left, add-one k, add-one splits, E));
-            }
+      pub stands-split : Stands h₀ n m k₀ h' g' bound' (k + 1) (splits + 1) (total + s * (s - 1) / 2) held'
+      unfolding pairs
+      stands-split =
+          let (t, x, y) = chosen-is in
+          let z : n + (k + 1) ≡ n + k + 1 = omega arith in
+          let at = here in
+          let two = P .two in
+          let left : 393 - (k + 1) ≡ 392 - k = omega arith in
+          let f = pairs-few (128 - s) s (omega (arith, share-few)) in
+          let e = T .matrix in
+          let held-is = T .holders in
+          record {
+            sound = rw (e, add-one k) (split-sound h n m k u v (S .sound) (omega (arith, P .low, P .high)) (P .high) (λ q. omega (arith, P .low)) (omega arith) small);
+            columns = rw e C;
+            bounded = rw z (bounded-split (together 2 g) (together 2 g') (n + k) bound bound' (S .bounded) (λ x y xl yl. together-le 2 g' g x y x y (λ c a b. (fewer x c xl a, fewer y c yl b))) (T .bounds));
+            count = omega (arith, S .count);
+            few = omega (arith, S .few);
+            same = S .same ∙ rw turns-left (repeats (392 - k) h n m k splits total held (omega arith) (λ q. omega arith) ∙ rw (x, y, t, at, e, left, add-one k, add-one splits, held-is));
+          }
 
 -- what the turns came to is the outcome
 module _ (h : Matrix) (n m k : ℕ) (h' : Matrix) (finished : Bool) (splits total k' : ℕ) (held : List ℕ) (E : Ended h n m k h' finished splits total k' held) where

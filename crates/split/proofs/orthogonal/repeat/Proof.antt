@@ -1,24 +1,24 @@
--- `repeat` meets its contract. Assumes nothing.
+-- `orthogonal::repeat` meets its contract. Assumes nothing.
 use mathlib.Core.Path.{_≡_, refl, sym, _∙_}
+use mathlib.Core.Bool.{false}
 use Prim.Native.Nat.{_+_, _-_}
 use native.Mathlib.Omega.{arith}
 use lib.ListN.{length}
 use Rattle.parity.specs.Matrix.{lent}
 use Rattle.parity.specs.Causes.{heldValues}
 use Rattle.choice.specs.Bounds.{Head}
-use Rattle.split.proofs.Turns.{Stands, stands-start, head-start, stands-bound, ends-finished, ends-full, product-few, picked-meet, split-columns, stands-split, head-split, given-columns, narrow-columns}
+use Rattle.split.proofs.Turns.{Stands, stands-start, head-start, stands-bound, ends-finished, ends-full, share-few, picked-ready, stands-split, head-split, given-columns, narrow-columns}
 use borrow.Author.Needs.{needs}
 use Rattle.split.proofs.orthogonal.repeat.Statement.{statement}
 use Rattle.split.proofs.orthogonal.repeat.Tie as tie
 
 abbrev Inv-loop : tie.InvT-loop
-Inv-loop words₀ n m k cols₀ bound₀ first₀ cap₀ now-k₀ splits₀ sum₀ held₀ words cols bound first cap now-k splits sum held =
-    (length words ≡ length words₀) × (length cols ≡ 1024) × (length bound ≡ 512)
-    × Stands (lent 8 words₀) n m k (lent 8 words) (lent 2 cols) bound now-k splits sum (heldValues held) × Head bound (n + now-k) (first .0) cap
+Inv-loop words₀ n m k cols₀ bound₀ first₀ cap₀ at₀ words cols bound first cap at =
+    (length words ≡ length words₀) × (length cols ≡ 1024) × (length bound ≡ 512) × (at .finished ≡ false)
+    × Stands (lent 8 words₀) n m k (lent 8 words) (lent 2 cols) bound (at .k) (at .splits) (at .sum) (heldValues (at .held)) × Head bound (n + at .k) (first .0) cap
 
 abbrev μ-loop : tie.MeasureT-loop
-μ-loop words₀ n m k cols₀ bound₀ first₀ cap₀ now-k₀ splits₀ sum₀ held₀ words cols bound first cap now-k splits sum held =
-    392 - now-k
+μ-loop words₀ n m k cols₀ bound₀ first₀ cap₀ at₀ words cols bound first cap at = 392 - at .k
 
 given-columns-requires : tie.Need-given-columns-requires Inv-loop μ-loop
 given-columns-requires c κs = let s = c .before .before in (s .pre .0, omega (arith, s .pre .1 .m120))
@@ -32,132 +32,114 @@ add-weights c = let A = c .before .before .before .before .pre .1 in omega (arit
 weights-requires : tie.Need-weights-requires Inv-loop μ-loop
 weights-requires c κs = let A = c .before .before .before .before .pre .1 in (search needs, omega (arith, A .n120, A .k392))
 
+start-requires : tie.Need-start-requires Inv-loop μ-loop
+start-requires c κs = search needs
+
 loop-holds : tie.Need-loop-holds Inv-loop μ-loop
 loop-holds c =
-    let s = c .before .before .before .before .before in
-    let C = c .before .before .given-columns .ensures in
-    let W = c .weights .ensures in
-    (refl, search needs, search needs, stands-start _ _ _ _ _ _ (s .pre .1) C W, head-start _ _ _ W)
+    let W = c .before .weights .ensures in
+    let e = c .start .ensures in (
+      refl,
+      search needs,
+      search needs,
+      e .0,
+      rw (e .1, e .2, e .3, e .4) (stands-start _ _ _ _ _ _ (c .before .before .before .before .before .before .pre .1) (c .before .before .before .given-columns .ensures) W),
+      rw (e .3) (head-start _ _ _ W),
+    )
 
 add-pick : tie.Need-add-pick Inv-loop μ-loop
-add-pick c = let A = c .loop .inv .3 .sound in omega (arith, A .n120, A .k392)
+add-pick c = let A = c .before .loop .inv .4 .sound in omega (arith, A .n120, A .k392)
 
 add-pick-2 : tie.Need-add-pick-2 Inv-loop μ-loop
-add-pick-2 c = let A = c .loop .inv .3 .sound in omega (arith, A .m120, A .k392)
+add-pick-2 c = let A = c .before .before .loop .inv .4 .sound in omega (arith, A .m120, A .k392)
 
 slice-aggregate-pick : tie.Need-slice-aggregate-pick Inv-loop μ-loop
-slice-aggregate-pick c = sym (c .before .before .loop .inv .1)
+slice-aggregate-pick c = sym (c .before .before .before .before .loop .inv .1)
 
 add-pick-3 : tie.Need-add-pick-3 Inv-loop μ-loop
-add-pick-3 c = let A = c .before .before .loop .inv .3 .sound in omega (arith, A .n120, A .k392)
+add-pick-3 c = let A = c .before .before .before .before .before .loop .inv .4 .sound in omega (arith, A .n120, A .k392)
 
 slice-aggregate-pick-2 : tie.Need-slice-aggregate-pick-2 Inv-loop μ-loop
-slice-aggregate-pick-2 c = sym (c .before .before .before .loop .inv .2)
+slice-aggregate-pick-2 c = sym (c .before .before .before .before .before .before .loop .inv .2)
 
 pick-requires : tie.Need-pick-requires Inv-loop μ-loop
 pick-requires c κs =
-    let l = c .before .before .before .loop in
-    let S = l .inv .3 in
-    let A = S .sound in
-    let s = c .before .before .before .before .before .before .before .before .before in (
-      (l .inv .0 ∙ s .pre .0, l .inv .1, l .inv .2, omega (arith, A .n120, A .k392)),
-      ((given-columns _ _ _ (A .m120) (S .columns), narrow-columns _ _ _ _ _ A (S .columns)), (S .bounded, l .inv .4)),
+    let l = c .before .before .before .before .before .before .loop in
+    let S = l .inv .4 in
+    let A = S .sound in (
+      (l .inv .0 ∙ c .before .before .before .before .before .before .before .before .before .before .before .before .before .pre .0, l .inv .1, l .inv .2, omega (arith, A .n120, A .k392)),
+      ((given-columns _ _ _ (A .m120) (S .columns), narrow-columns _ _ _ _ _ A (S .columns)), (S .bounded, l .inv .5)),
     )
 
 enum-told : tie.Need-enum-told Inv-loop μ-loop
 enum-told c = search needs
 
+finish-requires : tie.Need-finish-requires Inv-loop μ-loop
+finish-requires c κs = search needs
+
 same-length : tie.Need-same-length Inv-loop μ-loop
-same-length c = c .before .before .before .before .before .before .before .loop .inv .0
+same-length c = c .before .before .before .before .before .before .before .before .before .before .before .loop .inv .0
 
 returns : tie.Need-returns Inv-loop μ-loop
-returns c = ends-finished _ _ _ _ _ _ _ _ _ _ _ (c .before .before .before .before .before .before .before .loop .inv .3) (rw (c .enum-told .given .1) at (c .before .before .before .pick .ensures .0))
+returns c =
+    let f = c .finish .ensures in
+    rw (f .0, f .1, f .2, f .3, f .4) (ends-finished _ _ _ _ _ _ _ _ _ _ _ (c .before .before .before .before .before .before .before .before .before .before .before .loop .inv .4) (rw (c .before .enum-told .given .1) at (c .before .before .before .before .pick .ensures .0)))
 
-enum-known-choice : tie.Need-enum-known-choice Inv-loop μ-loop
-enum-known-choice c = search needs
+enum-known-low : tie.Need-enum-known-low Inv-loop μ-loop
+enum-known-low c = search needs
 
 same-length-2 : tie.Need-same-length-2 Inv-loop μ-loop
-same-length-2 c = c .before .before .before .before .before .before .before .before .before .loop .inv .0
+same-length-2 c = c .before .before .before .before .before .before .before .before .before .before .before .before .before .loop .inv .0
 
 returns-2 : tie.Need-returns-2 Inv-loop μ-loop
 returns-2 c =
-    let X = rw (c .before .before .choice .given .1) at (c .before .before .before .before .before .pick .ensures .0) in
-    ends-full _ _ _ _ _ _ _ _ _ _ _ (c .before .before .before .before .before .before .before .before .before .loop .inv .3) _ _ _ (X .0) (c .if1 .taken)
+    let X = rw (c .before .before .before .low .given .1) at (c .before .before .before .before .before .before .pick .ensures .0) in
+    rw (c .before .before .before .before .before .before .before .before .before .before .before .before .before .loop .inv .3) (ends-full _ _ _ _ _ _ _ _ _ _ _ (c .before .before .before .before .before .before .before .before .before .before .before .before .before .loop .inv .4) _ _ _ (X .0) (c .if1 .taken))
 
 slice-aggregate-turn : tie.Need-slice-aggregate-turn Inv-loop μ-loop
-slice-aggregate-turn c = sym (c .before .before .before .before .before .before .before .before .before .before .before .loop .inv .1)
+slice-aggregate-turn c = sym (c .before .before .before .before .before .before .before .before .before .before .before .before .before .before .before .loop .inv .1)
+
+slice-aggregate-turn-2 : tie.Need-slice-aggregate-turn-2 Inv-loop μ-loop
+slice-aggregate-turn-2 c = sym (c .before .before .before .before .before .before .before .before .before .pick .kept .1 .1 .1 .0 ∙ c .before .before .before .before .before .before .before .before .before .before .before .before .before .before .before .before .loop .inv .2)
 
 turn-requires : tie.Need-turn-requires Inv-loop μ-loop
 turn-requires c κs =
-    let l = c .before .before .before .before .before .before .before .before .before .before .before .loop in
-    let S = l .inv .3 in
+    let l = c .before .before .before .before .before .before .before .before .before .before .before .before .before .before .before .before .loop in
+    let S = l .inv .4 in
     let A = S .sound in
-    let s = c .before .before .before .before .before .before .before .before .before .before .before .before .before .before .before .before .before in
-    let X = rw (c .before .before .before .before .choice .given .1) at (c .before .before .before .before .before .before .before .pick .ensures .0) in
-    let room = c .before .before .if1 .left in (
-      (l .inv .0 ∙ s .pre .0, l .inv .1, omega (arith, A .m120, A .k392), X .0 .low, X .0 .high, omega (arith, A .n120, A .k392)),
-      (A .clean, picked-meet _ _ _ _ _ _ _ _ _ _ _ S _ _ _ (X .0)),
+    let X = rw (c .before .before .before .before .before .before .low .given .1) at (c .before .before .before .before .before .before .before .before .before .pick .ensures .0) in
+    let room = c .before .before .before .if1 .left in (
+      (l .inv .0 ∙ c .before .before .before .before .before .before .before .before .before .before .before .before .before .before .before .before .before .before .before .before .before .before .before .pre .0, l .inv .1, c .before .before .before .before .before .before .before .before .before .pick .kept .1 .1 .1 .0 ∙ l .inv .2, omega (arith, A .m120, A .k392), X .0 .low, X .0 .high, omega (arith, A .n120, A .k392)),
+      picked-ready _ _ _ _ _ _ _ _ _ _ _ S _ _ _ (X .0),
     )
 
-slice-aggregate-widen : tie.Need-slice-aggregate-widen Inv-loop μ-loop
-slice-aggregate-widen c = sym (c .before .before .before .before .before .turn .kept .1 .0 ∙ c .before .before .before .before .before .before .before .before .before .before .before .before .before .before .before .before .before .loop .inv .1)
-
-slice-aggregate-widen-2 : tie.Need-slice-aggregate-widen-2 Inv-loop μ-loop
-slice-aggregate-widen-2 c = sym (c .before .before .before .before .before .before .before .before .before .before .before .before .before .before .pick .kept .1 .1 .1 .0 ∙ c .before .before .before .before .before .before .before .before .before .before .before .before .before .before .before .before .before .before .loop .inv .2)
-
-widen-requires : tie.Need-widen-requires Inv-loop μ-loop
-widen-requires c κs =
-    let l = c .before .before .before .before .before .before .before .before .before .before .before .before .before .before .before .before .before .before .loop in
-    let S = l .inv .3 in
-    let A = S .sound in
-    let room = c .before .before .before .before .before .before .before .before .before .if1 .left in
-    let told = c .before .before .before .before .before .before .turn in
-    let s = c .before .before .before .before .before .before .before .before .before .before .before .before .before .before .before .before .before .before .before .before .before .before .before .before in
-    let pick = c .before .before .before .before .before .before .before .before .before .before .before .before .before .before .pick in
-    let X = rw (c .before .before .before .before .before .before .before .before .before .before .before .choice .given .1) at (pick .ensures .0) in (
-      (told .kept .0 ∙ l .inv .0 ∙ s .pre .0, told .kept .1 .0 ∙ l .inv .1, pick .kept .1 .1 .1 .0 ∙ l .inv .2, omega (arith, A .n120, A .k392)),
-      given-columns _ _ _ (A .m120) (split-columns _ _ _ _ _ _ _ _ _ _ _ S _ _ _ (X .0) (omega (arith, A .k392)) _ _ (told .ensures .0) (told .ensures .1)),
-    )
-
-add-splits : tie.Need-add-splits Inv-loop μ-loop
-add-splits c = let S = c .before .before .before .before .before .before .before .before .before .before .before .before .before .before .before .before .before .before .before .before .loop .inv .3 in omega (arith, S .count, S .sound .k392)
-
-sub-sum : tie.Need-sub-sum Inv-loop μ-loop
-sub-sum c =
-    let X = rw (c .before .before .before .before .before .before .before .before .before .before .before .before .before .choice .given .1) at (c .before .before .before .before .before .before .before .before .before .before .before .before .before .before .before .before .pick .ensures .0) in
-    omega (arith, X .0 .two)
-
-mul-sum : tie.Need-mul-sum Inv-loop μ-loop
-mul-sum c =
-    let X = rw (c .before .before .before .before .before .before .before .before .before .before .before .before .before .choice .given .1) at (c .before .before .before .before .before .before .before .before .before .before .before .before .before .before .before .before .pick .ensures .0) in
-    omega (arith, product-few _ _ _ _ _ _ _ _ _ _ _ (c .before .before .before .before .before .before .before .before .before .before .before .before .before .before .before .before .before .before .before .before .loop .inv .3) _ _ _ (X .0))
-
-add-sum : tie.Need-add-sum Inv-loop μ-loop
-add-sum c =
-    let S = c .before .before .before .before .before .before .before .before .before .before .before .before .before .before .before .before .before .before .before .before .loop .inv .3 in
-    let X = rw (c .before .before .before .before .before .before .before .before .before .before .before .before .before .choice .given .1) at (c .before .before .before .before .before .before .before .before .before .before .before .before .before .before .before .before .pick .ensures .0) in
-    omega (arith, product-few _ _ _ _ _ _ _ _ _ _ _ S _ _ _ (X .0), S .few, S .count, S .sound .k392)
-
-add-now-k : tie.Need-add-now-k Inv-loop μ-loop
-add-now-k c = let A = c .before .before .before .before .before .before .before .before .before .before .before .before .before .before .before .before .before .before .before .before .loop .inv .3 .sound in omega (arith, A .k392)
+counted-requires : tie.Need-counted-requires Inv-loop μ-loop
+counted-requires c κs =
+    let S = c .before .before .before .before .before .before .before .before .before .before .before .before .before .before .before .before .before .before .before .before .before .loop .inv .4 in
+    let X = rw (c .before .before .before .before .before .before .before .before .before .before .before .low .given .1) at (c .before .before .before .before .before .before .before .before .before .before .before .before .before .before .pick .ensures .0) in
+    let room = c .before .before .before .before .before .before .before .before .if1 .left in
+    (omega (arith, S .count, S .sound .k392), S .few, X .0 .two, share-few _ _ _ _ _ _ _ _ _ _ _ S _ _ _ (X .0), omega (arith, S .sound .k392))
 
 loop-less : tie.Need-loop-less Inv-loop μ-loop
-loop-less c = let A = c .before .before .before .before .before .before .before .before .before .before .before .before .before .before .before .before .before .before .before .before .loop .inv .3 .sound in omega (arith, A .k392, c .before .before .before .before .before .before .before .before .before .before .before .if1 .left)
+loop-less c =
+    let room = c .before .before .before .before .before .before .before .before .before .if1 .left in
+    omega (arith, c .before .before .before .before .before .before .before .before .before .before .before .before .before .before .before .before .before .before .before .before .before .before .loop .inv .4 .sound .k392, c .counted .ensures .3)
 
 loop-again : tie.Need-loop-again Inv-loop μ-loop
 loop-again c =
-    let l = c .before .before .before .before .before .before .before .before .before .before .before .before .before .before .before .before .before .before .before .before .loop in
-    let pick = c .before .before .before .before .before .before .before .before .before .before .before .before .before .before .before .before .pick in
-    let S = stands-bound _ _ _ _ _ _ _ _ _ _ _ _ (l .inv .3) (pick .ensures .1) in
-    let X = rw (c .before .before .before .before .before .before .before .before .before .before .before .before .before .choice .given .1) at (pick .ensures .0) in
-    let room = c .before .before .before .before .before .before .before .before .before .before .before .if1 .left in
-    let told = c .before .before .before .before .before .before .before .before .turn in
-    let wide = c .before .widen in (
+    let l = c .before .before .before .before .before .before .before .before .before .before .before .before .before .before .before .before .before .before .before .before .before .before .loop in
+    let pick = c .before .before .before .before .before .before .before .before .before .before .before .before .before .before .before .pick in
+    let S = stands-bound _ _ _ _ _ _ _ _ _ _ _ _ (l .inv .4) (pick .ensures .1) in
+    let X = rw (c .before .before .before .before .before .before .before .before .before .before .before .before .low .given .1) at (pick .ensures .0) in
+    let room = c .before .before .before .before .before .before .before .before .before .if1 .left in
+    let told = c .before .before .before .before .before .turn in
+    let e = c .counted .ensures in (
       told .kept .0 ∙ l .inv .0,
       told .kept .1 .0 ∙ l .inv .1,
-      wide .kept .1 .1 .1 .0 ∙ pick .kept .1 .1 .1 .0 ∙ l .inv .2,
-      stands-split _ _ _ _ _ _ _ _ _ _ _ S _ _ _ (X .0) (omega (arith, S .sound .k392)) _ _ (told .ensures .0) (told .ensures .1) _ (wide .ensures) _ (told .ensures .2),
-      head-split _ _ _ _ _ _ _ _ _ _ _ S _ _ _ (X .0) (omega (arith, S .sound .k392)) _ _ (told .ensures .0) (told .ensures .1) _ (wide .ensures) (X .1),
+      told .kept .1 .1 .0 ∙ pick .kept .1 .1 .1 .0 ∙ l .inv .2,
+      e .0 ∙ l .inv .3,
+      rw (e .1, e .2, e .3, e .4) (stands-split _ _ _ _ _ _ _ _ _ _ _ S _ _ _ (X .0) (omega (arith, S .sound .k392)) _ _ _ _ (told .ensures)),
+      rw (e .3) (head-split _ _ _ _ _ _ _ _ _ _ _ S _ _ _ (X .0) (omega (arith, S .sound .k392)) _ _ _ _ (told .ensures) (X .1)),
     )
 
 pub repeat-spec : {M : Type 1} → statement M
@@ -170,6 +152,7 @@ repeat-spec =
     slice-aggregate-weights
     add-weights
     weights-requires
+    start-requires
     loop-holds
     add-pick
     add-pick-2
@@ -178,20 +161,15 @@ repeat-spec =
     slice-aggregate-pick-2
     pick-requires
     enum-told
+    finish-requires
     same-length
     returns
-    enum-known-choice
+    enum-known-low
     same-length-2
     returns-2
     slice-aggregate-turn
+    slice-aggregate-turn-2
     turn-requires
-    slice-aggregate-widen
-    slice-aggregate-widen-2
-    widen-requires
-    add-splits
-    sub-sum
-    mul-sum
-    add-sum
-    add-now-k
+    counted-requires
     loop-less
     loop-again)

@@ -27,7 +27,7 @@ use Rattle.elimination.proofs.Clearing.{same-at}
 use Rattle.elimination.proofs.Turns.{reduced-in, reduction-below}
 use Rattle.elimination.proofs.Reduced.{pivot-at, pivot-of, the-row}
 use Rattle.residue.specs.Rows.{Copied, Gathered, EvenFrom, alone, aloneOdd, PivotsWritten, Low}
-use Rattle.residue.specs.Sets.{Apart, Determined}
+use Rattle.residue.specs.Sets.{Apart, Posed, Determined, Eliminated}
 use Rattle.residue.proofs.Gathering.{narrow}
 use Rattle.residue.proofs.Reading.{inside-in, consistent, some-agrees, at-pivot, at-free, at-bound}
 
@@ -211,23 +211,25 @@ width-few N W k l = omega arith
 pub few-words : (a b : ℕ) → a ≤ 512 → b ≤ 8 → a * b ≤ 4096
 few-words a b k l = omega (arith, mul-le-mul-right b k)
 
--- On words: a check and the sets have U, a row has W.
-module _ (ws es os : List ℕ) (N M U W : ℕ) (few : N ≤ 512) (wide : W ≤ U) (most : W * 64 ≤ 512) (room : N ≤ W * 64) (A : Apart N (lent U es 0) (lent U os 0))
-    (t : agreeing (lent U ws) 512 M (lent U es 0) (lent U os 0) ≡ true) (g k : Matrix) (L r : ℕ) (at : List ℕ)
-    (G : Gathered (lent U ws) g (W * 64) M (lent U es 0) L) (R : Reduction g k (W * 64) L (lent W es 0) (W * 64) r at) where
+-- On words: a check and the sets have eight, a row has W.
+module _ (ws es os ls vs : List ℕ) (N M W : ℕ) (P : Posed W ws N M es os ls vs) (g k : Matrix) (L r : ℕ) (at : List ℕ)
+    (G : Gathered (lent 8 ws) g (W * 64) M (lent 8 es 0) L) (R : Reduction g k (W * 64) L (lent W es 0) (W * 64) r at) where
+  most : W * 64 ≤ 512
+  most = omega (arith, P .narrow)
+
   pub rows-low : Low r 512 at
-  rows-low = record { low = λ c l. omega (arith, R .form .low c l) }
+  rows-low = record { low = λ c l. omega (arith, R .form .low c l, most) }
 
   -- a row without a pivot is uneven
-  pub rows-none : EvenFrom k (W * 64) r L (lent W os 0) false → (l v : List ℕ) → l ≡ es → Determined (lent U ws) N M (lent U es 0) (lent U os 0) false (lent U l 0) (lent U v 0)
-  rows-none E l v p =
-      refused (lent U ws) N M (lent U es 0) (lent U os 0) few A
-      (eliminated-none (lent U ws) N M (lent U es 0) (lent U os 0) few A t g k (W * 64) L r at (lent W es 0) (lent W os 0) room (omega arith) (narrow W U wide es) (narrow W U wide os) (lent-out W es 0) (lent-out W os 0) G R E)
-      (lent U l 0) (lent U v 0) (λ b q. rw p at q)
+  pub rows-none : EvenFrom k (W * 64) r L (lent W os 0) false → Eliminated ws N M es os false ls vs
+  rows-none E =
+      refused (lent 8 ws) N M (lent 8 es 0) (lent 8 os 0) (P .given .bits) (P .given .apart)
+      (eliminated-none (lent 8 ws) N M (lent 8 es 0) (lent 8 os 0) (P .given .bits) (P .given .apart) (P .even) g k (W * 64) L r at (lent W es 0) (lent W os 0) (P .wide) most (narrow W 8 (P .narrow) es) (narrow W 8 (P .narrow) os) (lent-out W es 0) (lent-out W os 0) G R E)
+      (lent 8 ls 0) (lent 8 vs 0) (λ b q. rw (P .given .left) at q)
 
   -- all are even, and pivots are written
-  pub rows-some : EvenFrom k (W * 64) r L (lent W os 0) true → (l v : List ℕ) → l ≡ es → v ≡ os → (l' v' : ℕ → Bool)
-      → PivotsWritten k (W * 64) (lent W es 0) (lent W os 0) at r (lent U l 0) (lent U v 0) l' v' → Determined (lent U ws) N M (lent U es 0) (lent U os 0) true l' v'
-  rows-some E l v p q l' v' P =
-      eliminated-some (lent U ws) N M (lent U es 0) (lent U os 0) few A t g k (W * 64) L r at (lent W es 0) (lent W os 0) room (omega arith) (narrow W U wide es) (narrow W U wide os) (lent-out W es 0) (lent-out W os 0) G R
-      E l' v' (rw (p, q) at P)
+  pub rows-some : EvenFrom k (W * 64) r L (lent W os 0) true → (l' v' : ℕ → Bool)
+      → PivotsWritten k (W * 64) (lent W es 0) (lent W os 0) at r (lent 8 ls 0) (lent 8 vs 0) l' v' → Determined (lent 8 ws) N M (lent 8 es 0) (lent 8 os 0) true l' v'
+  rows-some E l' v' Q =
+      eliminated-some (lent 8 ws) N M (lent 8 es 0) (lent 8 os 0) (P .given .bits) (P .given .apart) (P .even) g k (W * 64) L r at (lent W es 0) (lent W os 0) (P .wide) most (narrow W 8 (P .narrow) es) (narrow W 8 (P .narrow) os) (lent-out W es 0) (lent-out W os 0) G R
+      E l' v' (rw (P .given .left, P .given .values) at Q)

@@ -3,13 +3,9 @@ use crate::gather::gather;
 use crate::pivots::even_from;
 use crate::pivots::write_pivots;
 use elimination::reduce_in;
-ghost use mathlib.Core.Path.{_≡_};
-ghost use mathlib.Core.Bool.{true};
 ghost use Prim.Native.Nat.{_*_, _≤_};
 ghost use lib.ListN.{length};
-ghost use Rattle.parity.specs.Matrix.{lent};
-ghost use Rattle.steps.specs.Steps.{agreeing};
-ghost use Rattle.residue.specs.Sets.{Apart, Determined};
+ghost use Rattle.residue.specs.Sets.{Posed, Eliminated};
 
 // Elimination with the checks that touch the residue, in rows of `width` words that are lent, and so are the places of the pivots. Whether some
 // codeword agrees with the known bits; if so, each bit that is determined leaves `left`, and enters `values` if it is a one.
@@ -25,9 +21,8 @@ fn eliminate_in(
     rows: &mut [u64],
     pivots: &mut [usize],
 ) -> bool
-    requires { ⌜ (length (now words) ≡ 4096) × (bits ≤ 512) × (checks ≤ 512) × (length (now residue) ≡ 8) × (length (now known) ≡ 8) × (now left ≡ now residue) × (now values ≡ now known) × (width ≤ 8) × (bits ≤ width * 64) × (checks * width ≤ length (now rows)) × (checks ≤ length (now pivots)) ⌝ }
-    requires { ⌜ Apart bits (lent 8 (now residue) 0) (lent 8 (now known) 0) × (agreeing (lent 8 (now words)) 512 checks (lent 8 (now residue) 0) (lent 8 (now known) 0) ≡ true) ⌝ }
-    ensures { λ r. ⌜ Determined (lent 8 (now (words .entry))) bits checks (lent 8 (now (residue .entry)) 0) (lent 8 (now (known .entry)) 0) r (lent 8 (now (left .exit)) 0) (lent 8 (now (values .exit)) 0) ⌝ }
+    requires { ⌜ Posed width (now words) bits checks (now residue) (now known) (now left) (now values) × (checks * width ≤ length (now rows)) × (checks ≤ length (now pivots)) ⌝ }
+    ensures { λ r. ⌜ Eliminated (now (words .entry)) bits checks (now (residue .entry)) (now (known .entry)) r (now (left .exit)) (now (values .exit)) ⌝ }
 {
     let count = gather(words, width, checks, residue, rows);
     let r = reduce_in(rows, width, count, residue, pivots);
@@ -49,9 +44,8 @@ fn eliminate_small(
     left: &mut [u64],
     values: &mut [u64],
 ) -> bool
-    requires { ⌜ (length (now words) ≡ 4096) × (bits ≤ 512) × (checks ≤ 512) × (length (now residue) ≡ 8) × (length (now known) ≡ 8) × (now left ≡ now residue) × (now values ≡ now known) × (width ≤ 8) × (bits ≤ width * 64) × (checks ≤ 64) × (checks * width ≤ 64) ⌝ }
-    requires { ⌜ Apart bits (lent 8 (now residue) 0) (lent 8 (now known) 0) × (agreeing (lent 8 (now words)) 512 checks (lent 8 (now residue) 0) (lent 8 (now known) 0) ≡ true) ⌝ }
-    ensures { λ r. ⌜ Determined (lent 8 (now (words .entry))) bits checks (lent 8 (now (residue .entry)) 0) (lent 8 (now (known .entry)) 0) r (lent 8 (now (left .exit)) 0) (lent 8 (now (values .exit)) 0) ⌝ }
+    requires { ⌜ Posed width (now words) bits checks (now residue) (now known) (now left) (now values) × (checks ≤ 64) × (checks * width ≤ 64) ⌝ }
+    ensures { λ r. ⌜ Eliminated (now (words .entry)) bits checks (now (residue .entry)) (now (known .entry)) r (now (left .exit)) (now (values .exit)) ⌝ }
 {
     let mut rows = [0u64; 64];
     let mut pivots = [0usize; 64];
@@ -80,9 +74,8 @@ fn eliminate_medium(
     left: &mut [u64],
     values: &mut [u64],
 ) -> bool
-    requires { ⌜ (length (now words) ≡ 4096) × (bits ≤ 512) × (checks ≤ 512) × (length (now residue) ≡ 8) × (length (now known) ≡ 8) × (now left ≡ now residue) × (now values ≡ now known) × (width ≤ 8) × (bits ≤ width * 64) × (checks ≤ 128) × (checks * width ≤ 512) ⌝ }
-    requires { ⌜ Apart bits (lent 8 (now residue) 0) (lent 8 (now known) 0) × (agreeing (lent 8 (now words)) 512 checks (lent 8 (now residue) 0) (lent 8 (now known) 0) ≡ true) ⌝ }
-    ensures { λ r. ⌜ Determined (lent 8 (now (words .entry))) bits checks (lent 8 (now (residue .entry)) 0) (lent 8 (now (known .entry)) 0) r (lent 8 (now (left .exit)) 0) (lent 8 (now (values .exit)) 0) ⌝ }
+    requires { ⌜ Posed width (now words) bits checks (now residue) (now known) (now left) (now values) × (checks ≤ 128) × (checks * width ≤ 512) ⌝ }
+    ensures { λ r. ⌜ Eliminated (now (words .entry)) bits checks (now (residue .entry)) (now (known .entry)) r (now (left .exit)) (now (values .exit)) ⌝ }
 {
     let mut rows = [0u64; 512];
     let mut pivots = [0usize; 128];
@@ -111,9 +104,8 @@ fn eliminate_large(
     left: &mut [u64],
     values: &mut [u64],
 ) -> bool
-    requires { ⌜ (length (now words) ≡ 4096) × (bits ≤ 512) × (checks ≤ 512) × (length (now residue) ≡ 8) × (length (now known) ≡ 8) × (now left ≡ now residue) × (now values ≡ now known) × (width ≤ 8) × (bits ≤ width * 64) ⌝ }
-    requires { ⌜ Apart bits (lent 8 (now residue) 0) (lent 8 (now known) 0) × (agreeing (lent 8 (now words)) 512 checks (lent 8 (now residue) 0) (lent 8 (now known) 0) ≡ true) ⌝ }
-    ensures { λ r. ⌜ Determined (lent 8 (now (words .entry))) bits checks (lent 8 (now (residue .entry)) 0) (lent 8 (now (known .entry)) 0) r (lent 8 (now (left .exit)) 0) (lent 8 (now (values .exit)) 0) ⌝ }
+    requires { ⌜ Posed width (now words) bits checks (now residue) (now known) (now left) (now values) ⌝ }
+    ensures { λ r. ⌜ Eliminated (now (words .entry)) bits checks (now (residue .entry)) (now (known .entry)) r (now (left .exit)) (now (values .exit)) ⌝ }
 {
     let mut rows = [0u64; 4096];
     let mut pivots = [0usize; 512];
@@ -142,9 +134,8 @@ pub fn eliminate(
     left: &mut [u64],
     values: &mut [u64],
 ) -> bool
-    requires { ⌜ (length (now words) ≡ 4096) × (bits ≤ 512) × (checks ≤ 512) × (length (now residue) ≡ 8) × (length (now known) ≡ 8) × (now left ≡ now residue) × (now values ≡ now known) × (width ≤ 8) × (bits ≤ width * 64) ⌝ }
-    requires { ⌜ Apart bits (lent 8 (now residue) 0) (lent 8 (now known) 0) × (agreeing (lent 8 (now words)) 512 checks (lent 8 (now residue) 0) (lent 8 (now known) 0) ≡ true) ⌝ }
-    ensures { λ r. ⌜ Determined (lent 8 (now (words .entry))) bits checks (lent 8 (now (residue .entry)) 0) (lent 8 (now (known .entry)) 0) r (lent 8 (now (left .exit)) 0) (lent 8 (now (values .exit)) 0) ⌝ }
+    requires { ⌜ Posed width (now words) bits checks (now residue) (now known) (now left) (now values) ⌝ }
+    ensures { λ r. ⌜ Eliminated (now (words .entry)) bits checks (now (residue .entry)) (now (known .entry)) r (now (left .exit)) (now (values .exit)) ⌝ }
 {
     if checks <= 64 {
         if checks * width <= 64 {

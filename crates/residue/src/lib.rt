@@ -9,12 +9,10 @@ use sets::size;
 use steps::result::agree;
 use steps::result::write;
 ghost use mathlib.Core.Path.{_≡_};
-ghost use mathlib.Core.Bool.{true};
-ghost use Prim.Native.Nat.{_≤_};
 ghost use lib.ListN.{length};
 ghost use Rattle.parity.specs.Matrix.{lent};
-ghost use Rattle.steps.specs.Steps.{agreeing, Short};
-ghost use Rattle.residue.specs.Sets.{Apart, Finished};
+ghost use Rattle.steps.specs.Steps.{Short};
+ghost use Rattle.residue.specs.Sets.{Given, Posed, Finished};
 
 // Elimination in rows of as many words as the bits take, and writing. `eliminate` is called at two places, so that the compiler leaves it a
 // function of its own: its rows are then on the stack while they are used, and not while the matrix is accepted.
@@ -29,9 +27,8 @@ fn finish_left(
     left: &mut [u64],
     values: &mut [u64],
 ) -> bool
-    requires { ⌜ (length (now words) ≡ 4096) × (bits ≤ 512) × (checks ≤ 512) × (length (now residue) ≡ 8) × (length (now known) ≡ 8) × (now left ≡ now residue) × (now values ≡ now known) × (length (now lost) ≡ 8) × Short (length (now word)) (lent 8 (now lost) 0) ⌝ }
-    requires { ⌜ Apart bits (lent 8 (now residue) 0) (lent 8 (now known) 0) × (agreeing (lent 8 (now words)) 512 checks (lent 8 (now residue) 0) (lent 8 (now known) 0) ≡ true) ⌝ }
-    ensures { λ r. ⌜ Finished (lent 8 (now (words .entry))) bits checks (lent 8 (now (lost .entry)) 0) (lent 8 (now (residue .entry)) 0) (lent 8 (now (known .entry)) 0) (now (word .entry)) r (lent 8 (now (left .exit)) 0) (lent 8 (now (values .exit)) 0) (now (word .exit)) ⌝ }
+    requires { ⌜ Posed 8 (now words) bits checks (now residue) (now known) (now left) (now values) × (length (now lost) ≡ 8) × Short (length (now word)) (lent 8 (now lost) 0) ⌝ }
+    ensures { λ r. ⌜ Finished (now (words .entry)) bits checks (now (lost .entry)) (now (residue .entry)) (now (known .entry)) (now (word .entry)) r (now (left .exit)) (now (values .exit)) (now (word .exit)) ⌝ }
 {
     let width = words_of(bits);
     if width == 8 {
@@ -61,9 +58,8 @@ pub fn finish(
     left: &mut [u64],
     values: &mut [u64],
 ) -> bool
-    requires { ⌜ (length (now words) ≡ 4096) × (bits ≤ 512) × (checks ≤ 512) × (length (now residue) ≡ 8) × (length (now known) ≡ 8) × (now left ≡ now residue) × (now values ≡ now known) × (length (now lost) ≡ 8) × Short (length (now word)) (lent 8 (now lost) 0) ⌝ }
-    requires { ⌜ Apart bits (lent 8 (now residue) 0) (lent 8 (now known) 0) ⌝ }
-    ensures { λ r. ⌜ Finished (lent 8 (now (words .entry))) bits checks (lent 8 (now (lost .entry)) 0) (lent 8 (now (residue .entry)) 0) (lent 8 (now (known .entry)) 0) (now (word .entry)) r (lent 8 (now (left .exit)) 0) (lent 8 (now (values .exit)) 0) (now (word .exit)) ⌝ }
+    requires { ⌜ Given (now words) bits checks (now residue) (now known) (now left) (now values) × (length (now lost) ≡ 8) × Short (length (now word)) (lent 8 (now lost) 0) ⌝ }
+    ensures { λ r. ⌜ Finished (now (words .entry)) bits checks (now (lost .entry)) (now (residue .entry)) (now (known .entry)) (now (word .entry)) r (now (left .exit)) (now (values .exit)) (now (word .exit)) ⌝ }
 {
     if !agree(words, words_of(bits), checks, residue, known) {
         return false;

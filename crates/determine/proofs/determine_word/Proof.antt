@@ -71,8 +71,11 @@ finish-requires c κs =
     let E = m .make-sets .ensures .0 in
     let O = m .make-sets .ensures .1 in
     let e = t .settle .kept .1 .1 .1 .0 ∙ E .size in
-    let o = t .settle .kept .1 .1 .1 .1 .0 ∙ O .size in
-    ((s .pre .0, s .pre .3, s .pre .1, e, o, refl, refl, E .size, set-short 8 (s .args .word .now) 2 _ E), word-apart 8 (lent 8 (s .args .words .now)) (s .args .n) (s .args .k) (s .args .checks) (s .args .word .now) _ _ (s .pre .2) (omega (arith, s .pre .2, s .pre .3)) (s .pre .5) E O _ _ (t .settle .ensures))
+    let o = t .settle .kept .1 .1 .1 .1 .0 ∙ O .size in (
+      record { words = s .pre .0; bits = s .pre .3; checks = s .pre .1; residue = e; known = o; left = refl; values = refl; apart = word-apart 8 (lent 8 (s .args .words .now)) (s .args .n) (s .args .k) (s .args .checks) (s .args .word .now) _ _ (s .pre .2) (omega (arith, s .pre .2, s .pre .3)) (s .pre .5) E O _ _ (t .settle .ensures) },
+      E .size,
+      set-short 8 (s .args .word .now) 2 _ E,
+    )
 
 same-length : tie.Need-same-length
 same-length c = search needs

@@ -10,38 +10,39 @@ use Rattle.residue.proofs.finish.Statement.{statement}
 use Rattle.residue.proofs.finish.Tie as tie
 
 words-of-requires : tie.Need-words-of-requires
-words-of-requires c κs = search needs
+words-of-requires c κs = c .before .before .before .before .before .before .before .pre .0 .bits
 
 agree-requires : tie.Need-agree-requires
 agree-requires c κs =
-    let s = c .before .before .before .before .before .before .before .before in
-    let u = c .words-of .ensures in
-    let p = s .pre .0 in (
-      (p .0, p .2, p .3, p .4, omega (arith, u .1, p .1)),
-      (record { none = λ b l. s .pre .1 .short-e b (omega (arith, u .0)) }, record { none = λ b l. s .pre .1 .short-o b (omega (arith, u .0)) }),
+    let G = c .before .before .before .before .before .before .before .before .pre .0 in
+    let u = c .words-of .ensures in (
+      (G .words, G .checks, G .residue, G .known, omega (arith, u .1, G .bits)),
+      (record { none = λ b l. G .apart .short-e b (omega (arith, u .0)) }, record { none = λ b l. G .apart .short-o b (omega (arith, u .0)) }),
     )
 
 returns : tie.Need-returns
 returns c =
-    let a = c .before in
-    let s = a .before .before .before .before .before .before .before .before .before in
+    let s = c .before .before .before .before .before .before .before .before .before .before in
+    let G = s .pre .0 in
+    let a = c .before .agree in
     let h = lent 8 (s .args .words .now) in
     let e = lent 8 (s .args .residue .now) 0 in
     let o = lent 8 (s .args .known .now) 0 in
     record {
-      sets = refused h (s .args .bits) (s .args .checks) e o (s .pre .0 .1) (s .pre .1)
-          (uneven-none h (s .args .bits) (s .args .checks) e o (s .pre .0 .1) (s .pre .1) (sym (a .agree .ensures) ∙ not-true (a .agree .result) (c .if1 .taken)))
-          _ _ (λ b q. rw (s .pre .0 .5) at q);
+      sets = refused h (s .args .bits) (s .args .checks) e o (G .bits) (G .apart)
+          (uneven-none h (s .args .bits) (s .args .checks) e o (G .bits) (G .apart) (sym (a .ensures) ∙ not-true (a .result) (c .if1 .taken)))
+          _ _ (λ b q. rw (G .left) at q);
       word = refl;
     }
 
 size-requires : tie.Need-size-requires
-size-requires c κs = search needs
+size-requires c κs = c .before .before .before .before .before .before .before .before .before .before .pre .0 .residue
 
 write-requires : tie.Need-write-requires
 write-requires c κs =
     let s = c .before .before .before .before .before .before .before .before .before .before .before .before .before .before .before in
-    (omega arith, s .pre .0 .7, ap length (s .pre .0 .5) ∙ s .pre .0 .3, ap length (s .pre .0 .6) ∙ s .pre .0 .4, s .pre .0 .8)
+    let G = s .pre .0 in
+    (omega arith, s .pre .1, ap length (G .left) ∙ G .residue, ap length (G .values) ∙ G .known, s .pre .2)
 
 same-length : tie.Need-same-length
 same-length c = search needs
@@ -54,22 +55,20 @@ same-length-3 c = search needs
 
 returns-2 : tie.Need-returns-2
 returns-2 c =
-    let t = c .before .before .before .before .before .before in
-    let z = t .before in
-    let a = z .before .before in
-    let s = a .before .before .before .before .before .before .before .before .before in
+    let s = c .before .before .before .before .before .before .before .before .before .before .before .before .before .before .before .before .before .before in
+    let G = s .pre .0 in
+    let a = c .before .before .before .before .before .before .before .before .before .agree in
     record {
-      sets = rw (s .pre .0 .5, s .pre .0 .6) (all-known (lent 8 (s .args .words .now)) (s .args .bits) (s .args .checks) (lent 8 (s .args .residue .now) 0) (lent 8 (s .args .known .now) 0) (s .pre .0 .1) (s .pre .1)
-          (sym (a .agree .ensures) ∙ not-false (a .agree .result) (z .before .if1 .left)) (sym (z .size .ensures) ∙ t .if2 .taken));
+      sets = rw (G .left, G .values) (all-known (lent 8 (s .args .words .now)) (s .args .bits) (s .args .checks) (lent 8 (s .args .residue .now) 0) (lent 8 (s .args .known .now) 0) (G .bits) (G .apart)
+          (sym (a .ensures) ∙ not-false (a .result) (c .before .before .before .before .before .before .before .before .if1 .left)) (sym (c .before .before .before .before .before .before .before .size .ensures) ∙ c .before .before .before .before .before .before .if2 .taken));
       word = c .before .before .write .ensures;
     }
 
 finish-left-requires : tie.Need-finish-left-requires
 finish-left-requires c κs =
-    let i = c .before .before .before .before .before in
-    let a = i .before in
-    let s = a .before .before .before .before .before .before .before .before .before in
-    (s .pre .0, (s .pre .1, sym (a .agree .ensures) ∙ not-false (a .agree .result) (i .if1 .left)))
+    let s = c .before .before .before .before .before .before .before .before .before .before .before .before .before .before .before in
+    let a = c .before .before .before .before .before .before .agree in
+    (record { given = s .pre .0; even = sym (a .ensures) ∙ not-false (a .result) (c .before .before .before .before .before .if1 .left); narrow = omega arith; wide = s .pre .0 .bits }, s .pre .1, s .pre .2)
 
 same-length-4 : tie.Need-same-length-4
 same-length-4 c = search needs

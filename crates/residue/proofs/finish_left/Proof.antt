@@ -9,13 +9,10 @@ use Rattle.residue.proofs.finish_left.Statement.{statement}
 use Rattle.residue.proofs.finish_left.Tie as tie
 
 words-of-requires : tie.Need-words-of-requires
-words-of-requires c κs = search needs
+words-of-requires c κs = c .before .before .before .before .before .before .before .pre .0 .given .bits
 
 eliminate-requires : tie.Need-eliminate-requires
-eliminate-requires c κs =
-    let s = c .before .before .before .before .before .before .before .before .before .before .before in
-    let p = s .pre .0 in
-    ((p .0, p .1, p .2, p .3, p .4, p .5, p .6, omega arith, p .1), s .pre .1)
+eliminate-requires c κs = c .before .before .before .before .before .before .before .before .before .before .before .pre .0
 
 same-length : tie.Need-same-length
 same-length c = search needs
@@ -30,14 +27,10 @@ returns c =
 
 write-requires : tie.Need-write-requires
 write-requires c κs =
-    let x = c .before .before .before .before .before .before .before .before in
-    let s = x .before .before .before .before .before .before .before .before .before .before .before .before in (
-      omega arith,
-      s .pre .0 .7,
-      x .eliminate .kept .1 .1 .1 .1 .1 .1 .0 ∙ ap length (s .pre .0 .5) ∙ s .pre .0 .3,
-      x .eliminate .kept .1 .1 .1 .1 .1 .1 .1 .0 ∙ ap length (s .pre .0 .6) ∙ s .pre .0 .4,
-      s .pre .0 .8,
-    )
+    let s = c .before .before .before .before .before .before .before .before .before .before .before .before .before .before .before .before .before .before .before .before in
+    let G = s .pre .0 .given in
+    let x = c .before .before .before .before .before .before .before .before .eliminate in
+    (omega arith, s .pre .1, x .kept .1 .1 .1 .1 .1 .1 .0 ∙ ap length (G .left) ∙ G .residue, x .kept .1 .1 .1 .1 .1 .1 .1 .0 ∙ ap length (G .values) ∙ G .known, s .pre .2)
 
 same-length-3 : tie.Need-same-length-3
 same-length-3 c = search needs
@@ -55,10 +48,10 @@ returns-2 c =
 
 eliminate-requires-2 : tie.Need-eliminate-requires-2
 eliminate-requires-2 c κs =
-    let w = c .before .before .before in
-    let s = w .before .before .before .before .before .before .before .before in
-    let p = s .pre .0 in
-    ((p .0, p .1, p .2, p .3, p .4, p .5, p .6, width-few (s .args .bits) (w .words-of .result) (w .words-of .ensures .1) (p .1), w .words-of .ensures .0), s .pre .1)
+    let s = c .before .before .before .before .before .before .before .before .before .before .before in
+    let P = s .pre .0 in
+    let w = c .before .before .before .words-of in
+    record { given = P .given; even = P .even; narrow = width-few (s .args .bits) (w .result) (w .ensures .1) (P .given .bits); wide = w .ensures .0 }
 
 same-length-6 : tie.Need-same-length-6
 same-length-6 c = search needs
@@ -73,14 +66,10 @@ returns-3 c =
 
 write-requires-2 : tie.Need-write-requires-2
 write-requires-2 c κs =
-    let x = c .before .before .before .before .before .before .before .before in
-    let s = x .before .before .before .before .before .before .before .before .before .before .before .before in (
-      omega arith,
-      s .pre .0 .7,
-      x .eliminate2 .kept .1 .1 .1 .1 .1 .1 .0 ∙ ap length (s .pre .0 .5) ∙ s .pre .0 .3,
-      x .eliminate2 .kept .1 .1 .1 .1 .1 .1 .1 .0 ∙ ap length (s .pre .0 .6) ∙ s .pre .0 .4,
-      s .pre .0 .8,
-    )
+    let s = c .before .before .before .before .before .before .before .before .before .before .before .before .before .before .before .before .before .before .before .before in
+    let G = s .pre .0 .given in
+    let x = c .before .before .before .before .before .before .before .before .eliminate2 in
+    (omega arith, s .pre .1, x .kept .1 .1 .1 .1 .1 .1 .0 ∙ ap length (G .left) ∙ G .residue, x .kept .1 .1 .1 .1 .1 .1 .1 .0 ∙ ap length (G .values) ∙ G .known, s .pre .2)
 
 same-length-8 : tie.Need-same-length-8
 same-length-8 c = search needs

@@ -8,10 +8,10 @@ use Rattle.residue.proofs.eliminate.eliminate.Tie as tie
 mul-if2 : tie.Need-mul-if2
 mul-if2 c =
     let s = c .before .before .before .before .before .before in
-    omega (arith, few-words (s .args .checks) (s .args .width) (s .pre .0 .2) (s .pre .0 .7))
+    omega (arith, few-words (s .args .checks) (s .args .width) (s .pre .given .checks) (s .pre .narrow))
 
 eliminate-small-requires : tie.Need-eliminate-small-requires
-eliminate-small-requires c κs = search needs
+eliminate-small-requires c κs = (c .before .before .before .before .before .before .before .before .before .pre, c .before .before .before .if1 .taken, c .before .before .if2 .taken)
 
 same-length : tie.Need-same-length
 same-length c = search needs
@@ -25,10 +25,10 @@ returns c = search needs
 mul-if4 : tie.Need-mul-if4
 mul-if4 c =
     let s = c .before .before .before .before .before .before .before in
-    omega (arith, few-words (s .args .checks) (s .args .width) (s .pre .0 .2) (s .pre .0 .7))
+    omega (arith, few-words (s .args .checks) (s .args .width) (s .pre .given .checks) (s .pre .narrow))
 
 eliminate-medium-requires : tie.Need-eliminate-medium-requires
-eliminate-medium-requires c κs = search needs
+eliminate-medium-requires c κs = (c .before .before .before .before .before .before .before .before .before .before .pre, c .before .before .before .if3 .taken, c .before .before .if4 .taken)
 
 same-length-3 : tie.Need-same-length-3
 same-length-3 c = search needs
@@ -40,7 +40,7 @@ returns-2 : tie.Need-returns-2
 returns-2 c = search needs
 
 eliminate-large-requires : tie.Need-eliminate-large-requires
-eliminate-large-requires c κs = search needs
+eliminate-large-requires c κs = c .before .before .before .before .before .before .before .before .before .pre
 
 same-length-5 : tie.Need-same-length-5
 same-length-5 c = search needs

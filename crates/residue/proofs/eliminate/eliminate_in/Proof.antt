@@ -11,26 +11,21 @@ use Rattle.residue.proofs.eliminate.eliminate_in.Statement.{statement}
 use Rattle.residue.proofs.eliminate.eliminate_in.Tie as tie
 
 gather-requires : tie.Need-gather-requires
-gather-requires c κs = search needs
+gather-requires c κs =
+    let P = c .before .before .before .before .before .before .before .before .pre .0 in
+    (P .given .words, P .given .checks, P .given .residue, P .narrow, c .before .before .before .before .before .before .before .before .pre .1)
 
 reduce-in-requires : tie.Need-reduce-in-requires
 reduce-in-requires c κs =
-    let g = c .before .before .before .before in
-    let s = g .before .before .before .before .before .before .before .before .before in (
-      omega (arith, g .gather .kept .1 .1 .1 .1 .0, s .pre .0 .9, mul-le-mul-right (s .args .width) (g .gather .ensures .few)),
-      s .pre .0 .7,
-      omega (arith, s .pre .0 .3, s .pre .0 .7),
-      omega (arith, g .gather .ensures .few, s .pre .0 .10),
-    )
+    let s = c .before .before .before .before .before .before .before .before .before .before .before .before .before in
+    let g = c .before .before .before .before .gather in
+    (omega (arith, g .kept .1 .1 .1 .1 .0, s .pre .1, mul-le-mul-right (s .args .width) (g .ensures .few)), s .pre .0 .narrow, omega (arith, s .pre .0 .given .residue, s .pre .0 .narrow), omega (arith, g .ensures .few, s .pre .2))
 
 even-from-requires : tie.Need-even-from-requires
 even-from-requires c κs =
-    let d = c .before .before .before .before .before in
-    let g = d .before .before .before .before .before in
-    let s = g .before .before .before .before .before .before .before .before .before in (
-      omega (arith, d .reduce-in .kept .0, g .gather .kept .1 .1 .1 .1 .0, s .pre .0 .9, mul-le-mul-right (s .args .width) (g .gather .ensures .few)),
-      omega (arith, s .pre .0 .4, s .pre .0 .7),
-    )
+    let s = c .before .before .before .before .before .before .before .before .before .before .before .before .before .before .before .before .before .before .before in
+    let g = c .before .before .before .before .before .before .before .before .before .before .gather in
+    (omega (arith, c .before .before .before .before .before .reduce-in .kept .0, g .kept .1 .1 .1 .1 .0, s .pre .1, mul-le-mul-right (s .args .width) (g .ensures .few)), omega (arith, s .pre .0 .given .known, s .pre .0 .narrow))
 
 same-length : tie.Need-same-length
 same-length c = search needs
@@ -40,28 +35,25 @@ same-length-2 c = search needs
 
 returns : tie.Need-returns
 returns c =
-    let e = c .before in
-    let d = e .before .before .before .before .before .before in
-    let g = d .before .before .before .before .before in
-    let s = g .before .before .before .before .before .before .before .before .before in
-    rows-none (s .args .words .now) (s .args .residue .now) (s .args .known .now) (s .args .bits) (s .args .checks) 8 (s .args .width) (s .pre .0 .1) (s .pre .0 .7) (omega (arith, s .pre .0 .7)) (s .pre .0 .8) (s .pre .1 .0) (s .pre .1 .1) _ _ _ _ _ (g .gather .ensures) (d .reduce-in .ensures)
-    (rw (not-true (e .even-from .result) (c .if1 .taken)) at (e .even-from .ensures)) (s .args .left .now) (s .args .values .now) (s .pre .0 .5)
+    let s = c .before .before .before .before .before .before .before .before .before .before .before .before .before .before .before .before .before .before .before .before .before in
+    let e = c .before .even-from in
+    rows-none _ _ _ _ _ _ _ _ (s .pre .0) _ _ _ _ _ (c .before .before .before .before .before .before .before .before .before .before .before .before .gather .ensures) (c .before .before .before .before .before .before .before .reduce-in .ensures) (rw (not-true (e .result) (c .if1 .taken)) at (e .ensures))
 
 write-pivots-requires : tie.Need-write-pivots-requires
 write-pivots-requires c κs =
-    let e = c .before .before .before .before .before in
-    let d = e .before .before .before .before .before .before in
-    let g = d .before .before .before .before .before in
-    let s = g .before .before .before .before .before .before .before .before .before in
-    let few : d .reduce-in .result ≤ s .args .checks = omega (arith, d .reduce-in .ensures .form .few, g .gather .ensures .few) in (
-      omega (arith, d .reduce-in .kept .0, g .gather .kept .1 .1 .1 .1 .0, s .pre .0 .9, mul-le-mul-right (s .args .width) few),
-      s .pre .0 .7,
-      omega (arith, few, s .pre .0 .10, d .reduce-in .kept .1 .1 .1 .1 .0),
-      s .pre .0 .3,
-      s .pre .0 .4,
-      ap length (s .pre .0 .5) ∙ s .pre .0 .3,
-      ap length (s .pre .0 .6) ∙ s .pre .0 .4,
-      rows-low (s .args .words .now) (s .args .residue .now) (s .args .known .now) (s .args .bits) (s .args .checks) 8 (s .args .width) (s .pre .0 .1) (s .pre .0 .7) (omega (arith, s .pre .0 .7)) (s .pre .0 .8) (s .pre .1 .0) (s .pre .1 .1) _ _ _ _ _ (g .gather .ensures) (d .reduce-in .ensures),
+    let s = c .before .before .before .before .before .before .before .before .before .before .before .before .before .before .before .before .before .before .before .before .before .before .before .before .before in
+    let P = s .pre .0 in
+    let g = c .before .before .before .before .before .before .before .before .before .before .before .before .before .before .before .before .gather in
+    let d = c .before .before .before .before .before .before .before .before .before .before .before .reduce-in in
+    let few : d .result ≤ s .args .checks = omega (arith, d .ensures .form .few, g .ensures .few) in (
+      omega (arith, d .kept .0, g .kept .1 .1 .1 .1 .0, s .pre .1, mul-le-mul-right (s .args .width) few),
+      P .narrow,
+      omega (arith, few, s .pre .2, d .kept .1 .1 .1 .1 .0),
+      P .given .residue,
+      P .given .known,
+      ap length (P .given .left) ∙ P .given .residue,
+      ap length (P .given .values) ∙ P .given .known,
+      rows-low _ _ _ _ _ _ _ _ P _ _ _ _ _ (g .ensures) (d .ensures),
     )
 
 same-length-3 : tie.Need-same-length-3
@@ -78,14 +70,9 @@ same-length-6 c = search needs
 
 returns-2 : tie.Need-returns-2
 returns-2 c =
-    let p = c .before .before .before .before in
-    let i = p .before .before .before .before .before in
-    let e = i .before in
-    let d = e .before .before .before .before .before .before in
-    let g = d .before .before .before .before .before in
-    let s = g .before .before .before .before .before .before .before .before .before in
-    rows-some (s .args .words .now) (s .args .residue .now) (s .args .known .now) (s .args .bits) (s .args .checks) 8 (s .args .width) (s .pre .0 .1) (s .pre .0 .7) (omega (arith, s .pre .0 .7)) (s .pre .0 .8) (s .pre .1 .0) (s .pre .1 .1) _ _ _ _ _ (g .gather .ensures) (d .reduce-in .ensures)
-    (rw (not-false (e .even-from .result) (i .if1 .left)) at (e .even-from .ensures)) (s .args .left .now) (s .args .values .now) (s .pre .0 .5) (s .pre .0 .6) _ _ (p .write-pivots .ensures)
+    let s = c .before .before .before .before .before .before .before .before .before .before .before .before .before .before .before .before .before .before .before .before .before .before .before .before .before .before .before .before .before .before in
+    let e = c .before .before .before .before .before .before .before .before .before .before .even-from in
+    rows-some _ _ _ _ _ _ _ _ (s .pre .0) _ _ _ _ _ (c .before .before .before .before .before .before .before .before .before .before .before .before .before .before .before .before .before .before .before .before .before .gather .ensures) (c .before .before .before .before .before .before .before .before .before .before .before .before .before .before .before .before .reduce-in .ensures) (rw (not-false (e .result) (c .before .before .before .before .before .before .before .before .before .if1 .left)) at (e .ensures)) _ _ (c .before .before .before .before .write-pivots .ensures)
 
 pub eliminate-in-spec : {M : Type 1} → statement M
 eliminate-in-spec =

@@ -13,8 +13,8 @@ slice-aggregate-eliminate-in-2 c = search needs
 eliminate-in-requires : tie.Need-eliminate-in-requires
 eliminate-in-requires c κs =
     let s = c .before .before .before .before .before .before .before .before .before in
-    let p = s .pre .0 in
-    ((p .0, p .1, p .2, p .3, p .4, p .5, p .6, p .7, p .8, few-words (s .args .checks) (s .args .width) (p .2) (p .7), p .2), s .pre .1)
+    let P = s .pre in
+    (P, few-words (s .args .checks) (s .args .width) (P .given .checks) (P .narrow), P .given .checks)
 
 same-length : tie.Need-same-length
 same-length c = search needs

@@ -12,8 +12,7 @@ slice-aggregate-eliminate-in-2 c = search needs
 eliminate-in-requires : tie.Need-eliminate-in-requires
 eliminate-in-requires c κs =
     let s = c .before .before .before .before .before .before .before .before .before in
-    let p = s .pre .0 in
-    ((p .0, p .1, p .2, p .3, p .4, p .5, p .6, p .7, p .8, p .10, p .9), s .pre .1)
+    (s .pre .0, s .pre .2, s .pre .1)
 
 same-length : tie.Need-same-length
 same-length c = search needs

@@ -13,22 +13,28 @@ use lib.Ieee.{Float, nan}
 use Rattle.parity.specs.Finite.{sum, count}
 use Rattle.parity.specs.Matrix.{Matrix}
 use Rattle.parity.proofs.Finite.Sums.{count-suc, count-bound}
-use Rattle.parity.specs.Soft.{channelOf, messageAt}
-use Rattle.messages.specs.Memory.{start, place, held, column, Cursors, Moving, heldAt, Collected, Gathering, Spread, Within}
+use Rattle.parity.specs.Soft.{messageAt}
+use Rattle.messages.specs.Memory.{start, place, held, column, Laid, Written, Low, Part, Cursors, Moving, heldAt, Collected, Gathering, Spread, Within}
 use Rattle.parity.specs.declared.Channel.{Channel}
 use Rattle.soft.proofs.Places.{message-other}
 use Rattle.messages.proofs.Compact.{rank-less, rank-same}
 use Rattle.messages.proofs.Places.{start-mono, place-low, place-high, above-none, above-more}
 use Rattle.messages.proofs.Word.{Gap, gap-count, gap-before}
 
--- what was written is there
-pub message-here : (ts : List ℕ) (xs : List Float) (i y : ℕ) (x : Float) → i < length ts → i < length xs → messageAt (set ts i y) (set xs i x) i ≡ channelOf y x
+-- a value copied to place j
+pub written : (us : List ℕ) (ys : List Float) (i : ℕ) (ts : List ℕ) (xs : List Float) (j : ℕ) → j < length ts → j < length xs
+    → Written j (messageAt us ys i) ts xs (set ts j (getD us i 0)) (set xs j (getD ys i nan))
 unfolding messageAt
-message-here ts xs i y x k l = rw (getD-set-same ts i y 0 k, getD-set-same xs i x nan l)
+written us ys i ts xs j k l = record {
+  tags = length-set ts _ _;
+  values = length-set xs _ _;
+  here = rw (getD-set-same ts j (getD us i 0) 0 k, getD-set-same xs j (getD ys i nan) nan l);
+  other = λ t n. message-other ts xs j t _ _ n;
+}
 
-pub message-is : (ts : List ℕ) (xs : List Float) (i : ℕ) → channelOf (getD ts i 0) (getD xs i nan) ≡ messageAt ts xs i
-unfolding messageAt
-message-is ts xs i = refl
+-- lists of the same lengths are memory too
+pub laid-same : (ws : List ℕ) (h : Matrix) (ts : List ℕ) (xs : List Float) → Laid ws h ts xs → (us : List ℕ) (ys : List Float) → length us ≡ length ts → length ys ≡ length xs → Laid ws h us ys
+laid-same ws h ts xs L us ys p q = record { words = L .words; memory = record { tags = p ∙ L .memory .tags; values = q ∙ L .memory .values }; room = L .room }
 
 pub none-counted : (p : ℕ → Bool) → 0 ≡ count 0 p
 unfolding count sum
@@ -43,25 +49,23 @@ count-no p c e = rw (add-one c) (let q = rw (e, add-zero) at (count-suc c p) in 
 
 -- ---- the row
 module _ (p : ℕ → Bool) (f : ℕ → Channel) where
-  pub collected-none : (ts : List ℕ) (xs : List Float) → length ts ≡ 512 → length xs ≡ 512 → Collected p 0 f ts xs
-  collected-none ts xs k l = record { tags = k; values = l; at = λ i j q. absurd (omega arith) }
+  collected-none : (ts : List ℕ) (xs : List Float) → Collected p 0 f ts xs
+  collected-none ts xs = record { at = λ i j q. absurd (omega arith) }
 
   module _ (c : ℕ) (ts : List ℕ) (xs : List Float) (C : Collected p c f ts xs) where
-    pub collected-end : (M : ℕ) → M ≤ c → Collected p M f ts xs
-    collected-end M k = record { tags = C .tags; values = C .values; at = λ i l q. C .at i (omega arith) q }
+    collected-end : (M : ℕ) → M ≤ c → Collected p M f ts xs
+    collected-end M k = record { at = λ i l q. C .at i (omega arith) q }
 
     collected-gap : (e : ℕ) → Gap p c e → Collected p e f ts xs
-    collected-gap e G = record { tags = C .tags; values = C .values; at = λ i l q. C .at i (gap-before p c e G i l q) q }
+    collected-gap e G = record { at = λ i l q. C .at i (gap-before p c e G i l q) q }
 
-    collected-one : c < 512 → p c ≡ true → (y : ℕ) (x : Float) → channelOf y x ≡ f c → Collected p (c + 1) f (set ts (count c p) y) (set xs (count c p) x)
-    collected-one k e y x v = record {
-      tags = length-set ts _ _ ∙ C .tags;
-      values = length-set xs _ _ ∙ C .values;
+    collected-one : p c ≡ true → (us : List ℕ) (ys : List Float) → Written (65024 + count c p) (f c) ts xs us ys → Collected p (c + 1) f us ys
+    collected-one e us ys W = record {
       at = λ i l q. elim (ℕ-discrete i c) [
-        | yes z ↦ rw z (message-here ts xs (count c p) y x (omega (arith, C .tags, count-bound c p)) (omega (arith, C .values, count-bound c p)) ∙ v)
+        | yes z ↦ rw z (W .here)
         | no z ↦
             let j : i < c = omega arith in
-            message-other ts xs (count c p) (count i p) _ _ (λ w. omega (arith, rank-less p i c j q)) ∙ C .at i j q
+            W .other (65024 + count i p) (λ w. omega (arith, w, rank-less p i c j q)) ∙ C .at i j q
       ];
     }
 
@@ -86,59 +90,97 @@ within-below h M W d a e = elim (decLt d M) [ yes k ↦ k | no k ↦ absurd (tru
 pub within-gap : (h : Matrix) (M : ℕ) → Within h M → (b c : ℕ) → M ≤ c → Gap (column h b) M c
 within-gap h M W b c k = record { least = k; none = λ d l m. W .after d b l }
 
--- ---- the way back
-module _ (h : Matrix) (N b : ℕ) (row : ℕ → Channel) (ts : List ℕ) (xs : List Float) where
-  pub spread-none : (l : ℕ) → Spread h N b l l row ts xs ts xs
-  spread-none l = record { tags = refl; values = refl; done = λ d k m e. absurd (omega arith); rest = λ d a k e q. refl; above = above-none h N ts xs }
+-- a message's place is before the row
+pub place-small : (h : Matrix) (N c b : ℕ) → start h N 512 ≤ 65024 → c < 512 → b < N → h c b ≡ true → place h N c b < 65024
+place-small h N c b m k l e = omega (arith, place-high h N c b l e, start-mono h N (suc c) 512 k)
 
-  module _ (l c : ℕ) (us : List ℕ) (ys : List Float) (S : Spread h N b l c row ts xs us ys) where
-    pub spread-gap : (e : ℕ) → Gap (column h b) c e → Spread h N b l e row ts xs us ys
+-- ---- before the row
+module _ (ts : List ℕ) (xs : List Float) where
+  pub low-none : Low ts xs ts xs
+  low-none = record { tags = refl; values = refl; at = λ i k. refl }
+
+  module _ (us : List ℕ) (ys : List Float) (L : Low ts xs us ys) where
+    pub low-more : (vs : List ℕ) (zs : List Float) → Low us ys vs zs → Low ts xs vs zs
+    low-more vs zs K = record { tags = K .tags ∙ L .tags; values = K .values ∙ L .values; at = λ i k. K .at i k ∙ L .at i k }
+
+    low-row : (d : ℕ) (v : Channel) (vs : List ℕ) (zs : List Float) → Written (65024 + d) v us ys vs zs → Low ts xs vs zs
+    low-row d v vs zs W = record { tags = W .tags ∙ L .tags; values = W .values ∙ L .values; at = λ i k. W .other i (λ z. omega arith) ∙ L .at i k }
+
+    pub low-held : (h : Matrix) (N c b : ℕ) → start h N 512 ≤ 65024 → c < 512 → b < N → h c b ≡ true → held h N us ys c b ≡ held h N ts xs c b
+    unfolding held
+    low-held h N c b m k l e = L .at (place h N c b) (place-small h N c b m k l e)
+
+pub part-low : (w : ℕ) (g : ℕ → Channel) (ts : List ℕ) (xs : List Float) (us : List ℕ) (ys : List Float) → Part 65024 w g ts xs us ys → Low ts xs us ys
+part-low w g ts xs us ys P = record { tags = P .tags; values = P .values; at = P .before }
+
+-- ---- the way back
+module _ (h : Matrix) (N b : ℕ) (ts : List ℕ) (xs : List Float) where
+  pub spread-none : (l : ℕ) → Spread h N b l l ts xs ts xs
+  spread-none l = record {
+    tags = refl;
+    values = refl;
+    done = λ d k m e. absurd (omega arith);
+    rest = λ d a k e q. refl;
+    above = above-none h N ts xs;
+    row = λ t. refl;
+  }
+
+  module _ (l c : ℕ) (us : List ℕ) (ys : List Float) (S : Spread h N b l c ts xs us ys) where
+    pub spread-gap : (e : ℕ) → Gap (column h b) c e → Spread h N b l e ts xs us ys
     spread-gap e G = record {
       tags = S .tags;
       values = S .values;
       done = λ d k m q. S .done d k (gap-before (column h b) c e G d m q) q;
       rest = λ d a k q r. S .rest d a k q (λ z m. omega (arith, r z m, G .least));
       above = S .above;
+      row = S .row;
     }
 
-    pub spread-end : (M : ℕ) → Within h M → M ≤ c → Spread h N b l M row ts xs us ys
+    pub spread-end : (M : ℕ) → Within h M → M ≤ c → Spread h N b l M ts xs us ys
     spread-end M W k = record {
       tags = S .tags;
       values = S .values;
       done = λ d i m q. S .done d i (omega arith) q;
       rest = λ d a i q r. S .rest d a i q (λ z m. omega (arith, r z m, within-below h M W d a q));
       above = S .above;
+      row = S .row;
     }
 
     -- those from c on besides
-    pub spread-more : (e : ℕ) (vs : List ℕ) (zs : List Float) → b < N → l ≤ c → c ≤ e → Spread h N b c e row us ys vs zs → Spread h N b l e row ts xs vs zs
+    pub spread-more : (e : ℕ) (vs : List ℕ) (zs : List Float) → b < N → l ≤ c → c ≤ e → Spread h N b c e us ys vs zs → Spread h N b l e ts xs vs zs
     spread-more e vs zs kb i j T = record {
       tags = T .tags ∙ S .tags;
       values = T .values ∙ S .values;
       done = λ d k m q. elim (decLt d c) [
         | yes n ↦ T .rest d b kb q (λ z o. omega arith) ∙ S .done d k n q
-        | no n ↦ T .done d (omega arith) m q
+        | no n ↦ T .done d (omega arith) m q ∙ S .row (count d (column h b))
       ];
       rest = λ d a m q r. T .rest d a m q (λ z n. r z (omega arith)) ∙ S .rest d a m q (λ z n. omega (arith, r z n));
       above = above-more h N ts xs us ys (S .above) vs zs (T .above);
+      row = λ t. T .row t ∙ S .row t;
     }
 
-    pub spread-one : b < N → c < 512 → l ≤ c → h c b ≡ true → place h N c b < length us → place h N c b < length ys → (y : ℕ) (x : Float) → channelOf y x ≡ row (count c (column h b))
-        → Spread h N b l (c + 1) row ts xs (set us (place h N c b) y) (set ys (place h N c b) x)
+    -- a message of the row goes to its place
+    pub spread-one : start h N 512 ≤ 65024 → b < N → c < 512 → l ≤ c → h c b ≡ true → (vs : List ℕ) (zs : List Float)
+        → Written (place h N c b) (messageAt us ys (65024 + count c (column h b))) us ys vs zs → Spread h N b l (c + 1) ts xs vs zs
     unfolding held
-    spread-one kb kc lc e i j y x v = record {
-      tags = length-set us _ _ ∙ S .tags;
-      values = length-set ys _ _ ∙ S .values;
-      done = λ d k m r. elim (ℕ-discrete d c) [
-        | yes z ↦ rw z (message-here us ys (place h N c b) y x i j ∙ v)
-        | no z ↦ message-other us ys (place h N c b) (place h N d b) _ _ (λ w. z (place-same h N d b c b kb kb r e w .0)) ∙ S .done d k (omega arith) r
-      ];
-      rest = λ d a k r s. message-other us ys (place h N c b) (place h N d a) _ _
-          (λ w. let f = place-same h N d a c b k kb r e w in omega (arith, s (f .1) (omega (arith, f .0)), f .0)) ∙ S .rest d a k r (λ z m. omega (arith, s z m));
-      above = record {
-        at = λ q k. message-other us ys (place h N c b) q _ _ (λ w. omega (arith, w, place-high h N c b kb e, start-mono h N (suc c) 512 kc)) ∙ S .above .at q k;
-      };
-    }
+    spread-one m kb kc lc e vs zs W =
+        let p = place h N c b in
+        let small = place-small h N c b m kc kb e in
+        record {
+          tags = W .tags ∙ S .tags;
+          values = W .values ∙ S .values;
+          done = λ d k i r. elim (ℕ-discrete d c) [
+            | yes z ↦ rw z (W .here ∙ S .row (count c (column h b)))
+            | no z ↦ W .other (place h N d b) (λ w. z (place-same h N d b c b kb kb r e w .0)) ∙ S .done d k (omega arith) r
+          ];
+          rest = λ d a k r s. W .other (place h N d a)
+              (λ w. let f = place-same h N d a c b k kb r e w in omega (arith, s (f .1) (omega (arith, f .0)), f .0)) ∙ S .rest d a k r (λ z n. omega (arith, s z n));
+          above = record {
+            at = λ q k o. W .other q (λ w. omega (arith, w, place-high h N c b kb e, start-mono h N (suc c) 512 kc)) ∙ S .above .at q k o;
+          };
+          row = λ t. W .other (65024 + t) (λ w. omega (arith, w, small)) ∙ S .row t;
+        }
 
 -- ---- the cursors
 pub place-yes : (h : Matrix) (N c b : ℕ) → h c b ≡ true → place h N c (b + 1) ≡ place h N c b + 1
@@ -148,10 +190,6 @@ place-yes h N c b e = omega (arith, count-yes (h c) b e)
 place-no : (h : Matrix) (N c b : ℕ) → h c b ≡ false → place h N c (b + 1) ≡ place h N c b
 unfolding place
 place-no h N c b e = omega (arith, count-no (h c) b e)
-
--- a message's place is in the memory
-pub place-small : (h : Matrix) (N c b : ℕ) → start h N 512 ≤ 65536 → c < 512 → b < N → h c b ≡ true → place h N c b < 65536
-place-small h N c b m k l e = omega (arith, place-high h N c b l e, start-mono h N (suc c) 512 k)
 
 module _ (h : Matrix) (N b : ℕ) where
   moving-none : (at : List ℕ) → Cursors h N b at → Moving h N b 0 at
@@ -183,32 +221,72 @@ module _ (h : Matrix) (N b : ℕ) where
 
 -- ---- the row and the cursors
 module _ (h : Matrix) (N b : ℕ) (ts : List ℕ) (xs : List Float) where
-  pub gathering-none : (at : List ℕ) (rt : List ℕ) (rx : List Float) → Cursors h N b at → length rt ≡ 512 → length rx ≡ 512 → Gathering h N b 0 ts xs 0 at rt rx
-  gathering-none at rt rx C k l = record { many = none-counted (column h b); moving = moving-none h N b at C; row = collected-none _ _ rt rx k l }
+  pub gathering-none : (at : List ℕ) → Cursors h N b at → Gathering h N b 0 ts xs 0 at ts xs
+  gathering-none at C = record { many = none-counted (column h b); moving = moving-none h N b at C; low = low-none ts xs; row = collected-none _ _ ts xs }
 
-  module _ (c d : ℕ) (at : List ℕ) (rt : List ℕ) (rx : List Float) (S : Gathering h N b c ts xs d at rt rx) where
-    pub gathering-gap : (e : ℕ) → Gap (column h b) c e → Gathering h N b e ts xs d at rt rx
+  module _ (c d : ℕ) (at : List ℕ) (us : List ℕ) (ys : List Float) (S : Gathering h N b c ts xs d at us ys) where
+    pub gathering-gap : (e : ℕ) → Gap (column h b) c e → Gathering h N b e ts xs d at us ys
     gathering-gap e G = record {
       many = S .many ∙ sym (gap-count (column h b) c e G);
       moving = moving-gap h N b c at (S .moving) e G;
-      row = collected-gap _ _ c rt rx (S .row) e G;
+      low = S .low;
+      row = collected-gap _ _ c us ys (S .row) e G;
     }
 
-    -- what stands at the cursor is read into the row
-    pub gathering-one : c < 512 → h c b ≡ true
-        → Gathering h N b (c + 1) ts xs (d + 1) (set at c (getD at c 0 + 1)) (set rt d (getD ts (getD at c 0) 0)) (set rx d (getD xs (getD at c 0) nan))
-    gathering-one k e = record {
-      many = rw (S .many) (sym (count-yes (column h b) c e));
-      moving = moving-one h N b c at (S .moving) k e;
-      row = rw (S .many) (collected-one (column h b) (heldAt h N ts xs b) c rt rx (S .row) k e _ _ reads);
+    -- no check from M on has messages
+    pub gathering-end : (M : ℕ) → Within h M → M ≤ c → Gathering h N b M ts xs d at us ys
+    gathering-end M W k = record {
+      many = S .many ∙ gap-count (column h b) M c (within-gap h M W b c k);
+      moving = record {
+        size = S .moving .size;
+        new = λ e a q l. S .moving .new e a q (omega arith);
+        old = λ e a q l. absurd (omega (arith, within-below h M W e a q));
+      };
+      low = S .low;
+      row = collected-end _ _ c us ys (S .row) M k;
     }
-      where
-        reads : channelOf (getD ts (getD at c 0) 0) (getD xs (getD at c 0) nan) ≡ heldAt h N ts xs b c
-        reads = unfold held messageAt in (rw (S .moving .old c b e (omega arith)))
 
-    -- the cursor is a place in the memory, and the row has room
-    pub gathering-small : start h N 512 ≤ 65536 → b < N → c < 512 → h c b ≡ true → (getD at c 0 < 65536) × (d < 512)
-    gathering-small m l k e = (omega (arith, S .moving .old c b e (omega arith), place-small h N c b m k l e), omega (arith, S .many, count-bound c (column h b)))
+    module _ (m : start h N 512 ≤ 65024) (kb : b < N) where
+      -- the cursor is a place before the row, and the row has room
+      pub gathering-small : c < 512 → h c b ≡ true → (getD at c 0 < 65024) × (d < 512)
+      gathering-small k e = (omega (arith, S .moving .old c b e (omega arith), place-small h N c b m k kb e), omega (arith, S .many, count-bound c (column h b)))
+
+      -- what stands at the cursor is read into the row
+      pub gathering-one : c < 512 → h c b ≡ true → (vs : List ℕ) (zs : List Float) → Written (65024 + d) (messageAt us ys (getD at c 0)) us ys vs zs
+          → Gathering h N b (c + 1) ts xs (d + 1) (set at c (getD at c 0 + 1)) vs zs
+      gathering-one k e vs zs W = record {
+        many = rw (S .many) (sym (count-yes (column h b) c e));
+        moving = moving-one h N b c at (S .moving) k e;
+        low = low-row ts xs us ys (S .low) d _ vs zs W;
+        row = collected-one (column h b) (heldAt h N ts xs b) c us ys (S .row) e vs zs (rw (S .many, reads) at W);
+      }
+        where
+          reads : messageAt us ys (getD at c 0) ≡ heldAt h N ts xs b c
+          reads = unfold held in (rw (S .moving .old c b e (omega arith)) (S .low .at (place h N c b) (place-small h N c b m k kb e)))
+
+      -- The same, said of the lists at hand.
+      pub gathering-now : c ≤ 512 → Gathering h N b c us ys d at us ys
+      gathering-now k = record {
+        many = S .many;
+        moving = S .moving;
+        low = low-none us ys;
+        row = record { at = λ i l q. S .row .at i l q ∙ sym (low-held ts xs us ys (S .low) h N i b m (omega arith) kb q) };
+      }
+
+      pub gathering-more : (e f : ℕ) (at' : List ℕ) (vs : List ℕ) (zs : List Float) → e ≤ 512 → Gathering h N b e us ys f at' vs zs → Gathering h N b e ts xs f at' vs zs
+      gathering-more e f at' vs zs k T = record {
+        many = T .many;
+        moving = T .moving;
+        low = low-more ts xs us ys (S .low) vs zs (T .low);
+        row = record { at = λ i l q. T .row .at i l q ∙ low-held ts xs us ys (S .low) h N i b m (omega arith) kb q };
+      }
+
+-- the row of a bit with M checks is in the memory
+pub row-fits : (ws : List ℕ) (h : Matrix) (N b M : ℕ) (ts : List ℕ) (xs : List Float) (d : ℕ) (at : List ℕ) (us : List ℕ) (ys : List Float) → Gathering h N b M ts xs d at us ys → Laid ws h ts xs → Within h M
+    → (length us ≡ length ys) × (65024 + d ≤ length us)
+row-fits ws h N b M ts xs d at us ys G L W =
+    let t = G .low .tags ∙ L .memory .tags in
+    (t ∙ sym (G .low .values ∙ L .memory .values), omega (arith, t, G .many, count-bound M (column h b), W .most))
 
 -- before the cursor of the next bit is the place of this one
 pub place-before : (h : Matrix) (N b c : ℕ) (at : List ℕ) → Cursors h N (b + 1) at → h c b ≡ true → getD at c 0 ≡ place h N c b + 1

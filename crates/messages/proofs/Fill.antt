@@ -6,16 +6,15 @@ use Prim.Native.Nat.{ℕ, _+_, _<_, _≤_}
 use native.Mathlib.Decide.{ℕ-discrete}
 use native.Mathlib.Numerals.{add-one}
 use native.Mathlib.Omega.{arith}
-use lib.ListN.{length, set, length-set}
+use lib.ListN.{length}
 use lib.Ieee.{Float}
 use Rattle.parity.specs.Matrix.{Matrix}
-use Rattle.parity.specs.Soft.{channelOf, sentAfter}
-use Rattle.soft.proofs.Places.{message-other}
-use Rattle.messages.specs.Memory.{start, place, held, Filling, Holds}
+use Rattle.parity.specs.Soft.{sentAfter}
+use Rattle.messages.specs.Memory.{start, place, held, Written, Filling, Holds}
 use Rattle.parity.specs.declared.Channel.{Channel}
 use Rattle.messages.proofs.Places.{start-suc}
 use Rattle.messages.proofs.Word.{Gap, gap-count, gap-before}
-use Rattle.messages.proofs.Cursor.{message-here, place-same}
+use Rattle.messages.proofs.Cursor.{place-same}
 
 pub place-gap : (h : Matrix) (N c b e : ℕ) → Gap (h c) b e → place h N c e ≡ place h N c b
 unfolding place
@@ -39,17 +38,15 @@ module _ (h : Matrix) (N : ℕ) (m : ℕ → Channel) where
       here = λ a k l q. F .here a (gap-before (h c) b e G a k q) l q;
     }
 
-    pub filling-one : b < N → h c b ≡ true → place h N c b < 65536 → (y : ℕ) (x : Float) → channelOf y x ≡ m b
-        → Filling h N c (b + 1) m (set ts (place h N c b) y) (set xs (place h N c b) x)
+    pub filling-one : b < N → h c b ≡ true → (us : List ℕ) (ys : List Float) → Written (place h N c b) (m b) ts xs us ys → Filling h N c (b + 1) m us ys
     unfolding held
-    filling-one kb e i y x v = record {
-      tags = length-set ts _ _ ∙ F .tags;
-      values = length-set xs _ _ ∙ F .values;
-      before = λ d a k l q. message-other ts xs (place h N c b) (place h N d a) _ _
-          (λ w. let f = place-same h N d a c b l kb q e w in omega (arith, f .0)) ∙ F .before d a k l q;
+    filling-one kb e us ys W = record {
+      tags = W .tags ∙ F .tags;
+      values = W .values ∙ F .values;
+      before = λ d a k l q. W .other (place h N d a) (λ w. let f = place-same h N d a c b l kb q e w in omega (arith, f .0)) ∙ F .before d a k l q;
       here = λ a k l q. elim (ℕ-discrete a b) [
-        | yes z ↦ rw z (message-here ts xs (place h N c b) y x (omega (arith, F .tags)) (omega (arith, F .values)) ∙ v)
-        | no z ↦ message-other ts xs (place h N c b) (place h N c a) _ _ (λ w. z (place-same h N c a c b l kb q e w .1)) ∙ F .here a (omega arith) l q
+        | yes z ↦ rw z (W .here)
+        | no z ↦ W .other (place h N c a) (λ w. z (place-same h N c a c b l kb q e w .1)) ∙ F .here a (omega arith) l q
       ];
     }
 

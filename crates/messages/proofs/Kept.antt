@@ -6,13 +6,12 @@ use Prim.Native.Nat.{ℕ, _+_, _<_, _≤_}
 use native.Mathlib.Decide.{ℕ-discrete}
 use native.Mathlib.Omega.{arith}
 use lib.Dec.{T}
-use lib.ListN.{getD, length, set, length-set}
+use lib.ListN.{getD}
 use lib.Ieee.{Float, nan, inf, fin, binary32, fits, isNan, eq, ofBits, toBits}
 use lib.Ieee.Bits.{ofBits-toBits}
 use Rattle.parity.specs.Soft.{messageAt}
-use Rattle.soft.proofs.Places.{message-other}
 use Rattle.messages.specs.Standing.{Twice, Kept}
-use Rattle.messages.proofs.Cursor.{message-here, message-is}
+use Rattle.messages.specs.Memory.{Written}
 
 -- ---- floats
 -- those that equal one are numbers
@@ -50,7 +49,7 @@ module _ (w : ℕ) (ts : List ℕ) (xs : List Float) where
   kept-none = record { tags = refl; values = refl; same = λ j k. refl; copy = λ q j k. absurd (omega arith) }
 
   -- without room
-  pub kept-not : (w + w ≤ 65536 → ⊥) → Kept w w ts xs ts xs
+  pub kept-not : (w + w ≤ 65024 → ⊥) → Kept w w ts xs ts xs
   kept-not n = record { tags = refl; values = refl; same = λ j k. refl; copy = λ q. absurd (n q) }
 
   -- what stands need not be kept anew
@@ -58,14 +57,14 @@ module _ (w : ℕ) (ts : List ℕ) (xs : List Float) where
   kept-twice A = record { tags = refl; values = refl; same = λ j k. refl; copy = λ q j k. sym (A .at q j k) }
 
   module _ (i : ℕ) (us : List ℕ) (ys : List Float) (K : Kept w i ts xs us ys) where
-    pub kept-more : i < w → w + i < length us → w + i < length ys → Kept w (i + 1) ts xs (set us (w + i) (getD us i 0)) (set ys (w + i) (getD ys i nan))
-    kept-more k l m = record {
-      tags = length-set us _ _ ∙ K .tags;
-      values = length-set ys _ _ ∙ K .values;
-      same = λ j n. message-other us ys (w + i) j _ _ (λ z. omega arith) ∙ K .same j n;
+    pub kept-more : i < w → (vs : List ℕ) (zs : List Float) → Written (w + i) (messageAt us ys i) us ys vs zs → Kept w (i + 1) ts xs vs zs
+    kept-more k vs zs W = record {
+      tags = W .tags ∙ K .tags;
+      values = W .values ∙ K .values;
+      same = λ j n. W .other j (λ z. omega arith) ∙ K .same j n;
       copy = λ q j n. elim (ℕ-discrete j i) [
-        | yes z ↦ rw z (message-here us ys (w + i) (getD us i 0) (getD ys i nan) l m ∙ message-is us ys i ∙ K .same i k)
-        | no z ↦ message-other us ys (w + i) (w + j) _ _ (λ e. omega arith) ∙ K .copy q j (omega arith)
+        | yes z ↦ rw z (W .here ∙ K .same i k)
+        | no z ↦ W .other (w + j) (λ e. omega arith) ∙ K .copy q j (omega arith)
       ];
     }
 

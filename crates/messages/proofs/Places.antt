@@ -58,14 +58,14 @@ module _ (h : Matrix) (N : ℕ) where
 
   -- ---- the places after all messages
   pub above-none : (ts : List ℕ) (xs : List Float) → Above h N ts xs ts xs
-  above-none ts xs = record { at = λ i k. refl }
+  above-none ts xs = record { at = λ i k l. refl }
 
   pub above-more : (ts : List ℕ) (xs : List Float) (us : List ℕ) (ys : List Float) → Above h N ts xs us ys → (vs : List ℕ) (zs : List Float) → Above h N us ys vs zs → Above h N ts xs vs zs
-  above-more ts xs us ys A vs zs B = record { at = λ i k. B .at i k ∙ A .at i k }
+  above-more ts xs us ys A vs zs B = record { at = λ i k l. B .at i k l ∙ A .at i k l }
 
   pub above-part : (c : ℕ) (g : ℕ → Channel) (ts : List ℕ) (xs : List Float) (us : List ℕ) (ys : List Float) → c < 512 → Part (start h N c) (count N (h c)) g ts xs us ys
       → Above h N ts xs us ys
-  above-part c g ts xs us ys k P = record { at = λ i l. P .after i (omega (arith, start-suc c, start-mono (suc c) 512 k)) }
+  above-part c g ts xs us ys k P = record { at = λ i l m. P .after i (omega (arith, start-suc c, start-mono (suc c) 512 k)) }
 
   -- no check from M on has messages
   pub start-end : (M c : ℕ) → Within h M → M ≤ c → start h N c ≡ start h N M

@@ -2,7 +2,7 @@
 use mathlib.Core.Path.{_≡_, refl, sym, ap, fun-ext, _∙_}
 use mathlib.Core.Bool.{true, _&&_, and-eq-true-iff}
 use mathlib.Core.List.{List}
-use Prim.Native.Nat.{ℕ, _+_, _<_}
+use Prim.Native.Nat.{ℕ, _+_, _<_, _≤_}
 use native.Mathlib.Decide.{ℕ-discrete, decLt}
 use borrow.Author.Tests.{lt-ltb, le-ltb}
 use native.Mathlib.Omega.{arith}
@@ -10,40 +10,41 @@ use lib.ListN.{length}
 use lib.Ieee.{Float}
 use Rattle.parity.specs.Finite.{count}
 use Rattle.parity.specs.Matrix.{Matrix}
-use Rattle.parity.specs.Soft.{Messages, messageAt, settled, bitSends, toChecks, but}
+use Rattle.parity.specs.Soft.{Messages, settled, bitSends, toChecks, but}
 use Rattle.soft.specs.Pass.{every, bitAnswer}
 use Rattle.columns.specs.Columns.{Columns}
-use Rattle.messages.specs.Memory.{held, across, column, heldAt, Part, from, Collected, Spread, BitSent, Sending, resultOf, Holds, Within}
+use Rattle.messages.specs.Memory.{start, held, across, column, heldAt, Low, Part, from, Collected, Spread, BitSent, Sending, resultOf, Holds, Within}
 use Rattle.messages.specs.Loops.{SentAll}
 use Rattle.parity.specs.declared.Channel.{Channel}
 use Rattle.parity.proofs.Soft.Cong.{gathered-at}
 use Rattle.messages.proofs.Compact.{rank-less, gathered-row, all-row}
+use Rattle.messages.proofs.Cursor.{low-more, low-held, part-low}
 
 module _ (h : Matrix) (N M b : ℕ) (v : Channel) (ts : List ℕ) (xs : List Float) (rt : List ℕ) (rx : List Float)
     (C : Collected (column h b) M (heldAt h N ts xs b) rt rx) where
-  in-row : (i : ℕ) → i < M → h i b ≡ true → from 0 rt rx (count i (column h b)) ≡ heldAt h N ts xs b i
-  in-row i k e = ap (messageAt rt rx) (plain (count i (column h b))) ∙ C .at i k e
-    where
-      plain : (t : ℕ) → 0 + t ≡ t
-      plain t = omega arith
-
   -- the result from the row
-  pub row-result : bitSends v (count M (column h b)) every (from 0 rt rx) ≡ bitSends v M (column h b) (heldAt h N ts xs b)
+  pub row-result : bitSends v (count M (column h b)) every (from 65024 rt rx) ≡ bitSends v M (column h b) (heldAt h N ts xs b)
   unfolding bitSends
-  row-result = ap settled (all-row (column h b) (heldAt h N ts xs b) (from 0 rt rx) v M in-row)
+  row-result = ap settled (all-row (column h b) (heldAt h N ts xs b) (from 65024 rt rx) v M (C .at))
 
-  module _ (rt' : List ℕ) (rx' : List Float) (P : Part 0 (count M (column h b)) (bitAnswer v (count M (column h b)) (from 0 rt rx)) rt rx rt' rx')
-      (ts' : List ℕ) (xs' : List Float) (S : Spread h N b 0 M (messageAt rt' rx') ts xs ts' xs') where
+  module _ (rt' : List ℕ) (rx' : List Float) (P : Part 65024 (count M (column h b)) (bitAnswer v (count M (column h b)) (from 65024 rt rx)) rt rx rt' rx')
+      (ts' : List ℕ) (xs' : List Float) (S : Spread h N b 0 M rt' rx' ts' xs') where
     sent-at : (d : ℕ) → d < M → h d b ≡ true → held h N ts' xs' d b ≡ bitSends v M (λ e. h e b && but d e) (heldAt h N ts xs b)
     unfolding bitSends bitAnswer
     sent-at d k e =
-        let t = count d (column h b) in
-        let z : t ≡ 0 + t = omega arith in
-        S .done d (omega arith) k e ∙ ap (messageAt rt' rx') z ∙ P .new t (rank-less (column h b) d M k e)
-        ∙ ap settled (gathered-row (column h b) (heldAt h N ts xs b) (from 0 rt rx) v M d e in-row)
+        S .done d (omega arith) k e ∙ P .new (count d (column h b)) (rank-less (column h b) d M k e)
+        ∙ ap settled (gathered-row (column h b) (heldAt h N ts xs b) (from 65024 rt rx) v M d e (C .at))
 
-    pub bit-sent : BitSent h N M b v ts xs ts' xs'
-    bit-sent = record { tags = S .tags; values = S .values; done = sent-at; rest = λ d a k l e n. S .rest d a l e (λ z. absurd (n z)); above = S .above }
+    pub bit-sent : Low ts xs rt rx → start h N 512 ≤ 65024 → M ≤ 512 → BitSent h N M b v ts xs ts' xs'
+    bit-sent L m w =
+        let K = low-more ts xs rt rx L rt' rx' (part-low _ _ rt rx rt' rx' P) in
+        record {
+          tags = S .tags ∙ K .tags;
+          values = S .values ∙ K .values;
+          done = sent-at;
+          rest = λ d a k l e n. S .rest d a l e (λ z. absurd (n z)) ∙ low-held ts xs rt' rx' K h N d a m (omega arith) l e;
+          above = record { at = λ i k l. S .above .at i k l ∙ K .at i l };
+        }
 
 -- ---- all bits
 module _ (h : Matrix) (N M : ℕ) (channel : ℕ → Channel) (old : Messages) where
@@ -82,10 +83,12 @@ sent-more h M b channel old ts xs k A ts' xs' B = record {
   sending = sending-more h 512 M channel old b k ts xs (A .sending) ts' xs' B;
 }
 
-pub result-at : (h : Matrix) (N M b : ℕ) (channel : ℕ → Channel) (ts : List ℕ) (xs : List Float) (r v : Channel) → r ≡ bitSends v M (column h b) (heldAt h N ts xs b) → v ≡ channel b
-    → r ≡ resultOf h N M channel ts xs b
-unfolding resultOf
-result-at h N M b channel ts xs r v e q = rw q at e
+-- the result, from lists that are the same before the row
+pub result-at : (h : Matrix) (N M b : ℕ) (channel : ℕ → Channel) (ts : List ℕ) (xs : List Float) (us : List ℕ) (ys : List Float) → Low ts xs us ys → start h N 512 ≤ 65024 → M ≤ 512
+    → b < N → (r v : Channel) → r ≡ bitSends v M (column h b) (heldAt h N us ys b) → v ≡ channel b → r ≡ resultOf h N M channel ts xs b
+unfolding resultOf bitSends
+result-at h N M b channel ts xs us ys L m w k r v e q =
+    (rw q at e) ∙ ap settled (gathered-at (channel b) M (column h b) (heldAt h N us ys b) (heldAt h N ts xs b) (λ i l t. low-held ts xs us ys L h N i b m (omega arith) k t))
 
 -- ---- the columns
 -- the columns of M checks say the matrix, which has no others

@@ -8,13 +8,14 @@ use native.Mathlib.Nat.{lt-of-le-of-lt}
 use native.Mathlib.Omega.{arith}
 use borrow.Author.Tests.{eq-eqb, ne-eqb}
 use lib.Bits.{bitAnd, and-le-l}
+use lib.Count.{trailingZeros}
 use lib.ListN.{getD}
 use Rattle.parity.specs.Finite.{count}
 use Rattle.parity.specs.Matrix.{bitOf, lent}
 use Rattle.parity.proofs.Finite.Sums.{count-end}
 use Rattle.parity.proofs.Matrix.Digits.{bit-zero}
 use Rattle.parity.proofs.Matrix.Lent.{lent-word}
-use Rattle.parity.proofs.Matrix.Ones.{Lowest}
+use Rattle.parity.proofs.Matrix.Ones.{Lowest, trailing-lowest}
 use Rattle.parity.proofs.Matrix.Rest.{rest-bit}
 
 -- No number from c on below e passes p.
@@ -63,13 +64,13 @@ module _ (p : ℕ → Bool) (i c rest : ℕ) (S : Left p i c rest) where
     least : c ≤ i * 64 + t
     least = elim (decLt (i * 64 + t) c) [ yes k ↦ absurd (true≢false (sym (L .here) ∙ S .gone t (L .short) k)) | no k ↦ omega arith ]
 
-    pub left-gap : Gap p c (i * 64 + t)
+    left-gap : Gap p c (i * 64 + t)
     left-gap = record { least = least; none = λ d k l. sym (at-place d k (omega (arith, L .short))) ∙ L .none (d - i * 64) (omega (arith, S .low)) }
 
-    pub left-one : p (i * 64 + t) ≡ true
+    left-one : p (i * 64 + t) ≡ true
     left-one = sym (S .here t (L .short) least) ∙ L .here
 
-    pub left-next : Left p i (i * 64 + t + 1) (bitAnd rest (rest - 1))
+    left-next : Left p i (i * 64 + t + 1) (bitAnd rest (rest - 1))
     left-next = record {
       fits = lt-of-le-of-lt (and-le-l rest (rest - 1)) (S .fits);
       low = omega arith;
@@ -80,3 +81,22 @@ module _ (p : ℕ → Bool) (i c rest : ℕ) (S : Left p i c rest) where
       ];
       here = λ j k l. rest-bit 64 rest t L j ∙ rw (ne-eqb j t (λ q. omega arith), and-true) (S .here j k (omega (arith, least)));
     }
+
+-- `e` is the lowest number left in word i, which goes out.
+pub record Taken (p : ℕ → Bool) (i c rest e : ℕ) : Type 0 where
+  pub one : p e ≡ true
+  pub low : i * 64 ≤ e
+  pub top : e < i * 64 + 64
+  pub gap : Gap p c e
+  pub next : Left p i (e + 1) (bitAnd rest (rest - 1))
+
+pub left-taken : (p : ℕ → Bool) (i c rest : ℕ) → Left p i c rest → (rest ≡ 0 → ⊥) → (e : ℕ) → e ≡ i * 64 + trailingZeros 64 rest → Taken p i c rest e
+left-taken p i c rest S n e q =
+    let L = trailing-lowest 64 rest (S .fits) n in
+    rw q (record {
+      one = left-one p i c rest S _ L;
+      low = omega arith;
+      top = omega (arith, L .short);
+      gap = left-gap p i c rest S _ L;
+      next = left-next p i c rest S _ L;
+    })

@@ -6,27 +6,15 @@ use lib.ListN.{length}
 use lib.Ieee.{Float}
 use Rattle.parity.specs.Matrix.{Matrix}
 use Rattle.parity.specs.Soft.{Messages}
-use Rattle.messages.specs.Memory.{Cursors, Sending, Answering, Above, held, resultOf}
+use Rattle.messages.specs.Memory.{Sending, Answering, Above, held, resultOf}
 use Rattle.soft.specs.Pass.{Holding}
 use Rattle.parity.specs.declared.Channel.{Channel}
-
--- the cursors are those of bit b, and the row has its size
-pub record Moved (h : Matrix) (b : ℕ) (at : List ℕ) (rt : List ℕ) (rx : List Float) : Type 0 where
-  pub cursors : Cursors h 512 b at
-  pub tags : length rt ≡ 512
-  pub values : length rx ≡ 512
 
 -- the first b bits have sent
 pub record SentAll (h : Matrix) (M b : ℕ) (channel : ℕ → Channel) (old : Messages) (ts : List ℕ) (xs : List Float) : Type 0 where
   pub tags : length ts ≡ 65536
   pub values : length xs ≡ 65536
   pub sending : Sending h 512 M b channel old ts xs
-
--- the cursors and the row have their sizes
-pub record Sized (at : List ℕ) (rt : List ℕ) (rx : List Float) : Type 0 where
-  pub cursors : length at ≡ 512
-  pub tags : length rt ≡ 512
-  pub values : length rx ≡ 512
 
 -- all checks have answered, by lists between
 pub record Heard (h : Matrix) (M : ℕ) (ts : List ℕ) (xs : List Float) (mt : List ℕ) (mx : List Float) : Type 0 where

@@ -1,4 +1,5 @@
--- Messages in lent memory: one for each one of the matrix, check after check, a check's by rising bit. Assumes nothing.
+-- Messages in lent memory: one for each one of the matrix, check after check, a check's by rising bit. The last 512 of the 65,536 places are the row, in
+-- which a bit's messages stand side by side. Assumes nothing.
 use Prim.Native.Nat.{ℕ, _+_, _<_, _≤_}
 use mathlib.Core.Path.{_≡_}
 use mathlib.Core.Bool.{Bool, true, false, _&&_}
@@ -21,6 +22,41 @@ place h N c b = start h N c + count b (h c)
 -- the messages that the lists hold
 unfoldable pub held : Matrix → ℕ → List ℕ → List Float → Messages
 held h N ts xs c b = messageAt ts xs (place h N c b)
+
+-- the lent memory
+pub record Sized (ts : List ℕ) (xs : List Float) : Type 0 where
+  pub tags : length ts ≡ 65536
+  pub values : length xs ≡ 65536
+
+-- The words or the columns ws of the matrix h, and the lent memory, in which all messages lie before the row.
+pub record Laid (ws : List ℕ) (h : Matrix) (ts : List ℕ) (xs : List Float) : Type 0 where
+  pub words : length ws ≡ 4096
+  pub memory : Sized ts xs
+  pub room : start h 512 512 ≤ 65024
+
+-- No check from M on contains a bit.
+pub record Within (h : Matrix) (M : ℕ) : Type 0 where
+  pub most : M ≤ 512
+  pub after : (d a : ℕ) → M ≤ d → h d a ≡ false
+
+-- The bits that checks contain are those of a word w with its floats f.
+pub record Inner (h : Matrix) (w : List ℕ) (f : List Float) : Type 0 where
+  pub most : length w ≤ 512
+  pub same : length f ≡ length w
+  pub below : (d a : ℕ) → h d a ≡ true → a < length w
+
+-- Message i is v now, and every other is as it was.
+pub record Written (i : ℕ) (v : Channel) (ts : List ℕ) (xs : List Float) (ts' : List ℕ) (xs' : List Float) : Type 0 where
+  pub tags : length ts' ≡ length ts
+  pub values : length xs' ≡ length xs
+  pub here : messageAt ts' xs' i ≡ v
+  pub other : (t : ℕ) → (t ≡ i → ⊥) → messageAt ts' xs' t ≡ messageAt ts xs t
+
+-- the places before the row are as they were
+pub record Low (ts : List ℕ) (xs : List Float) (ts' : List ℕ) (xs' : List Float) : Type 0 where
+  pub tags : length ts' ≡ length ts
+  pub values : length xs' ≡ length xs
+  pub at : (i : ℕ) → i < 65024 → messageAt ts' xs' i ≡ messageAt ts xs i
 
 -- In w places from a on the lists hold g now, and elsewhere what they held.
 pub record Part (a w : ℕ) (g : ℕ → Channel) (ts : List ℕ) (xs : List Float) (ts' : List ℕ) (xs' : List Float) : Type 0 where
@@ -51,9 +87,9 @@ across g c b = g b c
 abbrev pub column : Matrix → ℕ → ℕ → Bool
 column h b c = h c b
 
--- the places after all messages are as they were
+-- the places between the messages and the row are as they were
 pub record Above (h : Matrix) (N : ℕ) (ts : List ℕ) (xs : List Float) (ts' : List ℕ) (xs' : List Float) : Type 0 where
-  pub at : (i : ℕ) → start h N 512 ≤ i → messageAt ts' xs' i ≡ messageAt ts xs i
+  pub at : (i : ℕ) → start h N 512 ≤ i → i < 65024 → messageAt ts' xs' i ≡ messageAt ts xs i
 
 -- For each check with a bit, the place of its message with bit b, or of the next above b.
 pub record Cursors (h : Matrix) (N b : ℕ) (at : List ℕ) : Type 0 where
@@ -70,25 +106,25 @@ pub record Moving (h : Matrix) (N b c : ℕ) (at : List ℕ) : Type 0 where
 abbrev pub heldAt : Matrix → ℕ → List ℕ → List Float → ℕ → ℕ → Channel
 heldAt h N ts xs b c = held h N ts xs c b
 
--- The lists hold in a row the values f of the numbers below N that pass p.
+-- The row holds the values f of the numbers below N that pass p.
 pub record Collected (p : ℕ → Bool) (N : ℕ) (f : ℕ → Channel) (ts : List ℕ) (xs : List Float) : Type 0 where
-  pub tags : length ts ≡ 512
-  pub values : length xs ≡ 512
-  pub at : (i : ℕ) → i < N → p i ≡ true → messageAt ts xs (count i p) ≡ f i
+  pub at : (i : ℕ) → i < N → p i ≡ true → messageAt ts xs (65024 + count i p) ≡ f i
 
 -- Of bit b's messages, those with the checks below c stand in the row, d of them, and these checks' cursors have gone on.
-pub record Gathering (h : Matrix) (N b c : ℕ) (ts : List ℕ) (xs : List Float) (d : ℕ) (at : List ℕ) (rt : List ℕ) (rx : List Float) : Type 0 where
+pub record Gathering (h : Matrix) (N b c : ℕ) (ts : List ℕ) (xs : List Float) (d : ℕ) (at : List ℕ) (ts' : List ℕ) (xs' : List Float) : Type 0 where
   pub many : d ≡ count c (column h b)
   pub moving : Moving h N b c at
-  pub row : Collected (column h b) c (heldAt h N ts xs b) rt rx
+  pub low : Low ts xs ts' xs'
+  pub row : Collected (column h b) c (heldAt h N ts xs b) ts' xs'
 
--- The messages of bit b with the checks from l on below c are those of the row, and every other is as it was.
-pub record Spread (h : Matrix) (N b l c : ℕ) (row : ℕ → Channel) (ts : List ℕ) (xs : List Float) (ts' : List ℕ) (xs' : List Float) : Type 0 where
+-- The messages of bit b with the checks from l on below c are those of the row, and every other place is as it was.
+pub record Spread (h : Matrix) (N b l c : ℕ) (ts : List ℕ) (xs : List Float) (ts' : List ℕ) (xs' : List Float) : Type 0 where
   pub tags : length ts' ≡ length ts
   pub values : length xs' ≡ length xs
-  pub done : (d : ℕ) → l ≤ d → d < c → h d b ≡ true → held h N ts' xs' d b ≡ row (count d (column h b))
+  pub done : (d : ℕ) → l ≤ d → d < c → h d b ≡ true → held h N ts' xs' d b ≡ messageAt ts xs (65024 + count d (column h b))
   pub rest : (d a : ℕ) → a < N → h d a ≡ true → (a ≡ b → l ≤ d → c ≤ d) → held h N ts' xs' d a ≡ held h N ts xs d a
   pub above : Above h N ts xs ts' xs'
+  pub row : (t : ℕ) → messageAt ts' xs' (65024 + t) ≡ messageAt ts xs (65024 + t)
 
 -- The first b bits have sent; the messages at the others are as they were.
 pub record Sending (h : Matrix) (N M b : ℕ) (channel : ℕ → Channel) (old : Messages) (ts : List ℕ) (xs : List Float) : Type 0 where
@@ -119,12 +155,3 @@ pub record Holds (h : Matrix) (N M : ℕ) (m : Messages) (ts : List ℕ) (xs : L
   pub tags : length ts ≡ 65536
   pub values : length xs ≡ 65536
   pub at : (d a : ℕ) → d < M → a < N → h d a ≡ true → held h N ts xs d a ≡ m d a
-
--- no check contains a bit from N on
-pub record Inner (h : Matrix) (N : ℕ) : Type 0 where
-  pub below : (d a : ℕ) → h d a ≡ true → a < N
-
--- No check from M on contains a bit, and the messages of all fit the memory.
-pub record Within (h : Matrix) (M : ℕ) : Type 0 where
-  pub room : start h 512 512 ≤ 65536
-  pub after : (d a : ℕ) → M ≤ d → h d a ≡ false

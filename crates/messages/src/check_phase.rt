@@ -7,7 +7,7 @@ ghost use Prim.Native.Nat.{_+_, _≤_, _<_};
 ghost use lib.ListN.{length};
 ghost use Rattle.parity.specs.Matrix.{lent};
 ghost use Rattle.soft.specs.Pass.{Sounds, checkAnswer};
-ghost use Rattle.messages.specs.Memory.{Part, from, held, Cursors, Above, SoundAll, Answering, Within};
+ghost use Rattle.messages.specs.Memory.{Laid, Within, Part, from, held, Cursors, Above, SoundAll, Answering};
 
 // The check with `w` messages from place `a` on answers.
 fn check_at(tags: &mut [u8], values: &mut [f32], a: usize, w: usize)
@@ -27,9 +27,8 @@ pub fn checks_send(
     tags: &mut [u8],
     values: &mut [f32],
 )
-    requires { ⌜ (length (now words) ≡ 4096) × (checks ≤ 512) × (length (now tags) ≡ 65536) × (length (now values) ≡ 65536) × (length (now at) ≡ 512) ⌝ }
-    requires { ⌜ Within (lent 8 (now words)) checks ⌝ }
-    requires { ⌜ SoundAll (lent 8 (now words)) 512 checks (held (lent 8 (now words)) 512 (now tags) (now values)) ⌝ }
+    requires { ⌜ Laid (now words) (lent 8 (now words)) (now tags) (now values) × Within (lent 8 (now words)) checks ⌝ }
+    requires { ⌜ (length (now at) ≡ 512) × SoundAll (lent 8 (now words)) 512 checks (held (lent 8 (now words)) 512 (now tags) (now values)) ⌝ }
     ensures { λ r. ⌜ Cursors (lent 8 (now (words .entry))) 512 0 (now (at .exit)) ⌝ }
     ensures { λ r. ⌜ Answering (lent 8 (now (words .entry))) 512 checks checks (held (lent 8 (now (words .entry))) 512 (now (tags .entry)) (now (values .entry))) (now (tags .exit)) (now (values .exit)) ⌝ }
     ensures { λ r. ⌜ Above (lent 8 (now (words .entry))) 512 (now (tags .entry)) (now (values .entry)) (now (tags .exit)) (now (values .exit)) ⌝ }

@@ -1,11 +1,12 @@
 // Before the first round, bits send their channel value.
-use rows::wide;
+use crate::copying::enter;
+use crate::copying::lowest;
 ghost use mathlib.Core.Path.{_≡_};
 ghost use Prim.Native.Nat.{_+_, _*_, _≤_, _<_};
 ghost use lib.ListN.{length};
 ghost use Rattle.parity.specs.Matrix.{lent};
 ghost use Rattle.parity.specs.Soft.{messageAt, sentAfter};
-ghost use Rattle.messages.specs.Memory.{start, place, Filling, Holds, Inner};
+ghost use Rattle.messages.specs.Memory.{Laid, Inner, start, place, Filling, Holds};
 
 // The channel values of the bits of word `i` of check `c` are written to the messages from place `first` on. Returns the place after them.
 fn fill_word(
@@ -18,18 +19,15 @@ fn fill_word(
     tags: &mut [u8],
     values: &mut [f32],
 ) -> usize
-    requires { ⌜ (length (now words) ≡ 4096) × (c < 512) × (i < 8) × (length (now floats) ≡ length (now word)) ⌝ }
-    requires { ⌜ (start (lent 8 (now words)) 512 512 ≤ 65536) × Inner (lent 8 (now words)) (length (now word)) ⌝ }
-    requires { ⌜ (first ≡ place (lent 8 (now words)) 512 c (i * 64)) × Filling (lent 8 (now words)) 512 c (i * 64) (messageAt (now word) (now floats)) (now tags) (now values) ⌝ }
+    requires { ⌜ Laid (now words) (lent 8 (now words)) (now tags) (now values) × Inner (lent 8 (now words)) (now word) (now floats) ⌝ }
+    requires { ⌜ (c < 512) × (i < 8) × (first ≡ place (lent 8 (now words)) 512 c (i * 64)) × Filling (lent 8 (now words)) 512 c (i * 64) (messageAt (now word) (now floats)) (now tags) (now values) ⌝ }
     ensures { λ r. ⌜ r ≡ place (lent 8 (now (words .entry))) 512 c (i * 64 + 64) ⌝ }
     ensures { λ r. ⌜ Filling (lent 8 (now (words .entry))) 512 c (i * 64 + 64) (messageAt (now (word .entry)) (now (floats .entry))) (now (tags .exit)) (now (values .exit)) ⌝ }
 {
     let mut a = first;
     let mut rest = words[c * 8 + i];
     while rest != 0 {
-        let b = i * 64 + wide(u64::trailing_zeros(rest));
-        tags[a] = word[b];
-        values[a] = floats[b];
+        enter(word, floats, lowest(i, rest), tags, values, a);
         a += 1;
         rest = rest & (rest - 1);
     }
@@ -46,9 +44,8 @@ fn fill_check(
     tags: &mut [u8],
     values: &mut [f32],
 ) -> usize
-    requires { ⌜ (length (now words) ≡ 4096) × (c < 512) × (length (now floats) ≡ length (now word)) ⌝ }
-    requires { ⌜ (start (lent 8 (now words)) 512 512 ≤ 65536) × Inner (lent 8 (now words)) (length (now word)) ⌝ }
-    requires { ⌜ (first ≡ start (lent 8 (now words)) 512 c) × Filling (lent 8 (now words)) 512 c 0 (messageAt (now word) (now floats)) (now tags) (now values) ⌝ }
+    requires { ⌜ Laid (now words) (lent 8 (now words)) (now tags) (now values) × Inner (lent 8 (now words)) (now word) (now floats) ⌝ }
+    requires { ⌜ (c < 512) × (first ≡ start (lent 8 (now words)) 512 c) × Filling (lent 8 (now words)) 512 c 0 (messageAt (now word) (now floats)) (now tags) (now values) ⌝ }
     ensures { λ r. ⌜ r ≡ start (lent 8 (now (words .entry))) 512 (c + 1) ⌝ }
     ensures { λ r. ⌜ Filling (lent 8 (now (words .entry))) 512 (c + 1) 0 (messageAt (now (word .entry)) (now (floats .entry))) (now (tags .exit)) (now (values .exit)) ⌝ }
 {
@@ -68,8 +65,7 @@ pub fn fill_all(
     tags: &mut [u8],
     values: &mut [f32],
 ) -> usize
-    requires { ⌜ (length (now words) ≡ 4096) × (checks ≤ 512) × (length (now tags) ≡ 65536) × (length (now values) ≡ 65536) × (length (now floats) ≡ length (now word)) ⌝ }
-    requires { ⌜ (start (lent 8 (now words)) 512 512 ≤ 65536) × Inner (lent 8 (now words)) (length (now word)) ⌝ }
+    requires { ⌜ Laid (now words) (lent 8 (now words)) (now tags) (now values) × Inner (lent 8 (now words)) (now word) (now floats) × (checks ≤ 512) ⌝ }
     ensures { λ r. ⌜ r ≡ start (lent 8 (now (words .entry))) 512 checks ⌝ }
     ensures { λ r. ⌜ Holds (lent 8 (now (words .entry))) 512 checks (sentAfter (lent 8 (now (words .entry))) 512 checks (messageAt (now (word .entry)) (now (floats .entry))) 0) (now (tags .exit)) (now (values .exit)) ⌝ }
 {

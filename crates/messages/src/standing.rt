@@ -1,7 +1,8 @@
-// Whether a round leaves the messages as they were. The `w` messages of the round before are kept in the places after the messages, if there is room.
+// Whether a round leaves the messages as they were. The `w` messages of the round before are kept in the places after the messages, if there is room before the row.
+use crate::copying::copy;
 ghost use mathlib.Core.Path.{_≡_};
 ghost use mathlib.Core.Bool.{true};
-ghost use lib.ListN.{length};
+ghost use Rattle.messages.specs.Memory.{Sized};
 ghost use Rattle.messages.specs.Standing.{Kept, Standing};
 
 // Whether two floats are the same number with the same sign.
@@ -16,10 +17,10 @@ fn same_float(x: f32, y: f32) -> bool
 
 // Whether the messages are the kept ones.
 fn same(tags: &[u8], values: &[f32], w: usize) -> bool
-    requires { ⌜ (length (now tags) ≡ 65536) × (length (now values) ≡ 65536) ⌝ }
+    requires { ⌜ Sized (now tags) (now values) ⌝ }
     ensures { λ r. ⌜ Standing r w (now (tags .entry)) (now (values .entry)) ⌝ }
 {
-    if 32768 < w {
+    if 32512 < w {
         return false;
     }
     for i in 0..w {
@@ -35,21 +36,20 @@ fn same(tags: &[u8], values: &[f32], w: usize) -> bool
 
 // The messages are kept.
 pub fn keep(tags: &mut [u8], values: &mut [f32], w: usize)
-    requires { ⌜ (length (now tags) ≡ 65536) × (length (now values) ≡ 65536) ⌝ }
+    requires { ⌜ Sized (now tags) (now values) ⌝ }
     ensures { λ r. ⌜ Kept w w (now (tags .entry)) (now (values .entry)) (now (tags .exit)) (now (values .exit)) ⌝ }
 {
-    if 32768 < w {
+    if 32512 < w {
         return;
     }
     for i in 0..w {
-        tags[w + i] = tags[i];
-        values[w + i] = values[i];
+        copy(tags, values, i, w + i);
     }
 }
 
 // The messages are kept. Returns whether they are those that were kept before.
 pub fn renew(tags: &mut [u8], values: &mut [f32], w: usize) -> bool
-    requires { ⌜ (length (now tags) ≡ 65536) × (length (now values) ≡ 65536) ⌝ }
+    requires { ⌜ Sized (now tags) (now values) ⌝ }
     ensures { λ r. ⌜ Standing r w (now (tags .entry)) (now (values .entry)) ⌝ }
     ensures { λ r. ⌜ Kept w w (now (tags .entry)) (now (values .entry)) (now (tags .exit)) (now (values .exit)) ⌝ }
 {

@@ -10,7 +10,7 @@ use lib.Ieee.{Float}
 use Rattle.parity.specs.Matrix.{Matrix}
 use Rattle.parity.specs.Soft.{Messages, messageAt, settled, bitSends, toBits, toChecks, sentAfter, resultAfter, sound, byteFor, floatFor, but}
 use Rattle.parity.specs.SoftPromises.{Agree}
-use Rattle.messages.specs.Memory.{start, place, held, Above, Inner, Within, Holds, Answering, SoundAll, resultOf}
+use Rattle.messages.specs.Memory.{start, place, held, Above, Within, Holds, Answering, SoundAll, resultOf}
 use Rattle.messages.specs.Loops.{SentAll, Round, Last}
 use Rattle.messages.specs.Standing.{Twice, Kept}
 use Rattle.soft.specs.Pass.{Holding, Sounds}
@@ -18,8 +18,15 @@ use Rattle.parity.specs.declared.Channel.{Channel}
 use Rattle.parity.proofs.Soft.Sound.{check-sound, bit-sound}
 use Rattle.parity.proofs.Soft.Cong.{gathered-at, check-at'}
 use Rattle.parity.proofs.Soft.Standing.{sent-standing}
+use Rattle.min_sum.specs.Rounds.{Ready}
+use Rattle.messages.proofs.Cursor.{laid-same}
 use Rattle.messages.proofs.Places.{start-mono, start-end, place-high}
 use Rattle.messages.proofs.Sends.{result-is}
+
+-- lists of the same lengths are memory too
+pub ready-same : (ws : List ℕ) (M : ℕ) (w : List ℕ) (f : List Float) (ts : List ℕ) (xs : List Float) → Ready ws M w f ts xs → (us : List ℕ) (ys : List Float)
+    → length us ≡ length ts → length ys ≡ length xs → Ready ws M w f us ys
+ready-same ws M w f ts xs R us ys p q = record { laid = laid-same _ _ ts xs (R .laid) us ys p q; within = R .within; inner = R .inner; sounds = R .sounds }
 
 module _ (h : Matrix) (N M : ℕ) where
   -- all checks have answered
@@ -58,12 +65,12 @@ module _ (h : Matrix) (N M : ℕ) where
     sent-sound (suc r) = sends-sound _ (heard-sound _ (sent-sound r))
 
 -- all bits have sent
-pub holds-sent : (h : Matrix) (N M : ℕ) → Inner h N → (channel : ℕ → Channel) (m : Messages) (ts : List ℕ) (xs : List Float) → Holds h 512 M m ts xs
+pub holds-sent : (h : Matrix) (N M : ℕ) → ((d a : ℕ) → h d a ≡ true → a < N) → (channel : ℕ → Channel) (m : Messages) (ts : List ℕ) (xs : List Float) → Holds h 512 M m ts xs
     → (ts' : List ℕ) (xs' : List Float) → SentAll h M N channel (held h 512 ts xs) ts' xs' → Holds h 512 M (toChecks h M channel m) ts' xs'
 holds-sent h N M I channel m ts xs H ts' xs' S = record {
   tags = S .tags;
   values = S .values;
-  at = λ d a i j e. S .sending .done d a i j (I .below d a e) e ∙ same-checks d a j;
+  at = λ d a i j e. S .sending .done d a i j (I d a e) e ∙ same-checks d a j;
 }
   where
     same-checks : (d a : ℕ) → a < 512 → toChecks h M channel (held h 512 ts xs) d a ≡ toChecks h M channel m d a
@@ -83,7 +90,7 @@ results-are h M r channel ts xs H b k =
     result-is h 512 M b channel (toBits h 512 (sentAfter h 512 M channel r)) ts xs k H ∙ (let e : suc r - 1 ≡ r = omega arith in rw e)
 
 -- a round takes the messages on by one
-pub round-more : (h : Matrix) (N M : ℕ) → Inner h N → (channel : ℕ → Channel) (r : ℕ) (ts : List ℕ) (xs : List Float) → Holds h 512 M (sentAfter h 512 M channel r) ts xs
+pub round-more : (h : Matrix) (N M : ℕ) → ((d a : ℕ) → h d a ≡ true → a < N) → (channel : ℕ → Channel) (r : ℕ) (ts : List ℕ) (xs : List Float) → Holds h 512 M (sentAfter h 512 M channel r) ts xs
     → (ts' : List ℕ) (xs' : List Float) → Round h N M channel ts xs ts' xs' → Holds h 512 M (sentAfter h 512 M channel (suc r)) ts' xs'
 round-more h N M I channel r ts xs H ts' xs' R =
     let K = holds-heard h 512 M _ ts xs H (R .mt) (R .mx) (R .heard .tags) (R .heard .values) (R .heard .answering) in
@@ -106,7 +113,7 @@ holds-kept h M w m ts xs e H us ys K = record {
 -- A round that leaves every message as it was in the copy of the round before: the messages are those after any later round.
 pub round-stands : (h : Matrix) (M w r last : ℕ) (channel : ℕ → Channel) (ts : List ℕ) (xs : List Float) (ts' : List ℕ) (xs' : List Float) → Within h M → M ≤ 512 → w ≡ start h 512 M
     → r ≤ last → Holds h 512 M (sentAfter h 512 M channel r) ts xs → Twice w w ts xs → Above h 512 ts xs ts' xs' → Holds h 512 M (sentAfter h 512 M channel (suc r)) ts' xs'
-    → w + w ≤ 65536 → Twice w w ts' xs' → Holds h 512 M (sentAfter h 512 M channel last) ts' xs'
+    → w + w ≤ 65024 → Twice w w ts' xs' → Holds h 512 M (sentAfter h 512 M channel last) ts' xs'
 round-stands h M w r last channel ts xs ts' xs' W k z l H A U H' q B = record {
   tags = H' .tags;
   values = H' .values;
@@ -117,7 +124,7 @@ round-stands h M w r last channel ts xs ts' xs' W k z l H A U H' q B = record {
     unchanged d a i j e =
         let p = place h 512 d a in
         let f : p < w = omega (arith, z, place-fits h M d a i j e) in
-        unfold held in (B .at q p f ∙ U .at (w + p) (omega (arith, z, start-end h 512 M 512 W k)) ∙ sym (A .at q p f))
+        unfold held in (B .at q p f ∙ U .at (w + p) (omega (arith, z, start-end h 512 M 512 W k)) (omega arith) ∙ sym (A .at q p f))
 
     agree : Agree h 512 M (sentAfter h 512 M channel (suc r)) (sentAfter h 512 M channel r)
     agree d a i j e = sym (H' .at d a i j e) ∙ unchanged d a i j e ∙ H .at d a i j e

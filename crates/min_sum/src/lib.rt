@@ -12,15 +12,14 @@ use matrix::Accepting;
 use parity::Refusal;
 use word::Admission;
 ghost use mathlib.Core.Path.{_≡_};
-ghost use Prim.Native.Nat.{_+_, _≤_};
+ghost use Prim.Native.Nat.{_≤_};
 ghost use lib.ListN.{length, replicate};
 ghost use Rattle.parity.specs.Matrix.{lent};
-ghost use Rattle.parity.specs.Floats.{positiveZero};
 ghost use Rattle.parity.specs.Soft.{messageAt, resultAfter};
 ghost use Rattle.parity.specs.SoftCall.{minSumOutcome};
-ghost use Rattle.soft.specs.Pass.{Holding, Sounds};
-ghost use Rattle.messages.specs.Memory.{Inner, Within};
+ghost use Rattle.soft.specs.Pass.{Holding};
 ghost use Rattle.min_sum.specs.Answers.{decodingReply, Results};
+ghost use Rattle.min_sum.specs.Rounds.{Ready};
 
 // What the call on soft bits answers.
 pub enum Decoding {
@@ -40,22 +39,9 @@ fn no_places() -> [usize; 512]
     [0usize; 512]
 }
 
-fn no_bytes() -> [u8; 512]
-    ensures { λ r. ⌜ r ≡ replicate 512 0 ⌝ }
-{
-    [0u8; 512]
-}
-
-fn no_floats() -> [f32; 512]
-    ensures { λ r. ⌜ r ≡ replicate 512 positiveZero ⌝ }
-{
-    [0.0f32; 512]
-}
-
 // Runs the rounds, with the columns of the matrix: the results replace the input.
 fn by_columns(
     words: &[u64],
-    bits: usize,
     checks: usize,
     rounds: usize,
     word: &mut [u8],
@@ -63,30 +49,22 @@ fn by_columns(
     tags: &mut [u8],
     values: &mut [f32],
 )
-    requires { ⌜ (length (now words) ≡ 4096) × (checks ≤ 512) × (bits ≤ 512) × (length (now tags) ≡ 65536) × (length (now values) ≡ 65536) ⌝ }
-    requires { ⌜ (length (now word) ≡ bits) × (length (now floats) ≡ bits) × Within (lent 8 (now words)) checks × (1 ≤ rounds) ⌝ }
-    requires { ⌜ Inner (lent 8 (now words)) bits ⌝ }
-    requires { ⌜ Sounds bits (messageAt (now word) (now floats)) ⌝ }
-    ensures { λ r. ⌜ Holding bits (resultAfter (lent 8 (now (words .entry))) 512 checks (messageAt (now (word .entry)) (now (floats .entry))) rounds) (now (word .exit)) (now (floats .exit)) ⌝ }
+    requires { ⌜ Ready (now words) checks (now word) (now floats) (now tags) (now values) × (1 ≤ rounds) ⌝ }
+    ensures { λ r. ⌜ Holding (length (now (word .entry))) (resultAfter (lent 8 (now (words .entry))) 512 checks (messageAt (now (word .entry)) (now (floats .entry))) rounds) (now (word .exit)) (now (floats .exit)) ⌝ }
 {
     let mut cols = no_columns();
     fill(words, &mut cols, 8, checks);
     let mut at = no_places();
-    let mut row_tags = no_bytes();
-    let mut row_values = no_floats();
     run(
         words,
         &cols,
-        bits,
         checks,
         rounds,
-        &mut at,
-        &mut row_tags,
-        &mut row_values,
-        tags,
-        values,
         word,
         floats,
+        &mut at,
+        tags,
+        values,
     );
 }
 
@@ -94,7 +72,6 @@ fn by_columns(
 // its own: its columns are then on the stack while they are used, and not while the matrix is accepted.
 fn results(
     words: &[u64],
-    bits: usize,
     checks: usize,
     rounds: usize,
     word: &mut [u8],
@@ -102,19 +79,17 @@ fn results(
     tags: &mut [u8],
     values: &mut [f32],
 )
-    requires { ⌜ (length (now words) ≡ 4096) × (checks ≤ 512) × (bits ≤ 512) × (length (now tags) ≡ 65536) × (length (now values) ≡ 65536) ⌝ }
-    requires { ⌜ (length (now word) ≡ bits) × (length (now floats) ≡ bits) × Within (lent 8 (now words)) checks × (1 ≤ rounds) ⌝ }
-    requires { ⌜ Inner (lent 8 (now words)) bits ⌝ }
-    requires { ⌜ Sounds bits (messageAt (now word) (now floats)) ⌝ }
-    ensures { λ r. ⌜ Results bits (resultAfter (lent 8 (now (words .entry))) 512 checks (messageAt (now (word .entry)) (now (floats .entry))) rounds) (now (word .exit)) (now (floats .exit)) (now (tags .exit)) (now (values .exit)) ⌝ }
+    requires { ⌜ Ready (now words) checks (now word) (now floats) (now tags) (now values) × (1 ≤ rounds) ⌝ }
+    ensures { λ r. ⌜ Results (length (now (word .entry))) (resultAfter (lent 8 (now (words .entry))) 512 checks (messageAt (now (word .entry)) (now (floats .entry))) rounds) (now (word .exit)) (now (floats .exit)) (now (tags .exit)) (now (values .exit)) ⌝ }
 {
+    let bits = word.len();
     if bits == checks {
-        by_columns(words, checks, checks, rounds, word, floats, tags, values);
+        by_columns(words, bits, rounds, word, floats, tags, values);
         clear_floats(values);
         clear_bytes(tags);
         return;
     }
-    by_columns(words, bits, checks, rounds, word, floats, tags, values);
+    by_columns(words, checks, rounds, word, floats, tags, values);
     clear_bytes(tags);
     clear_floats(values);
 }
@@ -138,26 +113,21 @@ pub fn min_sum(
     ensures { λ r. ⌜ now («message_floats» .exit) ≡ minSumOutcome (now (words .entry)) n m k rounds (now (word .entry)) (now (floats .entry)) (now («message_bytes» .entry)) (now («message_floats» .entry)) .messageFloats ⌝ }
 {
     let accepted = matrix::accept(words, n, m, k);
-    match accepted {
-        Accepting::Refused(r) => Decoding::Refused(r),
-        Accepting::Accepted => {
-            let judged = judge(n + k, rounds, word, floats, message_bytes, message_floats);
-            match judged {
-                Admission::Refused(r) => Decoding::Refused(r),
-                Admission::Admitted => {
-                    results(
-                        words,
-                        n + k,
-                        m + k,
-                        rounds,
-                        word,
-                        floats,
-                        message_bytes,
-                        message_floats,
-                    );
-                    Decoding::Made
-                }
-            }
-        }
+    if let Accepting::Refused(r) = accepted {
+        return Decoding::Refused(r);
     }
+    let judged = judge(n + k, rounds, word, floats, message_bytes, message_floats);
+    if let Admission::Refused(r) = judged {
+        return Decoding::Refused(r);
+    }
+    results(
+        words,
+        m + k,
+        rounds,
+        word,
+        floats,
+        message_bytes,
+        message_floats,
+    );
+    Decoding::Made
 }

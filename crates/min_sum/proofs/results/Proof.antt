@@ -1,6 +1,6 @@
 -- `results` meets its contract. Assumes nothing.
 use mathlib.Core.Path.{_≡_, ap, _∙_}
-use lib.ListN.{replicate}
+use lib.ListN.{length, replicate}
 use Rattle.parity.specs.Floats.{positiveZero}
 use borrow.Author.Needs.{needs}
 use Rattle.min_sum.proofs.results.Statement.{statement}
@@ -9,8 +9,8 @@ use Rattle.min_sum.proofs.results.Tie as tie
 by-columns-requires : tie.Need-by-columns-requires
 by-columns-requires c κs =
     let s = c .before .before .before .before .before .before .before .before .before .before in
-    let e : s .args .bits ≡ s .args .checks = c .before .before .before .before .if1 .taken in
-    rw e at (s .pre)
+    let e : length (s .args .word .now) ≡ s .args .checks = c .before .before .before .before .if1 .taken in
+    rw e (s .pre)
 
 clear-bytes-requires : tie.Need-clear-bytes-requires
 clear-bytes-requires c κs = search needs
@@ -34,11 +34,11 @@ returns : tie.Need-returns
 returns c =
     let s = c .before .before .before .before .before .before .before .before .before .before .before .before .before .before .before .before .before .before .before .before .before .before .before .before .before .before .before in
     let B = c .before .before .before .before .before .before .before .before .before .before .before .before .before .before .before .before .by-columns in
-    let e : s .args .bits ≡ s .args .checks = c .before .before .before .before .before .before .before .before .before .before .before .before .before .before .before .before .before .before .before .before .before .if1 .taken in
+    let e : length (s .args .word .now) ≡ s .args .checks = c .before .before .before .before .before .before .before .before .before .before .before .before .before .before .before .before .before .before .before .before .before .if1 .taken in
     record {
-      held = rw e (B .ensures);
-      tags-zero = c .before .before .clear-bytes .ensures ∙ ap (λ n. replicate n 0) (B .kept .1 .1 .1 .1 .1 .1 .0 ∙ s .pre .0 .3);
-      values-zero = c .before .before .before .before .before .before .clear-floats .ensures ∙ ap (λ n. replicate n positiveZero) (B .kept .1 .1 .1 .1 .1 .1 .1 .0 ∙ s .pre .0 .4);
+      held = rw (← e) (B .ensures);
+      tags-zero = c .before .before .clear-bytes .ensures ∙ ap (λ n. replicate n 0) (B .kept .1 .1 .1 .1 .1 .0 ∙ s .pre .0 .laid .memory .tags);
+      values-zero = c .before .before .before .before .before .before .clear-floats .ensures ∙ ap (λ n. replicate n positiveZero) (B .kept .1 .1 .1 .1 .1 .1 .0 ∙ s .pre .0 .laid .memory .values);
     }
 
 by-columns-requires-2 : tie.Need-by-columns-requires-2
@@ -68,8 +68,8 @@ returns-2 c =
     let B = c .before .before .before .before .before .before .before .before .before .before .before .before .before .before .before .before .by-columns2 in
     record {
       held = B .ensures;
-      tags-zero = c .before .before .before .before .before .before .clear-bytes2 .ensures ∙ ap (λ n. replicate n 0) (B .kept .1 .1 .1 .1 .1 .1 .0 ∙ s .pre .0 .3);
-      values-zero = c .before .before .clear-floats2 .ensures ∙ ap (λ n. replicate n positiveZero) (B .kept .1 .1 .1 .1 .1 .1 .1 .0 ∙ s .pre .0 .4);
+      tags-zero = c .before .before .before .before .before .before .clear-bytes2 .ensures ∙ ap (λ n. replicate n 0) (B .kept .1 .1 .1 .1 .1 .0 ∙ s .pre .0 .laid .memory .tags);
+      values-zero = c .before .before .clear-floats2 .ensures ∙ ap (λ n. replicate n positiveZero) (B .kept .1 .1 .1 .1 .1 .1 .0 ∙ s .pre .0 .laid .memory .values);
     }
 
 pub results-spec : {M : Type 1} → statement M

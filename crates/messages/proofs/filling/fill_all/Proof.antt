@@ -1,5 +1,6 @@
 -- `fill_all` meets its contract. Assumes nothing.
 use Rattle.messages.proofs.Places.{start-zero}
+use Rattle.messages.proofs.Cursor.{laid-same}
 use Rattle.messages.proofs.Fill.{filling-none, filling-all}
 use Rattle.messages.specs.Memory.{start, Filling}
 use Rattle.parity.specs.Matrix.{lent}
@@ -18,16 +19,18 @@ abbrev μ-loop : tie.MeasureT-loop
 μ-loop words checks word floats tags₀ values₀ a₀ c₀ tags values a c = checks - c
 
 loop-holds : tie.Need-loop-holds Inv-loop μ-loop
-loop-holds c = let s = c .before .before .before .before .before in (omega arith, sym (start-zero _ _), filling-none _ _ _ _ _ (s .pre .0 .2) (s .pre .0 .3))
+loop-holds c = let s = c .before .before .before .before .before in (omega arith, sym (start-zero _ _), filling-none _ _ _ _ _ (s .pre .0 .memory .tags) (s .pre .0 .memory .values))
 
 fill-check-requires : tie.Need-fill-check-requires Inv-loop μ-loop
 fill-check-requires c κs =
     let l = c .before .before .before .loop in
     let s = c .before .before .before .before .before .before .before .before .before in
-    ((s .pre .0 .0, omega (arith, c .before .before .loop-test .taken, s .pre .0 .1), s .pre .0 .4), (s .pre .1, (l .inv .1, l .inv .2)))
+    let M = s .pre .0 .memory in
+    let L = laid-same _ _ _ _ (s .pre .0) _ _ (l .inv .2 .tags ∙ sym (M .tags)) (l .inv .2 .values ∙ sym (M .values)) in
+    ((L, s .pre .1), (omega (arith, c .before .before .loop-test .taken, s .pre .2), l .inv .1, l .inv .2))
 
 add-c : tie.Need-add-c Inv-loop μ-loop
-add-c c = omega (arith, c .before .before .before .before .before .before .before .loop-test .taken, c .before .before .before .before .before .before .before .before .before .before .before .before .before .before .pre .0 .1)
+add-c c = omega (arith, c .before .before .before .before .before .before .before .loop-test .taken, c .before .before .before .before .before .before .before .before .before .before .before .before .before .before .pre .2)
 
 loop-less : tie.Need-loop-less Inv-loop μ-loop
 loop-less c = omega (arith, c .before .before .before .before .before .before .before .loop-test .taken)
@@ -36,10 +39,10 @@ loop-again : tie.Need-loop-again Inv-loop μ-loop
 loop-again c = let E = c .before .before .before .before .fill-check .ensures in (omega (arith, c .before .before .before .before .before .before .before .loop-test .taken), E .0, E .1)
 
 same-length : tie.Need-same-length Inv-loop μ-loop
-same-length c = c .before .loop .inv .2 .tags ∙ sym (c .before .before .before .before .before .before .before .pre .0 .2)
+same-length c = c .before .loop .inv .2 .tags ∙ sym (c .before .before .before .before .before .before .before .pre .0 .memory .tags)
 
 same-length-2 : tie.Need-same-length-2 Inv-loop μ-loop
-same-length-2 c = c .before .loop .inv .2 .values ∙ sym (c .before .before .before .before .before .before .before .pre .0 .3)
+same-length-2 c = c .before .loop .inv .2 .values ∙ sym (c .before .before .before .before .before .before .before .pre .0 .memory .values)
 
 returns : tie.Need-returns Inv-loop μ-loop
 returns c =

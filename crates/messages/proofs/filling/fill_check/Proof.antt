@@ -1,5 +1,5 @@
 -- `fill_check` meets its contract. Assumes nothing.
-use Rattle.messages.proofs.Cursor.{first-place}
+use Rattle.messages.proofs.Cursor.{laid-same, first-place}
 use Rattle.messages.proofs.Fill.{place-last, filling-check}
 use Rattle.messages.specs.Memory.{place, Filling}
 use Rattle.parity.specs.Matrix.{lent}
@@ -18,13 +18,15 @@ abbrev μ-loop : tie.MeasureT-loop
 μ-loop words c first word floats tags₀ values₀ a₀ i₀ tags values a i = 8 - i
 
 loop-holds : tie.Need-loop-holds Inv-loop μ-loop
-loop-holds c = let s = c .before .before .before .before .before in (omega arith, s .pre .1 .1 .0 ∙ sym (first-place _ _ _), s .pre .1 .1 .1)
+loop-holds c = let s = c .before .before .before .before .before in (omega arith, s .pre .1 .1 ∙ sym (first-place _ _ _), s .pre .1 .2)
 
 fill-word-requires : tie.Need-fill-word-requires Inv-loop μ-loop
 fill-word-requires c κs =
     let l = c .before .before .before .loop in
     let s = c .before .before .before .before .before .before .before .before .before in
-    ((s .pre .0 .0, s .pre .0 .1, omega (arith, c .before .before .loop-test .taken), s .pre .0 .2), (s .pre .1 .0, (l .inv .1, l .inv .2)))
+    let M = s .pre .0 .0 .memory in
+    let L = laid-same _ _ _ _ (s .pre .0 .0) _ _ (l .inv .2 .tags ∙ sym (M .tags)) (l .inv .2 .values ∙ sym (M .values)) in
+    ((L, s .pre .0 .1), (s .pre .1 .0, omega (arith, c .before .before .loop-test .taken), l .inv .1, l .inv .2))
 
 add-i : tie.Need-add-i Inv-loop μ-loop
 add-i c = omega (arith, c .before .before .before .before .before .before .before .before .loop .inv .0)
@@ -35,15 +37,15 @@ loop-less c = omega (arith, c .before .before .before .before .before .before .b
 loop-again : tie.Need-loop-again Inv-loop μ-loop
 loop-again c =
     let l = c .before .before .before .before .before .before .before .before .loop in
-    let E = c .before .before .before .before .fill-word .ensures in
     let e : l .i * 64 + 64 ≡ (l .i + 1) * 64 = omega arith in
-    (omega (arith, c .before .before .before .before .before .before .before .loop-test .taken), rw e at (E .0), rw e at (E .1))
+    let E = rw e at (c .before .before .before .before .fill-word .ensures) in
+    (omega (arith, c .before .before .before .before .before .before .before .loop-test .taken), E .0, E .1)
 
 same-length : tie.Need-same-length Inv-loop μ-loop
-same-length c = c .before .loop .inv .2 .tags ∙ sym (c .before .before .before .before .before .before .before .pre .1 .1 .1 .tags)
+same-length c = c .before .loop .inv .2 .tags ∙ sym (c .before .before .before .before .before .before .before .pre .1 .2 .tags)
 
 same-length-2 : tie.Need-same-length-2 Inv-loop μ-loop
-same-length-2 c = c .before .loop .inv .2 .values ∙ sym (c .before .before .before .before .before .before .before .pre .1 .1 .1 .values)
+same-length-2 c = c .before .loop .inv .2 .values ∙ sym (c .before .before .before .before .before .before .before .pre .1 .2 .values)
 
 returns : tie.Need-returns Inv-loop μ-loop
 returns c =

@@ -1,9 +1,10 @@
 -- `run` meets its contract. Assumes nothing.
-use Rattle.min_sum.proofs.Course.{round-sound, last-results}
+use Rattle.min_sum.proofs.Course.{ready-same, round-sound, last-results}
 use Rattle.parity.specs.Matrix.{lent}
+use lib.ListN.{length}
 use native.Mathlib.Omega.{arith}
 use Prim.Native.Nat.{suc, _-_}
-use mathlib.Core.Path.{_≡_}
+use mathlib.Core.Path.{_≡_, refl, sym, _∙_}
 use borrow.Author.Needs.{needs}
 use Rattle.min_sum.proofs.rounds.run.Statement.{statement}
 use Rattle.min_sum.proofs.rounds.run.Tie as tie
@@ -12,17 +13,17 @@ sub-last : tie.Need-sub-last
 sub-last c = search needs
 
 course-requires : tie.Need-course-requires
-course-requires c κs =
-    let s = c .before .before .before .before .before .before .before .before .before .before .before .before .before .before .before .before in
-    (s .pre .0, ((s .pre .1 .0 .0, s .pre .1 .0 .1, s .pre .1 .0 .2), s .pre .1 .1))
+course-requires c κs = let s = c .before .before .before .before .before .before .before .before .before .before .before .before in (s .pre .0, s .pre .1, s .pre .2)
 
 last-round-requires : tie.Need-last-round-requires
 last-round-requires c κs =
-    let s = c .before .before .before .before .before .before .before .before .before .before .before .before .before .before .before .before .before .before .before .before .before .before .before .before .before .before .before .before .before .before .before .before .before .before in
-    let K = c .before .before .before .before .before .before .before .before .before .before .before .before .before .before .before .before .before .course .ensures in
-    let h = lent 8 (s .args .words .now) in
-    let sound = round-sound h (s .args .checks) (s .args .bits) (s .args .word .now) (s .args .floats .now) (s .pre .1 .0 .0) (s .pre .1 .1 .1 .1 .0) _ _ _ (K .1) in
-    ((s .pre .0 .0, s .pre .0 .1, s .pre .0 .2, K .1 .tags, K .1 .values), ((s .pre .1 .0 .0, s .pre .1 .0 .1, s .pre .1 .0 .2), (K .0, (sound, s .pre .1 .1 .1 .1 .1))))
+    let s = c .before .before .before .before .before .before .before .before .before .before .before .before .before .before .before .before .before .before .before .before .before .before .before .before in
+    let C = c .before .before .before .before .before .before .before .before .before .before .before .course in
+    let K = C .ensures in
+    let Q = s .pre .0 in
+    let M = Q .laid .memory in
+    let sound = round-sound (lent 8 (s .args .words .now)) (s .args .checks) _ (s .args .word .now) (s .args .floats .now) refl (Q .sounds) _ _ _ K in
+    ((ready-same _ _ _ _ _ _ Q _ _ (K .tags ∙ sym (M .tags)) (K .values ∙ sym (M .values)), s .pre .1), (C .kept .1 .1 .1 .1 .1 .1 .0 ∙ s .pre .2, sound))
 
 same-length : tie.Need-same-length
 same-length c = search needs
@@ -39,17 +40,11 @@ same-length-4 c = search needs
 same-length-5 : tie.Need-same-length-5
 same-length-5 c = search needs
 
-same-length-6 : tie.Need-same-length-6
-same-length-6 c = search needs
-
-same-length-7 : tie.Need-same-length-7
-same-length-7 c = search needs
-
 returns : tie.Need-returns
 returns c =
-    let s = c .before .before .before .before .before .before .before .before .before .before .before .before .before .before .before .before .before .before .before .before .before .before .before .before .before .before .before .before .before .before .before .before .before .before .before .before .before .before .before .before .before .before .before .before .before .before .before .before .before in
-    let e : suc (s .args .rounds - 1) ≡ s .args .rounds = omega (arith, s .pre .1 .0 .3) in
-    rw e at (last-results (lent 8 (s .args .words .now)) (s .args .bits) (s .args .checks) _ (s .args .rounds - 1) _ _ (s .pre .0 .2) (c .before .before .before .before .before .before .before .before .before .before .before .before .before .before .before .before .before .before .before .before .before .before .before .before .before .before .before .before .before .before .before .before .course .ensures .1) _ _ (c .before .before .before .before .before .before .before .before .before .before .before .before .before .before .last-round .ensures))
+    let s = c .before .before .before .before .before .before .before .before .before .before .before .before .before .before .before .before .before .before .before .before .before .before .before .before .before .before .before .before .before .before .before .before .before .before .before in
+    let e : suc (s .args .rounds - 1) ≡ s .args .rounds = omega (arith, s .pre .3) in
+    rw e at (last-results (lent 8 (s .args .words .now)) _ (s .args .checks) _ (s .args .rounds - 1) _ _ (s .pre .0 .inner .most) (c .before .before .before .before .before .before .before .before .before .before .before .before .before .before .before .before .before .before .before .before .before .before .course .ensures) _ _ (c .before .before .before .before .before .before .before .before .before .before .last-round .ensures))
 
 pub run-spec : {M : Type 1} → statement M
 run-spec =
@@ -63,6 +58,4 @@ run-spec =
     same-length-3
     same-length-4
     same-length-5
-    same-length-6
-    same-length-7
     returns)

@@ -2,7 +2,7 @@
 use mathlib.Core.Path.{_≡_, refl, sym, ap, _∙_}
 use mathlib.Core.Bool.{Bool, true, false, cond}
 use mathlib.Core.List.{List, [], _∷_, _++_}
-use Prim.Native.Nat.{ℕ, suc, _+_, _≤_, _<_}
+use Prim.Native.Nat.{ℕ, _+_, _≤_, _<_}
 use native.Mathlib.Nat.{add-zero, zero-add}
 use native.Mathlib.Numerals.{add-one}
 use native.Mathlib.Omega.{arith}
@@ -11,11 +11,8 @@ use lib.Dec.{ltb}
 use lib.ListN.{getD, length, set, take, drop, length-set, length-append}
 use lib.Seq.{sets, length-sets, sets-eq, take-suc, length-take-le, take-all, getD-set-same, getD-set-other, getD-take, ext-getD, take-take, take-append-seam, take-set-le, take-suc-set}
 use borrow.Author.Tests.{lt-ltb, le-ltb}
+use Rattle.parity.proofs.Finite.Lists.{sets-append}
 use Rattle.enumeration.specs.Search.{Longer, Put}
-
-pub sets-append : (l : List ℕ) (p : ℕ) (vs us : List ℕ) → sets l p (vs ++ us) ≡ sets (sets l p vs) (p + length vs) us
-sets-append l p [] us = rw (add-zero p)
-sets-append l p (v ∷ vs) us = let e : p + suc (length vs) ≡ suc p + length vs = omega arith in rw e (sets-append (set l p v) (suc p) vs us)
 
 -- one more of a list that is copied
 copy-next : (l : List ℕ) (p i : ℕ) (s : List ℕ) → i < length s → sets l p (take (i + 1) s) ≡ set (sets l p (take i s)) (p + i) (getD s i 0)

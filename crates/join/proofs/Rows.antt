@@ -18,7 +18,8 @@ use Rattle.parity.specs.Matrix.{Matrix, bitOf, lent, wordOf, pack}
 use Rattle.parity.specs.Joining.{sameCheck, Joined, equalsEarlier, joinCheck, withCheck, joined}
 use Rattle.parity.specs.Sound.{Clean}
 use Rattle.parity.proofs.Finite.Bools.{same-test, beq-refl}
-use Rattle.parity.proofs.Finite.Sums.{all-at, all-of, any-at, any-of, below-next}
+use Rattle.parity.proofs.Finite.Sums.{all-at, all-of, below-next}
+use Rattle.parity.proofs.Finite.Firsts.{any-cong}
 use Rattle.parity.proofs.Matrix.Digits.{same-bits, bit-zero}
 use Rattle.parity.proofs.Matrix.Packing.{word-lt, word-bit, pack-length, pack-at, pack-lent}
 use Rattle.parity.proofs.Joining.Checks.{same-bits-of, join-equal, join-new, with-checks, with-last, with-other, checks-most}
@@ -56,12 +57,6 @@ lent-word-of W p ws e a i l = ap (λ (v : List ℕ). getD v i 0) (sym (pack-lent
 -- a test that nothing has passed so far
 pub none-next : (d : ℕ) (p : ℕ → Bool) → any d p ≡ false → p d ≡ false → any (d + 1) p ≡ false
 none-next d p e f = rw (add-one d) (unfold any in (rw (e, f)))
-
-any-cong : (n : ℕ) (p q : ℕ → Bool) → ((i : ℕ) → i < n → p i ≡ q i) → any n p ≡ any n q
-any-cong n p q f =
-    same-test (any n p) (any n q)
-    (λ e. let (i, l, r) = any-at n p e in any-of n q i l (sym (f i l) ∙ r))
-    (λ e. let (i, l, r) = any-at n q e in any-of n p i l (f i l ∙ r))
 
 -- The first checks of the first matrix, as rows.
 pub rows-first : (U W : ℕ) → 0 < W → U ≤ W → (ws after : List ℕ) (m : ℕ) → length ws ≡ 512 * W → ((i : ℕ) → getD ws i 0 < 2 ^ 64) → m ≤ 512

@@ -3,7 +3,7 @@ use mathlib.Core.Path.{_≡_, refl, sym, ap, _∙_}
 use mathlib.Core.Logic.{_↔_}
 use mathlib.Core.List.{List}
 use Prim.Native.Nat.{ℕ, _+_, _*_, _-_, _/_, _%_, _^_, _≤_, _<_, min}
-use native.Mathlib.Nat.{zero-add, zero-mul, div-add-mod', div-eq-of-lt, div-lt-iff-lt-mul, mod-lt, one-mul, zero-div, div-one, le-mul-of-pos-right}
+use native.Mathlib.Nat.{zero-add, zero-mul, div-add-mod', div-eq-of-lt, div-lt-iff-lt-mul, mod-lt, zero-div, div-one, le-mul-of-pos-right}
 use native.Mathlib.Omega.{arith}
 use native.Mathlib.Decide.{ℕ-discrete, decLt}
 use lib.Arith.{digits-div, digits-mod}
@@ -11,10 +11,11 @@ use lib.Bits.{bitAnd, bitOr, and-high, and-self, or-shr, or-lt}
 use lib.Dec.{eqb, lit<}
 use lib.ListN.{getD, length, set, replicate, length-set, getD-replicate}
 use lib.Seq.{getD-set-same, getD-set-other}
-use lib.Pow.{pow-pos, shl-exact, shr-mod}
+use lib.Pow.{pow-pos, shr-mod}
 use borrow.Author.Tests.{eq-eqb, eqb-true}
 use Rattle.parity.specs.Matrix.{room, clean}
 use Rattle.parity.proofs.Finite.Bools.{same-test}
+use Rattle.parity.proofs.Matrix.Digits.{one-shl}
 use Rattle.parity.proofs.Matrix.Clean.{room-in, room-out, word-fits, fits-clean}
 use Rattle.rows.specs.Zeros.{Zeros, both}
 use Rattle.rows.proofs.Zeros.{or-zero, zeros-none, zeros-more}
@@ -33,12 +34,9 @@ mask-zero w r k l = (
   λ e. over-mask w r k l ∙ rw (e, zero-mul (2 ^ r)),
 )
 
--- the machine's 1 << r, and its mask of the bits from r on
-pub shift-one : (r : ℕ) → r < 64 → 1 * 2 ^ r % 2 ^ 64 ≡ 2 ^ r
-shift-one r k = shl-exact 1 r 64 (lit< tt) (omega arith) ∙ one-mul (2 ^ r)
-
+-- the machine's mask of the bits from r on
 pub mask-of : (r : ℕ) → r < 64 → 2 ^ 64 - 1 - (1 * 2 ^ r % 2 ^ 64 - 1) ≡ 2 ^ 64 - 2 ^ r
-mask-of r k = rw (shift-one r k) (omega (arith, pow-pos r))
+mask-of r k = rw (one-shl r k) (omega (arith, pow-pos r))
 
 -- the masks, one after the other
 pub masks-none : (N : ℕ) (ms : List ℕ) → Masks N 0 ms

@@ -13,7 +13,7 @@ use Rattle.parity.proofs.Matrix.Rule.{first, second, new}
 use Rattle.columns.specs.Three.{two, NoneIn}
 use Rattle.columns.proofs.Apart.{two-false, two-none}
 use Rattle.matrix.specs.Three.{OnlyIn, Three, NoneOf, Passed, rowOf, placeOf, paired, PairIn, Seen, Passing, Fresh, Judged}
-use Rattle.matrix.proofs.Three.{place-of, three-rule, rule-three}
+use Rattle.matrix.proofs.Three.{one-of-three, three-rule, rule-three}
 
 -- no check contains both bits where it contains not both
 both-false : (h : Matrix) (c p q : ℕ) → (h c p ≡ true → h c q ≡ true → ⊥) → (h c p && h c q) ≡ false
@@ -27,13 +27,13 @@ both-false h c p q f =
 module _ (h : Matrix) (c x y z : ℕ) (T : Three h c x y z) (p q : ℕ) (pq : p < q) (hp : h c p ≡ true) (hq : h c q ≡ true) where
   pub lower-pair : (q ≡ z → ⊥) → (p ≡ x) × (q ≡ y)
   lower-pair d =
-      elim (place-of h c x y z T q hq) [
-        | first t ↦ elim (place-of h c x y z T p hp) [
+      elim (one-of-three h c x y z T q hq) [
+        | first t ↦ elim (one-of-three h c x y z T p hp) [
           | first s ↦ absurd (omega arith)
           | second s ↦ absurd (omega (arith, T .xy))
           | new s ↦ absurd (omega (arith, T .xy, T .yz))
         ]
-        | second t ↦ elim (place-of h c x y z T p hp) [
+        | second t ↦ elim (one-of-three h c x y z T p hp) [
           | first s ↦ (s, t)
           | second s ↦ absurd (omega arith)
           | new s ↦ absurd (omega (arith, T .yz))

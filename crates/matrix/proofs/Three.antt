@@ -9,15 +9,15 @@ use borrow.Author.Tests.{eq-eqb, ne-eqb, not-true}
 use Rattle.parity.specs.Finite.{sum, count}
 use Rattle.parity.specs.Matrix.{Matrix, noOther, ruleAt}
 use Rattle.parity.proofs.Finite.Sums.{is-true, is-false, is, all-at, all-of, count-suc, count-mono, count-end}
-use Rattle.parity.proofs.Matrix.Rule.{Rule, rule, alone-share, share-alone, Place, first, second, new}
+use Rattle.parity.proofs.Matrix.Rule.{rule, alone-share, share-alone, Place, first, second, new}
 use Rattle.rows.specs.Rows.{NextOne}
 use Rattle.columns.specs.Three.{two}
 use Rattle.columns.proofs.Apart.{two-false, two-none}
 use Rattle.matrix.specs.Three.{OnlyIn, Three}
 
 -- a bit of the check is one of the three
-pub place-of : (h : Matrix) (c x y z : ℕ) → Three h c x y z → (b : ℕ) → h c b ≡ true → Place x y z b
-place-of h c x y z T b e =
+pub one-of-three : (h : Matrix) (c x y z : ℕ) → Three h c x y z → (b : ℕ) → h c b ≡ true → Place x y z b
+one-of-three h c x y z T b e =
     elim (ℕ-discrete b x) [
       | yes q ↦ first q
       | no dx ↦ elim (ℕ-discrete b y) [
@@ -140,18 +140,18 @@ module _ (h : Matrix) (n m k j : ℕ) (jk : j < k) (x y : ℕ) (T : Three h (m +
       apart : (d : ℕ) → two h x y (n + j) d ≡ false → (h d p && h d q) ≡ false
       apart d e =
           let (ab, az, bz) = two-false (h d x) (h d y) (h d (n + j)) e in
-          elim (place-of h (m + j) x y (n + j) T p hp) [
-            | first s ↦ elim (place-of h (m + j) x y (n + j) T q hq) [
+          elim (one-of-three h (m + j) x y (n + j) T p hp) [
+            | first s ↦ elim (one-of-three h (m + j) x y (n + j) T q hq) [
               | first t ↦ absurd (omega arith)
               | second t ↦ rw (s, t) ab
               | new t ↦ rw (s, t) az
             ]
-            | second s ↦ elim (place-of h (m + j) x y (n + j) T q hq) [
+            | second s ↦ elim (one-of-three h (m + j) x y (n + j) T q hq) [
               | first t ↦ absurd (omega (arith, T .xy))
               | second t ↦ absurd (omega arith)
               | new t ↦ rw (s, t) bz
             ]
-            | new s ↦ elim (place-of h (m + j) x y (n + j) T q hq) [
+            | new s ↦ elim (one-of-three h (m + j) x y (n + j) T q hq) [
               | first t ↦ absurd (omega (arith, T .xy, T .yz))
               | second t ↦ absurd (omega (arith, T .yz))
               | new t ↦ absurd (omega arith)

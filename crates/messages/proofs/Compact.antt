@@ -3,13 +3,14 @@
 use mathlib.Core.Path.{_≡_, refl, _∙_}
 use mathlib.Core.Bool.{Bool, true, false, not, _&&_, _||_, or-false, and-true}
 use Prim.Native.Nat.{ℕ, zero, suc, _<_}
-use native.Mathlib.Decide.{ℕ-discrete, decLt}
+use native.Mathlib.Decide.{ℕ-discrete}
 use native.Mathlib.Numerals.{add-one}
 use native.Mathlib.Nat.{add-zero}
 use native.Mathlib.Omega.{arith}
 use borrow.Author.Tests.{eq-eqb, ne-eqb}
 use Rattle.parity.specs.Finite.{sum, count, all, any}
-use Rattle.parity.proofs.Finite.Sums.{is-true, is-false, is, count-suc, count-mono}
+use Rattle.parity.proofs.Finite.Sums.{is-true, is-false, is, count-suc}
+use Rattle.parity.proofs.Finite.Firsts.{nth-only}
 use Rattle.parity.specs.Soft.{isErased, isSure, turnsSign, leastSoft, turnsOdd, checkSends, gathered, but}
 use Rattle.parity.specs.declared.Channel.{Channel}
 use Rattle.parity.proofs.Soft.Cong.{check-cong, gathered-cong}
@@ -78,21 +79,12 @@ module _ (p : ℕ → Bool) (f D : ℕ → Channel) where
     ]
 
 -- ---- the place of a number in the row
-pub rank-less : (p : ℕ → Bool) (i j : ℕ) → i < j → p i ≡ true → count i p < count j p
-rank-less p i j k e = let q = rw e at (count-suc i p) in omega (arith, count-mono (suc i) j p k)
-
-pub rank-same : (p : ℕ → Bool) (i j : ℕ) → p i ≡ true → p j ≡ true → count i p ≡ count j p → i ≡ j
-rank-same p i j a b e = elim (ℕ-discrete i j) [
-  | yes z ↦ z
-  | no z ↦ absurd (elim (decLt i j) [ yes l ↦ omega (arith, rank-less p i j l a) | no l ↦ omega (arith, rank-less p j i (omega arith) b) ])
-]
-
 rank-but : (p : ℕ → Bool) (b i : ℕ) → p b ≡ true → p i && but (count b p) (count i p) ≡ p i && but b i
 rank-but p b i e = elim (is (p i)) [
   | is-false t ↦ rw t
   | is-true t ↦ rw t (elim (ℕ-discrete i b) [
     | yes z ↦ rw (z, eq-eqb b b refl, eq-eqb (count b p) (count b p) refl)
-    | no z ↦ rw (ne-eqb i b z, ne-eqb (count i p) (count b p) (λ y. z (rank-same p i b t e y)))
+    | no z ↦ rw (ne-eqb i b z, ne-eqb (count i p) (count b p) (λ y. z (nth-only p i b t e y)))
   ])
 ]
 

@@ -17,7 +17,7 @@ use Rattle.parity.specs.Soft.{messageAt}
 use Rattle.messages.specs.Memory.{start, place, held, column, Laid, Written, Low, Part, Cursors, Moving, heldAt, Collected, Gathering, Spread, Within}
 use Rattle.parity.specs.declared.Channel.{Channel}
 use Rattle.soft.proofs.Places.{message-other}
-use Rattle.messages.proofs.Compact.{rank-less, rank-same}
+use Rattle.parity.proofs.Finite.Firsts.{nth-below, nth-only}
 use Rattle.messages.proofs.Places.{start-mono, place-low, place-high, above-none, above-more}
 use Rattle.messages.proofs.Word.{Gap, gap-count, gap-before}
 
@@ -65,7 +65,7 @@ module _ (p : ℕ → Bool) (f : ℕ → Channel) where
         | yes z ↦ rw z (W .here)
         | no z ↦
             let j : i < c = omega arith in
-            W .other (65024 + count i p) (λ w. omega (arith, w, rank-less p i c j q)) ∙ C .at i j q
+            W .other (65024 + count i p) (λ w. omega (arith, w, nth-below p i c j q)) ∙ C .at i j q
       ];
     }
 
@@ -73,7 +73,7 @@ module _ (p : ℕ → Bool) (f : ℕ → Channel) where
 pub place-same : (h : Matrix) (N c b d a : ℕ) → b < N → a < N → h c b ≡ true → h d a ≡ true → place h N c b ≡ place h N d a → (c ≡ d) × (b ≡ a)
 unfolding place
 place-same h N c b d a k l p q e = elim (ℕ-discrete c d) [
-  | yes z ↦ (z, rank-same (h c) b a p (rw z q) (same z))
+  | yes z ↦ (z, nth-only (h c) b a p (rw z q) (same z))
   | no z ↦ absurd (elim (decLt c d) [
     | yes y ↦ omega (arith, place-high h N c b k p, start-mono h N (suc c) d y, place-low h N d a)
     | no y ↦ omega (arith, place-high h N d a l q, start-mono h N (suc d) c (omega arith), place-low h N c b)

@@ -1,36 +1,21 @@
 -- Where the messages lie: check after check, each one of the matrix at a place of its own. Assumes nothing.
 use mathlib.Core.Path.{_≡_, refl, sym, _∙_}
-use mathlib.Core.Bool.{Bool, true}
+use mathlib.Core.Bool.{true}
 use mathlib.Core.List.{List}
 use Prim.Native.Nat.{ℕ, zero, suc, _+_, _<_, _≤_}
 use native.Mathlib.Decide.{ℕ-discrete}
-use native.Mathlib.Nat.{not-suc-le-zero, add-zero}
 use native.Mathlib.Omega.{arith}
 use lib.Arith.{le-zero}
 use lib.Ieee.{Float}
 use Rattle.parity.specs.Finite.{sum, count}
 use Rattle.parity.specs.Matrix.{Matrix}
-use Rattle.parity.proofs.Finite.Sums.{is-true, is-false, is, count-end}
+use Rattle.parity.proofs.Finite.Sums.{count-zero, count-end}
 use Rattle.parity.specs.Soft.{Messages, toBits}
 use Rattle.soft.specs.Pass.{Sounds, checkAnswer}
 use Rattle.messages.specs.Memory.{start, place, held, Part, from, Above, SoundAll, Answering, Within}
 use Rattle.parity.specs.declared.Channel.{Channel}
-use Rattle.messages.proofs.Compact.{rank-less, check-row}
-
--- the number with a rank
-pub rank-at : (p : ℕ → Bool) (N t : ℕ) → t < count N p → (b : ℕ) × (b < N) × (p b ≡ true) × (count b p ≡ t)
-unfolding count sum
-rank-at p zero t k = absurd (not-suc-le-zero k)
-rank-at p (suc N) t k = elim (is (p N)) [
-  | is-true e ↦ elim (ℕ-discrete t (count N p)) [
-    | yes q ↦ (N, omega arith, e, sym q)
-    | no d ↦ let (b, l, r, s) = rank-at p N t (fewer e d) in (b, omega arith, r, s)
-  ]
-  | is-false e ↦ let (b, l, r, s) = rank-at p N t (rw (e, add-zero) at k) in (b, omega arith, r, s)
-]
-  where
-    fewer : p N ≡ true → (t ≡ count N p → ⊥) → t < count N p
-    fewer e d = let l = rw e at k in omega arith
+use Rattle.parity.proofs.Finite.Firsts.{nth-below, nth-at}
+use Rattle.messages.proofs.Compact.{check-row}
 
 module _ (h : Matrix) (N : ℕ) where
   pub start-zero : start h N 0 ≡ 0
@@ -54,7 +39,7 @@ module _ (h : Matrix) (N : ℕ) where
 
   pub place-high : (c b : ℕ) → b < N → h c b ≡ true → place h N c b < start h N (suc c)
   unfolding place
-  place-high c b k e = omega (arith, start-suc c, rank-less (h c) b N k e)
+  place-high c b k e = omega (arith, start-suc c, nth-below (h c) b N k e)
 
   -- ---- the places after all messages
   pub above-none : (ts : List ℕ) (xs : List Float) → Above h N ts xs ts xs
@@ -72,11 +57,8 @@ module _ (h : Matrix) (N : ℕ) where
   start-end M zero W k = rw (le-zero k)
   start-end M (suc c) W k = elim (ℕ-discrete M (suc c)) [
     | yes q ↦ rw q
-    | no n ↦ start-suc c ∙ omega (arith, start-end M c W (omega arith), count-end 0 N (h c) (omega arith) (λ a l m. W .after c a (omega arith)), empty (h c))
+    | no n ↦ start-suc c ∙ omega (arith, start-end M c W (omega arith), count-end 0 N (h c) (omega arith) (λ a l m. W .after c a (omega arith)), count-zero (h c))
   ]
-    where
-      empty : (p : ℕ → Bool) → count 0 p ≡ 0
-      empty p = unfold count sum in refl
 
   pub answering-start : (M : ℕ) (ts : List ℕ) (xs : List Float) → Answering h N M 0 (held h N ts xs) ts xs
   answering-start M ts xs = record { done = λ d b k. absurd (omega arith); left = λ d b k l m e. refl }
@@ -98,14 +80,14 @@ module _ (h : Matrix) (N : ℕ) where
       pub answering-sounds : SoundAll h N M old → Sounds w D
       answering-sounds S = record {
         at = λ t l.
-            let (b, i, e, q) = rank-at (h c) N t l in
+            let (b, i, e, q) = nth-at (h c) N t l in
             rw (← q, row b i e) (S .at c b k i e);
       }
 
       module _ (ts' : List ℕ) (xs' : List Float) (P : Part (start h N c) w (checkAnswer w D) ts xs ts' xs') where
         here : (b : ℕ) → b < N → h c b ≡ true → held h N ts' xs' c b ≡ toBits h N old c b
         unfolding held place toBits checkAnswer
-        here b l e = P .new (count b (h c)) (rank-less (h c) b N l e) ∙ check-row (h c) (old c) D N b e row
+        here b l e = P .new (count b (h c)) (nth-below (h c) b N l e) ∙ check-row (h c) (old c) D N b e row
 
         before : (d b : ℕ) → d < c → b < N → h d b ≡ true → held h N ts' xs' d b ≡ held h N ts xs d b
         unfolding held

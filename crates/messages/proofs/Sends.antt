@@ -17,7 +17,8 @@ use Rattle.messages.specs.Memory.{start, held, across, column, heldAt, L
 use Rattle.messages.specs.Loops.{SentAll}
 use Rattle.parity.specs.declared.Channel.{Channel}
 use Rattle.parity.proofs.Soft.Cong.{gathered-at}
-use Rattle.messages.proofs.Compact.{rank-less, gathered-row, all-row}
+use Rattle.messages.proofs.Compact.{gathered-row, all-row}
+use Rattle.parity.proofs.Finite.Firsts.{nth-below}
 use Rattle.messages.proofs.Cursor.{low-more, low-held, part-low}
 
 module _ (h : Matrix) (N M b : ℕ) (v : Channel) (ts : List ℕ) (xs : List Float) (rt : List ℕ) (rx : List Float)
@@ -32,7 +33,7 @@ module _ (h : Matrix) (N M b : ℕ) (v : Channel) (ts : List ℕ) (xs : List Flo
     sent-at : (d : ℕ) → d < M → h d b ≡ true → held h N ts' xs' d b ≡ bitSends v M (λ e. h e b && but d e) (heldAt h N ts xs b)
     unfolding bitSends bitAnswer
     sent-at d k e =
-        S .done d (omega arith) k e ∙ P .new (count d (column h b)) (rank-less (column h b) d M k e)
+        S .done d (omega arith) k e ∙ P .new (count d (column h b)) (nth-below (column h b) d M k e)
         ∙ ap settled (gathered-row (column h b) (heldAt h N ts xs b) (from 65024 rt rx) v M d e (C .at))
 
     pub bit-sent : Low ts xs rt rx → start h N 512 ≤ 65024 → M ≤ 512 → BitSent h N M b v ts xs ts' xs'

@@ -14,6 +14,7 @@ use Rattle.parity.specs.Soft.{byteFor, floatFor}
 use Rattle.soft.specs.Pass.{Holding}
 use Rattle.parity.specs.SoftCall.{floatsFrom}
 use Rattle.parity.specs.declared.Channel.{Channel}
+use native.Mathlib.Nat.{zero-add}
 
 -- the first i of n elements are z
 pub record Cleared {A : Type 0} (n i : ℕ) (z d : A) (l : List A) : Type 0 where
@@ -38,15 +39,12 @@ module _ {A : Type 0} (z d : A) where
       ext-getD d l (replicate n z) (C .size ∙ sym (length-replicate n z)) (λ j m. C .at j (omega (arith, C .size)) ∙ sym (getD-replicate n j z d (omega (arith, C .size))))
 
 -- the results as lists
-zero-plus : (j : ℕ) → 0 + j ≡ j
-zero-plus j = omega arith
-
 pub held-word : (N : ℕ) (g g' : ℕ → Channel) (w : List ℕ) (f : List Float) → Holding N g w f → ((b : ℕ) → g b ≡ g' b) → w ≡ listFrom 0 N (λ b. byteFor (g' b))
 held-word N g g' w f H e =
     ext-getD 0 w (listFrom 0 N (λ b. byteFor (g' b))) (H .tags ∙ sym (length-listFrom 0 N (λ b. byteFor (g' b))))
-    (λ j k. H .tag j (omega (arith, H .tags)) ∙ ap byteFor (e j ∙ ap g' (sym (zero-plus j))) ∙ sym (at-listFrom 0 N (λ b. byteFor (g' b)) j (omega (arith, H .tags))))
+    (λ j k. H .tag j (omega (arith, H .tags)) ∙ ap byteFor (e j ∙ ap g' (sym (zero-add j))) ∙ sym (at-listFrom 0 N (λ b. byteFor (g' b)) j (omega (arith, H .tags))))
 
 pub held-floats : (N : ℕ) (g g' : ℕ → Channel) (w : List ℕ) (f : List Float) → Holding N g w f → ((b : ℕ) → g b ≡ g' b) → f ≡ floatsFrom 0 N (λ b. floatFor (g' b))
 held-floats N g g' w f H e =
     ext-getD nan f (floatsFrom 0 N (λ b. floatFor (g' b))) (H .values ∙ sym (length-floats 0 N (λ b. floatFor (g' b))))
-    (λ j k. H .value j (omega (arith, H .values)) ∙ ap floatFor (e j ∙ ap g' (sym (zero-plus j))) ∙ sym (at-floats 0 N (λ b. floatFor (g' b)) j (omega (arith, H .values))))
+    (λ j k. H .value j (omega (arith, H .values)) ∙ ap floatFor (e j ∙ ap g' (sym (zero-add j))) ∙ sym (at-floats 0 N (λ b. floatFor (g' b)) j (omega (arith, H .values))))

@@ -20,7 +20,7 @@ use Rattle.parity.proofs.Finite.Sums.{is-true, is-false, is, eqb-one, eqb-two, 
 use Rattle.parity.proofs.Matrix.Accept.{Accepted, passes}
 use Rattle.parity.proofs.Matrix.Packing.{listFrom-cong}
 use Rattle.parity.proofs.Words.Agreeing.{determined-byte}
-use Rattle.parity.proofs.Words.Bytes.{right-bytes}
+use Rattle.parity.proofs.Words.Bytes.{right-bytes, erasable-of, erasable-bit}
 use Rattle.parity.proofs.Words.Determining.{Taken, determine-made, determine-refused, after-at}
 use Rattle.parity.proofs.Words.Packets.{words-made, zeros-agree, lane-at, lane-size, lane-word, lost-at, lost-size, lost-word}
 use Rattle.parity.proofs.Words.Peeling.{losses-same}
@@ -111,7 +111,7 @@ module _ (ws : List ℕ) (n m k : ℕ) (lost packets odd packets′ odd′ gone 
           let f = not-true (lent L odd′ 0 i) (told ∙ t) in
           rw (after-at ws n m k (laneWord N L lost packets i) (T i) t b l, lane-is i, ← D .bits b i l u f) (made b l)
       | is-false t ↦ rw (determine-refused ws n m k (laneWord N L lost packets i) (T i) t, lane-at N L lost packets i b l)
-          (D .kept b i l u (not-false (lent L odd′ 0 i) (told ∙ t)) ∙ sym (same (eqb (byteOf lost b) 1) (lent L packets b i)))
+          (D .kept b i l u (not-false (lent L odd′ 0 i) (told ∙ t)) ∙ sym (erasable-bit (eqb (byteOf lost b) 1) (lent L packets b i)))
     ]
       where
         made : (b : ℕ) → b < N → lent L packets′ b i ≡ cond (eqb (cond (lent 8 left 0 b) 2 (one (lent L packets′ b i))) 2) (lent L packets b i) (eqb (cond (lent 8 left 0 b) 2 (one (lent L packets′ b i))) 1)
@@ -119,11 +119,6 @@ module _ (ws : List ℕ) (n m k : ℕ) (lost packets odd packets′ odd′ gone 
           | is-true q ↦ rw q (D .stays b i l u q)
           | is-false q ↦ rw (q, eqb-two (lent L packets′ b i)) (sym (eqb-one (lent L packets′ b i)))
         ]
-
-        same : (x v : Bool) → cond (eqb (cond x 2 (one v)) 2) v (eqb (cond x 2 (one v)) 1) ≡ v
-        same true v = refl
-        same false true = refl
-        same false false = refl
 
   -- the reply
   reply-is : packetsReply ws n m k lost packets L ≡ answer (losses n k (held e none) (determined h N M (held e none)) ++ (count (L * 64) (lent L odd′ 0) ∷ []))
@@ -170,7 +165,7 @@ module _ (ws : List ℕ) (n m k : ℕ) (lost packets odd packets′ odd′ gone 
 
     end-at : (b : ℕ) → b < N → determined h N M (held e none) b ≡ end b
     unfolding end
-    end-at b l = rw (D .leaves b l) (sym (three (determined h N M (held e none) b) (determined-byte h N M (held e none) b)))
+    end-at b l = rw (D .leaves b l) (sym (erasable-of (determined h N M (held e none) b) (determined-byte h N M (held e none) b)))
 
     left-out : (b : ℕ) → N ≤ b → lent 8 left 0 b ≡ false
     left-out b l = elim (is (lent 8 left 0 b)) [ is-false q ↦ q | is-true q ↦ absurd (false≢true (sym (e-out b l) ∙ D .fewer b q)) ]

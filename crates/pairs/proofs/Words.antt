@@ -1,6 +1,6 @@
 -- The lowest and the highest bit that two rows have in common, word by word. Assumes nothing.
-use mathlib.Core.Path.{_≡_, refl, sym, ap, _∙_}
-use mathlib.Core.Bool.{Bool, true, false, _&&_}
+use mathlib.Core.Path.{_≡_, sym, ap, _∙_}
+use mathlib.Core.Bool.{Bool, true, false}
 use mathlib.Core.List.{List, [], _∷_}
 use Prim.Native.Nat.{ℕ, suc, _+_, _*_, _-_, _^_, _≤_, _<_}
 use native.Mathlib.Decide.{decLt}
@@ -9,7 +9,7 @@ use lib.Bits.{bitAnd}
 use lib.Count.{leadingZeros, leading-top}
 use lib.ListN.{getD}
 use Rattle.parity.specs.Finite.{any, least, greatest, outermost}
-use Rattle.parity.specs.Matrix.{bitOf, lent}
+use Rattle.parity.specs.Matrix.{bitOf}
 use Rattle.parity.proofs.Finite.Sums.{is-true, is-false, is}
 use Rattle.parity.proofs.Finite.Firsts.{any-none, least-none, least-is, least-out}
 use Rattle.parity.proofs.Finite.Outermost.{greatest-is, greatest-none, outermost-none, outermost-both}
@@ -17,6 +17,7 @@ use Rattle.parity.proofs.Matrix.Clean.{no-bit, no-bits}
 use Rattle.parity.proofs.Matrix.Digits.{bit-and, bit-zero}
 use Rattle.parity.proofs.Matrix.Lent.{lent-word}
 use Rattle.parity.proofs.Matrix.Ones.{Lowest}
+use Rattle.rows.proofs.Next.{Clear}
 use Rattle.pairs.specs.Rows.{inBoth}
 
 -- t is the highest one of the word x
@@ -36,13 +37,6 @@ leading-highest k x l n t e =
       ];
       none = λ i m. no-bit x (suc j) i high (omega arith);
     }
-
--- a set has no bit from `from` on up to `to`
-pub record Clear (set : ℕ → Bool) (from to : ℕ) : Type 0 where
-  pub none : (b : ℕ) → from ≤ b → b < to → set b ≡ false
-
-pub clear-none : (set : ℕ → Bool) (from to : ℕ) → to ≤ from → Clear set from to
-clear-none set from to k = record { none = λ b l m. absurd (omega arith) }
 
 -- nothing is left to search
 pub least-top : (T : ℕ) (set : ℕ → Bool) → Clear set 0 T → T ≡ least T set

@@ -6,6 +6,8 @@ use lib.Dec.{eqb}
 use Rattle.parity.specs.Matrix.{cause}
 use Rattle.parity.specs.declared.Holders.{Holders}
 use Rattle.parity.specs.declared.Holders.the-variants.{None, Both}
+use Rattle.parity.specs.declared.Numbered.{Numbered}
+use Rattle.parity.specs.declared.Numbered.the-variants.{Alone, One, Two, Three, Four, Five}
 use Rattle.parity.specs.declared.Refusal.{Refusal}
 use Rattle.parity.specs.declared.Refusal.the-variants.{MatrixLength, OutOfRange, OneOutside, RuleABroken, FaultyWord, RecordTooShort, NotAPair, ShareBelowTwo, NoRoomToSplit, NoRoomLeft, WrongLength, WrongByte, Contradiction, AddedBits, ProgramInput, NothingToTakeBack, CannotTakeBack, UnknownName, WrongSize, SetsTooShort, DifferentLengths, TooManyChecks, WrongRounds, WrongFloat, LowAboveHigh}
 
@@ -52,6 +54,15 @@ refusalOf TooManyChecks = refusal 21 []
 refusalOf WrongRounds = refusal 22 []
 refusalOf (WrongFloat place) = refusal 23 (place ∷ [])
 refusalOf (LowAboveHigh place) = refusal 24 (place ∷ [])
+
+-- a reply as the calls for C pass it: its number with up to five values
+abbrev pub numberedReply : Numbered → Reply
+numberedReply (Alone number) = refusal number []
+numberedReply (One number a) = refusal number (a ∷ [])
+numberedReply (Two number a b) = refusal number (a ∷ b ∷ [])
+numberedReply (Three number a b c) = refusal number (a ∷ b ∷ c ∷ [])
+numberedReply (Four number a b c d) = refusal number (a ∷ b ∷ c ∷ d ∷ [])
+numberedReply (Five number a b c d e) = refusal number (a ∷ b ∷ c ∷ d ∷ e ∷ [])
 
 -- The refusal where its cause holds, and else what comes after it in the order of the checks.
 abbrev pub refuse : Bool → Reply → Reply → Reply

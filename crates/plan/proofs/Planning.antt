@@ -1,13 +1,13 @@
 -- The plan that peeling and elimination make for given losses serves every lane. Assumes nothing.
 use mathlib.Core.Path.{_≡_, refl, sym, ap, _∙_}
-use mathlib.Core.Bool.{Bool, true, false, not, cond, _&&_, _||_, or-true, or-false, and-eq-true-iff, true≢false, false≢true}
+use mathlib.Core.Bool.{Bool, true, false, not, _&&_, _||_, or-true, or-false, and-eq-true-iff, true≢false, false≢true}
 use mathlib.Core.List.{List}
 use Prim.Native.Nat.{ℕ, zero, suc, _*_, _%_, _≤_, _<_}
 use native.Mathlib.Omega.{arith}
 use native.Mathlib.Decide.{decLt}
 use lib.Dec.{eqb, leb}
 use borrow.Author.Tests.{eq-eqb, eqb-true, lt-ltb, le-leb, leb-true}
-use Rattle.parity.specs.Finite.{one, all, any}
+use Rattle.parity.specs.Finite.{all, any}
 use Rattle.parity.specs.Matrix.{Matrix, lent}
 use Rattle.parity.specs.Words.{inside, odd}
 use Rattle.parity.specs.Determining.{someAgrees, determined}
@@ -27,6 +27,7 @@ use Rattle.residue.proofs.Solving.{uneven-none, eliminated-none, eliminated-som
 use Rattle.lanes.specs.Lanes.{ran, uneven, Low, Lists, peeling, mending, contradicted}
 use Rattle.plan.specs.Order.{Free, Settling, Joined, Own, Listed}
 use Rattle.plan.specs.Plan.{Plans}
+use Rattle.parity.proofs.Words.Bytes.{erasable-most}
 
 -- all, as the contrary of some
 all-any : (n : ℕ) (p q : ℕ → Bool) → ((c : ℕ) → c < n → p c ≡ not (q c)) → all n p ≡ not (any n q)
@@ -42,12 +43,7 @@ even-not-odd : (s : ℕ) → eqb (s % 2) 0 ≡ not (odd s)
 even-not-odd s = elim (is (odd s)) [ is-true q ↦ odd-even s q ∙ rw q | is-false q ↦ not-odd-even s q ∙ rw q ]
 
 held-byte : (e o : ℕ → Bool) (b : ℕ) → held e o b ≤ 2
-held-byte e o b = go (e b) (o b)
-  where
-    go : (x y : Bool) → cond x 2 (one y) ≤ 2
-    go true y = omega arith
-    go false true = omega arith
-    go false false = omega arith
+held-byte e o b = erasable-most (e b) (o b)
 
 -- reduced rows have no pivot of another
 pub reduced-own : (g k : Matrix) (B L r : ℕ) (e : ℕ → Bool) (at : List ℕ) → Reduction g k B L e B r at → Own k r at

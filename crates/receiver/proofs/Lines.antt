@@ -10,6 +10,7 @@ use lib.ListN.{length, length-append, take-append-drop}
 use Rattle.parity.specs.Finite.{listFrom}
 use Rattle.parity.specs.Calls.{byteOf}
 use Rattle.parity.specs.Mend.{decimal, splitsHead, sumHead, residueHead, residueText, wordHead, shown, refusedLine, report, wordAt}
+use Rattle.parity.proofs.Finite.Lists.{listFrom-snoc}
 use Rattle.parity.proofs.Matrix.Packing.{length-listFrom}
 use Rattle.receiver.specs.Placed.{placed, Placed}
 use Rattle.receiver.specs.Lines.{leftText, wordText, splitsLine, residueLine, wordLine}
@@ -37,11 +38,6 @@ left-known x b d = rw (ne-eqb x 2 d)
 pub residue-more : (w : List ℕ) (n : ℕ) → residueText w (n + 1) ≡ residueText w n ++ leftText (byteOf w n) n
 unfolding residueText leftText
 residue-more w n = rw add-one
-
-listFrom-snoc : (i n : ℕ) (f : ℕ → ℕ) → listFrom i (suc n) f ≡ listFrom i n f ++ (f (i + n) ∷ [])
-unfolding listFrom
-listFrom-snoc i zero f = rw (add-zero)
-listFrom-snoc i (suc n) f = ap (λ (l : List ℕ). f i ∷ l) (listFrom-snoc (suc i) n f ∙ ap (λ (j : ℕ). listFrom (suc i) n f ++ (f j ∷ [])) {x = suc i + n} {y = i + suc n} (omega arith))
 
 listFrom-more : (n : ℕ) (f : ℕ → ℕ) → listFrom 0 (n + 1) f ≡ listFrom 0 n f ++ (f n ∷ [])
 listFrom-more n f = rw add-one (listFrom-snoc 0 n f ∙ ap (λ (j : ℕ). listFrom 0 n f ++ (f j ∷ [])) {x = 0 + n} {y = n} (omega arith))

@@ -8,14 +8,13 @@ use native.Mathlib.Decide.{ℕ-discrete, decLt}
 use borrow.Author.Tests.{ne-eqb}
 use lib.ListN.{length, getD, take, drop, replicate, length-append, length-replicate, replicate-append-replicate, List·getD-eq-default}
 use lib.Seq.{take-at, drop-at, take-append-add}
-use Rattle.parity.specs.Finite.{one, anySet, listFrom}
+use Rattle.parity.specs.Finite.{anySet, listFrom}
 use Rattle.parity.specs.Matrix.{Matrix, lent, pack, cause}
 use Rattle.parity.specs.Words.{isOne, residue, erased, solves, peeled}
 use Rattle.parity.specs.Causes.{Reply, answer, refusal, refusalOf, Outcome}
 use Rattle.parity.specs.Calls.{byteOf, loadOutcome, orthogonalising, orthogonalisedReply, orthogonaliseOutcome, peelReply, peelOutcome}
 use Rattle.parity.specs.Mend.{refusedLine, report, unlessRefused}
 use Rattle.parity.specs.declared.Refusal.{Refusal}
-use Rattle.parity.proofs.Finite.Sums.{one≤1}
 use Rattle.parity.proofs.Matrix.Packing.{length-listFrom, at-listFrom}
 use Rattle.parity.proofs.Matrix.Accept.{Accepted, accepts, accepting-answers, accepting-refuses}
 use Rattle.parity.proofs.Splits.Splitting.{orthogonalises, orthogonal-accepted}
@@ -25,6 +24,7 @@ use Rattle.parity.specs.declared.Refusal.the-variants.{WrongLength}
 use Rattle.receiver.specs.Placed.{placed}
 use Rattle.receiver.specs.Lines.{Bytes}
 use Rattle.receiver.specs.Stages.{peelText, orthogonaliseText, loadInto, loadText}
+use Rattle.parity.proofs.Words.Bytes.{erasable-most}
 
 -- a refusal's line
 unless : (r : Refusal) (reply : Reply) (text : List ℕ) → refusalOf r ≡ reply → refusedLine (refusalOf r .number) ≡ unlessRefused reply text
@@ -93,15 +93,11 @@ module _ (ws : List ℕ) (n m j : ℕ) where
         rw (orthogonalises ws n m j A, l) (accepts (pack 8 (x .matrix)) n m (x .k) .1 (orthogonal-accepted ws n m j A))
 
 -- peeling: its bytes are at most 2
-cond-most : (a b : Bool) → cond a 2 (one b) ≤ 2
-cond-most true b = omega arith
-cond-most false b = omega (arith, one≤1 b)
-
 peeled-most : (h : Matrix) (N M : ℕ) (w : ℕ → ℕ) (b : ℕ) → peeled h N M w b ≤ 2
 unfolding peeled
 peeled-most h N M w b =
     let r = residue h N M (erased w) in
-    cond-most (r b) (anySet N (λ y. solves h N M (erased w) r (isOne w) y && y b))
+    erasable-most (r b) (anySet N (λ y. solves h N M (erased w) r (isOne w) y && y b))
 
 listFrom-most : (N top : ℕ) (f : ℕ → ℕ) → ((b : ℕ) → f b ≤ top) → Bytes top (listFrom 0 N f)
 listFrom-most N top f h = record {

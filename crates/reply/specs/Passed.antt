@@ -1,21 +1,10 @@
--- A reply as its number and values, and how it reaches a caller in C: its number is returned, and its values are put into a lent list of any
--- length. Assumes nothing.
+-- How a reply reaches a caller in C: its number is returned, and its values are put into a lent list of any length. Assumes nothing.
 use mathlib.Core.Path.{_≡_}
 use mathlib.Core.List.{List, [], _∷_, _++_}
 use Prim.Native.Nat.{ℕ}
 use lib.ListN.{length, take, drop}
 use lib.Ieee.{Float}
-use Rattle.parity.specs.Causes.{Reply, refusal}
-use Rattle.reply.specs.declared.Numbered.{Numbered}
-use Rattle.reply.specs.declared.Numbered.the-variants.{Alone, One, Two, Three, Four, Five}
-
-abbrev pub numberedReply : Numbered → Reply
-numberedReply (Alone number) = refusal number []
-numberedReply (One number a) = refusal number (a ∷ [])
-numberedReply (Two number a b) = refusal number (a ∷ b ∷ [])
-numberedReply (Three number a b c) = refusal number (a ∷ b ∷ c ∷ [])
-numberedReply (Four number a b c d) = refusal number (a ∷ b ∷ c ∷ d ∷ [])
-numberedReply (Five number a b c d e) = refusal number (a ∷ b ∷ c ∷ d ∷ e ∷ [])
+use Rattle.parity.specs.Causes.{Reply}
 
 -- the values fill the first elements as far as the list reaches; its other elements are left
 unfoldable pub filled : List ℕ → List ℕ → List ℕ

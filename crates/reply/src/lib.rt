@@ -11,8 +11,11 @@ use join::Joining;
 use min_sum::Decoding;
 use min_sum_range::Ranging;
 use packets::MendingPackets;
-use parity::Holders;
-use parity::Refusal;
+use parity::Numbered;
+use parity::one_held;
+use parity::refused;
+use parity::three_held;
+use parity::two_held;
 use peel::Peeling;
 use record::Loading;
 use split::Orthogonalising;
@@ -26,7 +29,7 @@ use writing::Writing;
 ghost use mathlib.Core.Path.{_≡_};
 ghost use mathlib.Core.List.{[], _∷_};
 ghost use lib.ListN.{set};
-ghost use Rattle.parity.specs.Causes.{refusal, heldValues, refusalOf};
+ghost use Rattle.parity.specs.Causes.{numberedReply};
 ghost use Rattle.writing.specs.Answers.{writingReply};
 ghost use Rattle.record.specs.Answers.{loadingReply};
 ghost use Rattle.cycles.specs.Answers.{sharingReply, countingReply};
@@ -43,93 +46,7 @@ ghost use Rattle.packets.specs.Answers.{mendingPacketsReply};
 ghost use Rattle.join.specs.Answers.{joiningReply};
 ghost use Rattle.min_sum.specs.Answers.{decodingReply};
 ghost use Rattle.min_sum_range.specs.Answers.{rangingOutcome};
-ghost use Rattle.reply.specs.Passed.{numberedReply, Passed, filled, endsFilled};
-
-// A number and the values that it carries.
-pub enum Numbered {
-    Alone(u32),
-    One(u32, u64),
-    Two(u32, u64, u64),
-    Three(u32, u64, u64, u64),
-    Four(u32, u64, u64, u64, u64),
-    Five(u32, u64, u64, u64, u64, u64),
-}
-
-// A number with one value and the checks that hold a pair.
-fn one_held(number: u32, first: u64, held: Holders) -> Numbered
-    ensures { λ r. ⌜ numberedReply r ≡ refusal number (first ∷ heldValues held) ⌝ }
-{
-    match held {
-        Holders::None => Numbered::One(number, first),
-        Holders::Both(low, high) => Numbered::Three(number, first, low.0 as u64, high.0 as u64),
-    }
-}
-
-// A number with two values and the checks that hold a pair.
-fn two_held(number: u32, first: u64, second: u64, held: Holders) -> Numbered
-    ensures { λ r. ⌜ numberedReply r ≡ refusal number (first ∷ second ∷ heldValues held) ⌝ }
-{
-    match held {
-        Holders::None => Numbered::Two(number, first, second),
-        Holders::Both(low, high) => Numbered::Four(
-            number,
-            first,
-            second,
-            low.0 as u64,
-            high.0 as u64,
-        ),
-    }
-}
-
-// A number with three values and the checks that hold a pair.
-fn three_held(number: u32, first: u64, second: u64, third: u64, held: Holders) -> Numbered
-    ensures { λ r. ⌜ numberedReply r ≡ refusal number (first ∷ second ∷ third ∷ heldValues held) ⌝ }
-{
-    match held {
-        Holders::None => Numbered::Three(number, first, second, third),
-        Holders::Both(low, high) => {
-            Numbered::Five(number, first, second, third, low.0 as u64, high.0 as u64)
-        }
-    }
-}
-
-// A refusal.
-fn refused(why: Refusal) -> Numbered
-    ensures { λ r. ⌜ numberedReply r ≡ refusalOf why ⌝ }
-{
-    match why {
-        Refusal::MatrixLength => Numbered::Alone(1),
-        Refusal::OutOfRange => Numbered::Alone(2),
-        Refusal::OneOutside => Numbered::Alone(3),
-        Refusal::RuleABroken => Numbered::Alone(4),
-        Refusal::FaultyWord { place } => Numbered::One(5, place as u64),
-        Refusal::RecordTooShort { needed } => Numbered::One(6, needed as u64),
-        Refusal::NotAPair => Numbered::Alone(7),
-        Refusal::ShareBelowTwo { share } => Numbered::One(8, share),
-        Refusal::NoRoomToSplit => Numbered::Alone(9),
-        Refusal::NoRoomLeft {
-            splits,
-            sum,
-            k,
-            held,
-        } => three_held(9, splits, sum, k as u64, held),
-        Refusal::WrongLength => Numbered::Alone(10),
-        Refusal::WrongByte { place } => Numbered::One(11, place as u64),
-        Refusal::Contradiction => Numbered::Alone(12),
-        Refusal::AddedBits => Numbered::Alone(13),
-        Refusal::ProgramInput => Numbered::Alone(14),
-        Refusal::NothingToTakeBack => Numbered::Alone(15),
-        Refusal::CannotTakeBack => Numbered::Alone(16),
-        Refusal::UnknownName => Numbered::Alone(17),
-        Refusal::WrongSize => Numbered::Alone(18),
-        Refusal::SetsTooShort { needed } => Numbered::One(19, needed as u64),
-        Refusal::DifferentLengths => Numbered::Alone(20),
-        Refusal::TooManyChecks => Numbered::Alone(21),
-        Refusal::WrongRounds => Numbered::Alone(22),
-        Refusal::WrongFloat { place } => Numbered::One(23, place as u64),
-        Refusal::LowAboveHigh { place } => Numbered::One(24, place as u64),
-    }
-}
+ghost use Rattle.reply.specs.Passed.{Passed, filled, endsFilled};
 
 // What loading answers.
 pub fn loading(answer: Loading) -> Numbered

@@ -19,6 +19,7 @@ use Rattle.soft.specs.declared.Seen.{Seen}
 use Rattle.parity.proofs.Soft.Order.{lt-asym, lt-cotrans}
 use Rattle.parity.proofs.Soft.Forms.{is-sure, is-soft, is-erased, form}
 use Rattle.parity.proofs.Soft.Counts.{but-at, but-other, odd-more}
+use Rattle.parity.proofs.Soft.Sound.{finite-number}
 
 neg-number : (x : Float) → finite x ≡ true → isNan (neg x) ≡ false
 unfolding neg isNan
@@ -26,14 +27,8 @@ neg-number nan e = absurd (false≢true e)
 neg-number (inf s) e = refl
 neg-number (fin s m e) p = refl
 
-a-number : (x : Float) → finite x ≡ true → isNan x ≡ false
-unfolding isNan
-a-number nan e = absurd (false≢true e)
-a-number (inf s) e = refl
-a-number (fin s m e) p = refl
-
 pub size-number : (x : Float) → finite x ≡ true → isNan (magnitude x) ≡ false
-size-number x e = elim (is (negative x)) [ is-true q ↦ rw q (neg-number x e) | is-false q ↦ rw q (a-number x e) ]
+size-number x e = elim (is (negative x)) [ is-true q ↦ rw q (neg-number x e) | is-false q ↦ rw q (finite-number x e) ]
 
 infinite-number : isNan infinite ≡ false
 unfolding isNan ofBits

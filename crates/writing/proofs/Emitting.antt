@@ -11,7 +11,7 @@ use lib.Arith.{le-zero}
 use lib.Bits.{bitAnd, and-le-l}
 use lib.Dec.{eqb, ltb}
 use lib.ListN.{getD, length, set, drop, length-append}
-use lib.Seq.{sets, sets-eq, length-sets}
+use lib.Seq.{sets-eq, length-sets}
 use borrow.Author.Tests.{eq-eqb, ne-eqb, lt-ltb, le-ltb, ltb-false, not-true}
 use Rattle.parity.specs.Finite.{sum, count, listFrom}
 use Rattle.parity.specs.Matrix.{Matrix, bitOf, lent}
@@ -21,6 +21,7 @@ use Rattle.parity.specs.Record.{headKind, bitWords, opening, checkWords, splitt
 use Rattle.parity.specs.declared.Form.{Form}
 use Rattle.parity.specs.Sound.{Sound}
 use Rattle.parity.proofs.Finite.Sums.{count-mono}
+use Rattle.parity.proofs.Finite.Lists.{listFrom-snoc, sets-append}
 use Rattle.parity.proofs.Matrix.Digits.{bit-zero}
 use Rattle.parity.proofs.Matrix.Lent.{lent-word}
 use Rattle.parity.proofs.Matrix.Ones.{Lowest}
@@ -29,15 +30,10 @@ use Rattle.parity.proofs.Record.Writing.{length-one, length-bits, length-check,
 use Rattle.parity.proofs.Matrix.Packing.{length-listFrom}
 use Rattle.parity.proofs.Matrix.Sound.{sound-rule}
 use Rattle.parity.proofs.Splits.Undo.{higher-at}
-use Rattle.parity.proofs.Lists.Rebuilt.{built-recovers, all-sound, written-built, last-word, recovered-words}
+use Rattle.parity.proofs.Lists.Rebuilt.{built-recovers, all-sound, written-built, recovered-words}
 use Rattle.rows.specs.Rows.{NextOne}
 use Rattle.exchange.proofs.ReadPair.{first-one, second-one}
 use Rattle.writing.specs.Write.{wordOnes, checkOf, splitOfCheck, plainRecord, Wrote}
-
--- stores, one list after another
-pub sets-append : (l : List ℕ) (p : ℕ) (vs us : List ℕ) → sets l p (vs ++ us) ≡ sets (sets l p vs) (p + length vs) us
-sets-append l p [] us = rw (add-zero p)
-sets-append l p (v ∷ vs) us = let e : p + suc (length vs) ≡ suc p + length vs = omega arith in rw e (sets-append (set l p v) (suc p) vs us)
 
 pub wrote-none : (old : List ℕ) (p : ℕ) → Wrote old old p [] p
 wrote-none old p = record { stored = refl; place = sym (add-zero p) }
@@ -192,7 +188,7 @@ pub splits-next : (f : ℕ → ℕ) (old new : List ℕ) (p j v : ℕ) → Wrote
 splits-next f old new p j v A e =
     let z : 0 + j ≡ j = omega arith in
     let q : p + (j + 1) ≡ p + j + 1 = omega arith in
-    let t : listFrom 0 (j + 1) f ≡ listFrom 0 j f ++ (v ∷ []) = rw (add-one j, e) (last-word 0 j f ∙ rw z) in
+    let t : listFrom 0 (j + 1) f ≡ listFrom 0 j f ++ (v ∷ []) = rw (add-one j, e) (listFrom-snoc 0 j f ∙ rw z) in
     rw (t, q) (wrote-more old new (set new (p + j) v) p (p + j) (p + j + 1) (listFrom 0 j f) (v ∷ []) A (wrote-one new (p + j) v))
 
 pub splits-none : (f : ℕ → ℕ) (old : List ℕ) (p : ℕ) → Wrote old old p (listFrom 0 0 f) (p + 0)

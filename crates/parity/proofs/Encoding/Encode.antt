@@ -7,16 +7,16 @@ use native.Mathlib.Nat.{not-suc-le-zero}
 use native.Mathlib.Omega.{arith}
 use native.Mathlib.Decide.{ℕ-discrete}
 use lib.Dec.{eqb}
-use borrow.Author.Tests.{eq-eqb, ne-eqb, eqb-true}
+use borrow.Author.Tests.{eq-eqb, ne-eqb}
 use Rattle.parity.specs.Finite.{one, count}
 use Rattle.parity.specs.Matrix.{Matrix}
 use Rattle.parity.specs.Words.{inside, evenChecks}
 use Rattle.parity.specs.Encoding.{dependent, rankOf, holds, encoded}
-use Rattle.parity.proofs.Finite.Sums.{is-true, is-false, is, one≤1, all-at, all-of, count-suc, count-end, count-not, sum-zero}
+use Rattle.parity.proofs.Finite.Sums.{is-true, is-false, is, one≤1, all-at, all-of, count-not, sum-zero}
 use Rattle.parity.proofs.Splits.Split.{Even, evens}
 use Rattle.parity.proofs.Words.Extend.{inside-cong}
 use Rattle.parity.proofs.Encoding.Dependent.{Sums, inside-suc, inside-end, depends-at, depends-of}
-use Rattle.parity.proofs.Words.Residue.{below, below-at, anySet-of, anySet-at, the-one, inside-xor}
+use Rattle.parity.proofs.Words.Residue.{below, below-at, the-one, inside-xor}
 use Rattle.parity.proofs.Finite.Bools.{differ, xor-self, beq-same, beq-refl, or-else}
 
 parity-1 : (B S P : ℕ) → S ≡ B + 2 * P → B % 2 ≡ S % 2

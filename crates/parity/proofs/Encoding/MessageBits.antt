@@ -19,7 +19,8 @@ use Rattle.parity.proofs.Matrix.Packing.{at-listFrom}
 use Rattle.parity.proofs.Matrix.Accept.{Accepted, passes}
 use Rattle.parity.proofs.Causes.Admit.{accepted-number}
 use Rattle.parity.proofs.Words.Bytes.{list-bytes}
-use Rattle.parity.proofs.Encoding.Messages.{place-below, ranks, others, encode-taken, codeword-written, message-held}
+use Rattle.parity.proofs.Encoding.Messages.{ranks, others, encode-taken, codeword-written, message-held}
+use Rattle.parity.proofs.Finite.Firsts.{nth-below}
 
 -- a call that answers has an accepted matrix with k = 0
 marks-accepted : (ws : List ℕ) (n m k : ℕ) (set : List ℕ) → messageBitsOutcome ws n m k set .reply ≡ answer [] → Accepted ws n m k
@@ -34,7 +35,7 @@ pub rank-of-marks : RankOfMarks
 unfolding messageBitsOutcome rankOf
 rank-of-marks ws n m zero set e =
     let D = dependent (lent 8 ws) m in
-    ranks ws n m (marks-accepted ws n m 0 set e) ∙ ap (λ (c : ℕ). answer (c ∷ [])) (count-cong n (λ b l. rw (e, at-listFrom 0 n (λ b. one (D b)) b l, zero-add b) (go (D b))))
+    ranks ws n m (marks-accepted ws n m 0 set e) ∙ ap (λ (c : ℕ). answer (c ∷ [])) (count-cong n (λ b l. rw (e, at-listFrom 0 n _ b l, zero-add b) (go (D b))))
   where
     go : (d : Bool) → not d ≡ eqb (one d) 0
     go true = refl
@@ -69,6 +70,6 @@ message-marked ws n m zero set message w e f =
     rw (e, ← list-bytes n after (C .word .size))
     (marked D (byteOf after) (byteOf message) 0 n 0 (count n D) (unfold count sum in refl) (rw (zero-add n, zero-add (count n D))) (λ b k d.
     sym (byte-one (byteOf after b) (C .word .bytes b (omega arith))) ∙ ap one (message-held ws n m A message W w l b (omega arith) d)
-    ∙ byte-one (byteOf message (count b D)) (W .bytes (count b D) (omega (arith, place-below D n b (omega arith) d))))
+    ∙ byte-one (byteOf message (count b D)) (W .bytes (count b D) (omega (arith, nth-below D b n (omega arith) d))))
     ∙ rw s (list-bytes (n - rankOf h n m) message (W .size)))
 message-marked ws n m (suc k) set message w e f = absurd (no-added ws n m k set e)

@@ -3,10 +3,9 @@
 use mathlib.Core.Path.{_≡_, refl, sym, ap, _∙_}
 use mathlib.Core.Bool.{Bool, true, false, _&&_, and-eq-true-iff, false≢true}
 use mathlib.Core.List.{List, [], _∷_}
-use Prim.Native.Nat.{ℕ, zero, suc, _+_, _-_, _<_}
+use Prim.Native.Nat.{ℕ, _+_, _-_, _<_}
 use native.Mathlib.Nat.{add-zero, zero-add}
 use native.Mathlib.Omega.{arith}
-use native.Mathlib.Decide.{decLt}
 use lib.Dec.{eqb}
 use lib.ListN.{length}
 use lib.Seq.{ext-getD}
@@ -17,7 +16,7 @@ use Rattle.parity.specs.Words.{isOne}
 use Rattle.parity.specs.Encoding.{dependent, rankOf, encoded}
 use Rattle.parity.specs.Causes.{answer}
 use Rattle.parity.specs.Calls.{byteOf, verifyReply, encodeReply, encodeOutcome, rankReply}
-use Rattle.parity.proofs.Finite.Sums.{is-true, is-false, is, one≤1, any-of, any-at, count-suc, count-mono, count-bound, byte-one, eqb-one}
+use Rattle.parity.proofs.Finite.Sums.{is-true, is-false, is, one≤1, any-of, any-at, byte-one, eqb-one}
 use Rattle.parity.proofs.Matrix.Packing.{length-listFrom, at-listFrom}
 use Rattle.parity.proofs.Splits.Split.{Even}
 use Rattle.parity.proofs.Words.Extend.{inside-cong}
@@ -25,33 +24,7 @@ use Rattle.parity.proofs.Matrix.Accept.{Accepted, passes}
 use Rattle.parity.proofs.Encoding.Encode.{encodes, lengths}
 use Rattle.parity.proofs.Words.Bytes.{Word, read-word, word-right, Codeword}
 use Rattle.parity.proofs.Words.Verifying.{verified}
-
--- two numbers that pass have different numbers of such numbers below them
-place-only : (p : ℕ → Bool) (a b : ℕ) → p a ≡ true → p b ≡ true → count a p ≡ count b p → a ≡ b
-place-only p a b q r e =
-    elim (decLt a b) [
-      | yes k ↦ absurd (after a b k q e)
-      | no k ↦ elim (decLt b a) [ yes l ↦ absurd (after b a l r (sym e)) | no l ↦ omega arith ]
-    ]
-  where
-    after : (a b : ℕ) → a < b → p a ≡ true → count a p ≡ count b p → ⊥
-    after a b k q e = omega (arith, rw q at (count-suc a p), count-mono (suc a) b p k)
-
--- each number below the count is that of one that passes
-place-of : (p : ℕ → Bool) (n i : ℕ) → i < count n p → (b : ℕ) × (b < n) × (p b ≡ true) × (count b p ≡ i)
-place-of p zero i k = absurd (omega (arith, count-bound 0 p))
-place-of p (suc n) i k =
-    elim (decLt i (count n p)) [
-      | yes l ↦ let (b, m, q, e) = place-of p n i l in (b, omega arith, q, e)
-      | no l ↦ elim (is (p n)) [
-        | is-true q ↦ (n, omega arith, q, omega (arith, rw q at (count-suc n p)))
-        | is-false q ↦ absurd (omega (arith, rw q at (count-suc n p)))
-      ]
-    ]
-
--- and the number of one that passes is below the count
-pub place-below : (p : ℕ → Bool) (n b : ℕ) → b < n → p b ≡ true → count b p < count n p
-place-below p n b k d = omega (arith, rw d at (count-suc b p), count-mono (suc b) n p k)
+use Rattle.parity.proofs.Finite.Firsts.{nth-below, nth-only, nth-at}
 
 module _ (h : Matrix) (n m : ℕ) where
   abbrev D : ℕ → Bool
@@ -71,7 +44,7 @@ module _ (h : Matrix) (n m : ℕ) where
           let (a, l, u) = any-at n (λ a. D a && (eqb (count a D) (count b D) && x a)) t in
           let (u₁, u₂) = and-eq-true-iff (D a) (eqb (count a D) (count b D) && x a) .0 u in
           let (u₃, u₄) = and-eq-true-iff (eqb (count a D) (count b D)) (x a) .0 u₂ in
-          let s : a ≡ b = place-only D a b u₁ d (eqb-true (count a D) (count b D) u₃) in
+          let s : a ≡ b = nth-only D a b u₁ d (eqb-true (count a D) (count b D) u₃) in
           absurd (false≢true (sym q ∙ rw s at u₄))
     ]
   ]
@@ -79,15 +52,12 @@ module _ (h : Matrix) (n m : ℕ) where
   -- two messages of one codeword are the same
   pub message-only : (p q : ℕ → Bool) → ((b : ℕ) → b < n → encoded h n m p b ≡ encoded h n m q b) → (i : ℕ) → i < count n D → p i ≡ q i
   message-only p q f i k =
-      let (b, l, d, e) = place-of D n i k in
+      let (b, l, d, e) = nth-at D n i k in
       rw (← e) (sym (encodes h n m p .1 b l d) ∙ f b l ∙ encodes h n m q .1 b l d)
 
   -- a codeword is the encoding of any message that its other bits hold
   pub codeword-of : (x : ℕ → Bool) → Even h n m x → (p : ℕ → Bool) → ((i : ℕ) → i < count n D → p i ≡ messageOf x i) → (b : ℕ) → b < n → x b ≡ encoded h n m p b
-  codeword-of x e p f = encodes h n m p .2 x e (λ b k d. sym (message-at x b k d) ∙ sym (f (count b D) (place-below D n b k d)))
-
-one-only : (x y : Bool) → one x ≡ one y → x ≡ y
-one-only x y e = sym (eqb-one x) ∙ ap (λ a. eqb a 1) e ∙ eqb-one y
+  codeword-of x e p f = encodes h n m p .2 x e (λ b k d. sym (message-at x b k d) ∙ sym (f (count b D) (nth-below D b n k d)))
 
 -- words of bytes up to 1 are the same if their ones are
 word-only : (N : ℕ) (v w : List ℕ) → Word N 1 v → Word N 1 w → ((b : ℕ) → b < N → isOne (byteOf v) b ≡ isOne (byteOf w) b) → v ≡ w

@@ -1,6 +1,6 @@
 -- Laws of Booleans that the others lean on. Assumes nothing.
 use mathlib.Core.Path.{_≡_, refl, sym}
-use mathlib.Core.Bool.{Bool, true, false, not, _&&_, _||_, xor, Bool·beq, true≢false, false≢true}
+use mathlib.Core.Bool.{Bool, true, false, not, _||_, xor, Bool·beq, true≢false, false≢true}
 
 -- an implication as a test
 pub then : (a b : Bool) → not a || b ≡ true → a ≡ true → b ≡ true
@@ -49,3 +49,8 @@ xor-self true true e = refl
 xor-self true false e = absurd (true≢false e)
 xor-self false true e = absurd (false≢true e)
 xor-self false false e = refl
+
+pub xor-false : (a : Bool) → xor a false ≡ a
+unfolding xor
+xor-false true = refl
+xor-false false = refl

@@ -1,18 +1,26 @@
--- The smallest number that passes a test, and tests that agree. Assumes nothing.
+-- The smallest number that passes a test, the one that passes after t others, and tests that agree. Assumes nothing.
 use mathlib.Core.Path.{_≡_, refl, sym, _∙_}
 use mathlib.Core.Bool.{Bool, true, false, true≢false}
 use Prim.Native.Nat.{ℕ, zero, suc, _<_}
 use native.Mathlib.Omega.{arith}
-use native.Mathlib.Decide.{ℕ-discrete}
-use Rattle.parity.specs.Finite.{all, any, least}
-use Rattle.parity.proofs.Finite.Sums.{is-true, is-false, is, any-of, any-at, least-at, least-min}
+use native.Mathlib.Decide.{ℕ-discrete, decLt}
+use Rattle.parity.specs.Finite.{count, all, any, least}
+use Rattle.parity.proofs.Finite.Sums.{is-true, is-false, is, any-of, any-at, least-at, least-min, count-suc, count-mono, count-bound}
 
 pub all-cong : (n : ℕ) {p q : ℕ → Bool} → ((i : ℕ) → i < n → p i ≡ q i) → all n p ≡ all n q
 unfolding all
 all-cong zero h = refl
 all-cong (suc n) {p} {q} h = rw (all-cong n {p = p} {q = q} (λ i k. h i (omega arith)), h n (omega arith))
 
+pub any-cong : (n : ℕ) (p q : ℕ → Bool) → ((i : ℕ) → i < n → p i ≡ q i) → any n p ≡ any n q
+unfolding any
+any-cong zero p q h = refl
+any-cong (suc n) p q h = rw (any-cong n p q (λ i k. h i (omega arith)), h n (omega arith))
+
 -- no number passes
+pub none-at : (n : ℕ) (p : ℕ → Bool) → any n p ≡ false → (i : ℕ) → i < n → p i ≡ false
+none-at n p e i k = elim (is (p i)) [ is-false q ↦ q | is-true q ↦ absurd (true≢false (sym (any-of n p i k q) ∙ e)) ]
+
 pub any-none : (n : ℕ) (p : ℕ → Bool) → ((i : ℕ) → i < n → p i ≡ false) → any n p ≡ false
 any-none n p h =
     elim (is (any n p)) [
@@ -45,3 +53,27 @@ least-in n p k = elim (is (any n p)) [ is-true q ↦ q | is-false q ↦ absurd (
 
 pub least-out : (n : ℕ) (p : ℕ → Bool) → (least n p < n → ⊥) → any n p ≡ false
 least-out n p k = elim (is (any n p)) [ is-false q ↦ q | is-true q ↦ absurd (k (least-at n p q .0)) ]
+
+-- A number a that passes comes after count a p others: fewer than there are below a number above it,
+pub nth-below : (p : ℕ → Bool) (a b : ℕ) → a < b → p a ≡ true → count a p < count b p
+nth-below p a b k e = omega (arith, rw e at (count-suc a p), count-mono (suc a) b p k)
+
+-- no other number that passes comes after as many,
+pub nth-only : (p : ℕ → Bool) (a b : ℕ) → p a ≡ true → p b ≡ true → count a p ≡ count b p → a ≡ b
+nth-only p a b q r e =
+    elim (decLt a b) [
+      | yes k ↦ absurd (omega (arith, nth-below p a b k q))
+      | no k ↦ elim (decLt b a) [ yes l ↦ absurd (omega (arith, nth-below p b a l r)) | no l ↦ omega arith ]
+    ]
+
+-- and after each number of others that are fewer than all, some number does.
+pub nth-at : (p : ℕ → Bool) (n t : ℕ) → t < count n p → (b : ℕ) × (b < n) × (p b ≡ true) × (count b p ≡ t)
+nth-at p zero t k = absurd (omega (arith, count-bound 0 p))
+nth-at p (suc n) t k =
+    elim (decLt t (count n p)) [
+      | yes l ↦ let (b, m, q, e) = nth-at p n t l in (b, omega arith, q, e)
+      | no l ↦ elim (is (p n)) [
+        | is-true q ↦ (n, omega arith, q, omega (arith, rw q at (count-suc n p)))
+        | is-false q ↦ absurd (omega (arith, rw q at (count-suc n p)))
+      ]
+    ]

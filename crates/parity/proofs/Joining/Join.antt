@@ -9,7 +9,7 @@ use native.Mathlib.Omega.{arith}
 use native.Mathlib.Decide.{decLt}
 use lib.Dec.{eqb, ltb, lit<}
 use lib.ListN.{length, getD}
-use borrow.Author.Tests.{eq-eqb, eqb-true, ltb-false, lt-ltb, le-ltb}
+use borrow.Author.Tests.{eq-eqb, eqb-true, ltb-false, lt-ltb, le-ltb, not-false}
 use Rattle.parity.specs.Finite.{all, count}
 use Rattle.parity.specs.Matrix.{Matrix, lent, pack, inRange, clean, ruleA}
 use Rattle.parity.specs.Words.{isOne, inside, erased, residue}
@@ -40,10 +40,6 @@ past : (b : Bool) (c : ℕ) (after : Reply) → refuse b (refusal (suc c) []) af
 past true c after e = absurd (omega arith)
 past false c after e = (refl, e)
 
-right : (b : Bool) → not b ≡ false → b ≡ true
-right true e = refl
-right false e = sym e
-
 module _ (ws₁ : List ℕ) (n₁ m₁ k₁ : ℕ) (ws₂ : List ℕ) (n₂ m₂ k₂ : ℕ) where
   -- a reply behind these causes
   pub both-acceptable : (after : Reply) → acceptingBoth ws₁ n₁ m₁ k₁ ws₂ n₂ m₂ k₂ after .number ≡ 0
@@ -63,9 +59,9 @@ module _ (ws₁ : List ℕ) (n₁ m₁ k₁ : ℕ) (ws₂ : List ℕ) (n₂ m₂
       let (f₁, f₂) = or-false-both (ltb 0 k₁) _ f in
       let z₁ : k₁ ≡ 0 = omega (arith, ltb-false 0 k₁ f₁) in
       let z₂ : k₂ ≡ 0 = omega (arith, ltb-false 0 k₂ f₂) in
-      let n : n₁ ≡ n₂ = eqb-true n₁ n₂ (right _ g) in
-      let A₁ = accepts ws₁ n₁ m₁ k₁ .0 (cause-0 ws₁ n₁ m₁ k₁ (eqb-true _ _ (right _ a₁)) (right _ b₁) (right _ c₁) (right _ d₁)) in
-      let A₂ = accepts ws₂ n₂ m₂ k₂ .0 (cause-0 ws₂ n₂ m₂ k₂ (eqb-true _ _ (right _ a₂)) (right _ b₂) (right _ c₂) (right _ d₂)) in
+      let n : n₁ ≡ n₂ = eqb-true n₁ n₂ (not-false _ g) in
+      let A₁ = accepts ws₁ n₁ m₁ k₁ .0 (cause-0 ws₁ n₁ m₁ k₁ (eqb-true _ _ (not-false _ a₁)) (not-false _ b₁) (not-false _ c₁) (not-false _ d₁)) in
+      let A₂ = accepts ws₂ n₂ m₂ k₂ .0 (cause-0 ws₂ n₂ m₂ k₂ (eqb-true _ _ (not-false _ a₂)) (not-false _ b₂) (not-false _ c₂) (not-false _ d₂)) in
       (z₁, z₂, n, record { first = rw z₁ at A₁; second = rw (z₂, ← n) at A₂ })
 
 module _ (ws₁ : List ℕ) (n m₁ : ℕ) (ws₂ : List ℕ) (m₂ : ℕ) (J : Acceptable ws₁ n m₁ ws₂ m₂) where
@@ -249,4 +245,4 @@ unfolding joinOutcome joinReply
 joins-both ws₁ n₁ m₁ k₁ ws₂ n₂ m₂ k₂ ws₃ c e =
     let (t, e₁) = past (wrongLength 4096 ws₃) 0 _ (ap (λ (r : Reply). r .number) e) in
     let (z₁, z₂, q, J) = both-acceptable ws₁ n₁ m₁ k₁ ws₂ n₂ m₂ k₂ _ e₁ in
-    made ws₁ n₁ m₁ k₁ ws₂ n₂ m₂ k₂ ws₃ c z₁ z₂ q J (eqb-true _ _ (right _ t)) e
+    made ws₁ n₁ m₁ k₁ ws₂ n₂ m₂ k₂ ws₃ c z₁ z₂ q J (eqb-true _ _ (not-false _ t)) e

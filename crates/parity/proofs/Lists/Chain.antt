@@ -4,7 +4,7 @@ use mathlib.Core.Logic.{_↔_}
 use mathlib.Core.Bool.{true, false, false≢true}
 use mathlib.Core.List.{List, [], _∷_}
 use Prim.Native.Nat.{ℕ, suc, _+_, _-_, _≤_}
-use native.Mathlib.Nat.{add-zero, sub-zero}
+use native.Mathlib.Nat.{add-zero}
 use native.Mathlib.Omega.{arith}
 use native.Mathlib.Decide.{ℕ-discrete, decLt}
 use lib.ListN.{getD}
@@ -104,12 +104,16 @@ module _ (given : List ℕ) (n m : ℕ) (A₀ : Accepted given n m 0) where
   pub stands-start : Stands given n m (start given)
   stands-start = record { accepted = A₀; built = built-given; finishes = λ r e. absurd (other-last cc) }
 
+  -- the carried sum, written otherwise
+  same-sum : {h : Matrix} {k a b : ℕ} → a ≡ b → Built g n m h k a → Built g n m h k b
+  same-sum e B = rw e at B
+
   stands-split : (s : Stand) (u v : ℕ) → Stands given n m s → Stands given n m (next n m s (splits u v))
   unfolding next madeK madeSum
   stands-split s u v S =
       elim (split-case (s .words) n m (s .k) u v (S .accepted)) [
-        | refused c vs e ↦ rw (e, ne-eqb (suc c) 0 (λ q. omega arith), add-zero (s .carried))
-            record { accepted = S .accepted; built = S .built; finishes = λ r q. absurd (other-last cc) }
+        | refused c vs e ↦ rw (e, ne-eqb (suc c) 0 (λ q. omega arith))
+            record { accepted = S .accepted; built = same-sum (omega arith) (S .built); finishes = λ r q. absurd (other-last cc) }
         | made p t l ↦
             let (un, vn, uv) = is-pair (n + s .k) u v p in
             rw (split-made (s .words) n m (s .k) (S .accepted) u v p t l)
@@ -137,8 +141,8 @@ module _ (given : List ℕ) (n m : ℕ) (A₀ : Accepted given n m 0) where
     unfolding next madeK madeSum
     stands-back =
         elim (ℕ-discrete (s .k) 0) [
-          | yes z ↦ rw (back-none (s .words) n m (s .k) (S .accepted) z, sub-zero (s .carried))
-              record { accepted = S .accepted; built = S .built; finishes = λ r q. absurd (other-last cc) }
+          | yes z ↦ rw (back-none (s .words) n m (s .k) (S .accepted) z)
+              record { accepted = S .accepted; built = same-sum (omega arith) (S .built); finishes = λ r q. absurd (other-last cc) }
           | no d ↦ rw (back-now d) (placed _ _ _ _ (undo d .built) (λ r q. absurd (other-last cc)))
         ]
 

@@ -1,15 +1,15 @@
 -- The checks that the share call, a split and an orthogonalise carry, as these calls answer and leave. Assumes nothing.
 use mathlib.Core.Path.{_≡_, sym, ap, _∙_}
-use mathlib.Core.List.{List, [], _∷_}
-use Prim.Native.Nat.{ℕ, suc, _+_, _-_, _<_}
+use mathlib.Core.List.{List, _∷_}
+use Prim.Native.Nat.{ℕ, suc, _+_, _-_}
 use native.Mathlib.Nat.{add-suc}
 use native.Mathlib.Omega.{arith}
 use native.Mathlib.Decide.{ℕ-discrete}
 use lib.ListN.{getD, drop}
-use Rattle.parity.specs.Matrix.{lent, pack, cause}
-use Rattle.parity.specs.Cycles.{share, heldBy, splitOf, Orthogonalised}
+use Rattle.parity.specs.Matrix.{lent, cause}
+use Rattle.parity.specs.Cycles.{share, heldBy, Orthogonalised}
 use Rattle.parity.specs.Causes.{Reply, answer, Outcome}
-use Rattle.parity.specs.Calls.{notPair, shareReply, splitOutcome, orthogonalisedReply, orthogonalising, orthogonaliseOutcome}
+use Rattle.parity.specs.Calls.{notPair, shareReply, orthogonalisedReply, orthogonalising}
 use Rattle.parity.specs.CyclesPromises.{ShareHolders, SplitHolders, OrthogonaliseHolders}
 use Rattle.parity.proofs.Finite.Sums.{is-true, is-false, is}
 use Rattle.parity.proofs.Matrix.Accept.{accepts, accepting-answers, accepting-refuses}

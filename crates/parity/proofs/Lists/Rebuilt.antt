@@ -1,15 +1,15 @@
 -- Which matrices are written: those that splits built. Their list is recovered, and it builds them again (M-107). Assumes nothing.
 use mathlib.Core.Path.{_≡_, refl, sym, ap, _∙_, fun-ext}
 use mathlib.Core.Logic.{_↔_}
-use mathlib.Core.Bool.{Bool, true, false, not, _&&_, or-comm, and-comm, and-eq-true-iff, Bool·beq, true≢false}
+use mathlib.Core.Bool.{true, false, _&&_, or-comm, and-comm, and-eq-true-iff, Bool·beq}
 use mathlib.Core.List.{List, [], _∷_, _++_}
 use Prim.Native.Nat.{ℕ, zero, suc, _+_, _≤_, _<_}
-use native.Mathlib.Nat.{add-zero, add-suc}
+use native.Mathlib.Nat.{add-suc}
 use native.Mathlib.Omega.{arith}
 use native.Mathlib.Decide.{decLt}
 use lib.Dec.{eqb, ltb}
 use lib.ListN.{length}
-use borrow.Author.Tests.{lt-ltb, ltb-true}
+use borrow.Author.Tests.{lt-ltb, ltb-true, not-false}
 use Rattle.parity.specs.Finite.{least, all, listFrom}
 use Rattle.parity.specs.Matrix.{Matrix, ruleA}
 use Rattle.parity.specs.Cycles.{share, pairs, splitOf, takenBack, lowerOf, higherOf}
@@ -24,6 +24,7 @@ use Rattle.parity.proofs.Matrix.Packing.{listFrom-cong}
 use Rattle.parity.proofs.Splits.Given.{back-added}
 use Rattle.parity.proofs.Splits.Back.{back-clean, split-back, back-sound}
 use Rattle.parity.proofs.Lists.Built.{Built, given, more, good}
+use Rattle.parity.proofs.Finite.Lists.{listFrom-snoc}
 
 -- the split of v and u is that of u and v
 split-swap : (h : Matrix) (N M u v : ℕ) → splitOf h N M u v ≡ splitOf h N M v u
@@ -192,20 +193,16 @@ rebuilds-built n m k h S e =
     rw s at B
 
 -- Cause 16 of writing does not hold exactly of the matrices that splits built.
+pub written-built : (n m k : ℕ) (h : Matrix) → Sound h n m k → notBuilt h n m k ≡ false → Built (allBack h n m k) n m h k (splitsSum h n m k)
+unfolding notBuilt
+written-built n m k h S e =
+    rebuilds-built n m k h S (and-eq-true-iff (backRight h n m k) (rebuilds h n m k) .0 (not-false (backRight h n m k && rebuilds h n m k) e) .1)
+
 pub built-written : (g : Matrix) (n m : ℕ) → Sound g n m 0 → {h : Matrix} {k total : ℕ} → Built g n m h k total → notBuilt h n m k ≡ false
 unfolding notBuilt rebuilds
 built-written g n m S {h = h} {k = k} B =
     let R = built-recovers g n m S B in
     rw (R .back, R .base, R .legal, R .list, matrix-same (n + k) (m + k) h)
-
-pub written-built : (n m k : ℕ) (h : Matrix) → Sound h n m k → notBuilt h n m k ≡ false → Built (allBack h n m k) n m h k (splitsSum h n m k)
-unfolding notBuilt
-written-built n m k h S e =
-    rebuilds-built n m k h S (and-eq-true-iff (backRight h n m k) (rebuilds h n m k) .0 (not-not (backRight h n m k && rebuilds h n m k) e) .1)
-  where
-    not-not : (x : Bool) → not x ≡ false → x ≡ true
-    not-not true q = refl
-    not-not false q = absurd (true≢false q)
 
 pub not-rebuilt : (h : Matrix) (n m k : ℕ) → rebuilds h n m k ≡ false → notBuilt h n m k ≡ true
 unfolding notBuilt
@@ -217,11 +214,6 @@ unfolding notBuilt rebuilds backRight recoveredList splitsRight splitAll allBack
 none-built n m h = rw (matrix-same (n + 0) (m + 0) h)
 
 -- The words of the recovered list, from the added checks of the matrix itself: taking back leaves the others as they were.
-pub last-word : (i n : ℕ) (f : ℕ → ℕ) → listFrom i (suc n) f ≡ listFrom i n f ++ (f (i + n) ∷ [])
-unfolding listFrom
-last-word i zero f = rw (add-zero i)
-last-word i (suc n) f = let e : suc i + n ≡ i + suc n = omega arith in ap (f i ∷_) (last-word (suc i) n f ∙ rw e)
-
 same-pair : (g h : Matrix) (N M : ℕ) → g M ≡ h M → pairOf g N M ≡ pairOf h N M
 unfolding pairOf lowerOf higherOf
 same-pair g h N M e = rw e
@@ -237,5 +229,5 @@ recovered-words n m (suc k) h S e =
     let same : (j : ℕ) → j < k → splitting (pairOf t (n + j) (m + j)) ≡ f j =
     λ j l. ap splitting (same-pair t h (n + j) (m + j) (fun-ext (λ b. back-added h n m k S j b l))) in
     let z : 0 + k ≡ k = omega arith in
-    rw (recovered-words n m k t (back-sound h n m k S a) b, last-word 0 k f, z)
+    rw (recovered-words n m k t (back-sound h n m k S a) b, listFrom-snoc 0 k f, z)
     (ap (λ (l : List ℕ). l ++ (f k ∷ [])) (listFrom-cong 0 k (λ j. splitting (pairOf t (n + j) (m + j))) f (λ j l. same (0 + j) (omega arith))))

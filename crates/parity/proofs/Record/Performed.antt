@@ -9,7 +9,7 @@ use lib.ListN.{length}
 use Rattle.parity.specs.Matrix.{Matrix}
 use Rattle.parity.specs.Cycles.{splitOf}
 use Rattle.parity.specs.Splits.{Pair, splitAll, splitRight, splitsRight}
-use Rattle.parity.specs.Record.{kindOf, pairIn, reading, loaded, ending, performing, behind, loading, splitting, splitWords, recordOf}
+use Rattle.parity.specs.Record.{kindOf, pairIn, loaded, ending, performing, behind, loading, splitting, splitWords, recordOf}
 use Rattle.parity.specs.declared.Form.{Form}
 use Rattle.parity.specs.declared.Form.the-variants.{Third}
 use Rattle.parity.specs.Sound.{Sound}

@@ -1,6 +1,6 @@
 -- A record that loads is the one, of its form, that is made of its checks and its splits, and acceptance takes these checks with k = 0. Assumes nothing.
 use mathlib.Core.Path.{_≡_, refl, sym, ap, _∙_, fun-ext}
-use mathlib.Core.Bool.{Bool, true, false, and-eq-true-iff, true≢false}
+use mathlib.Core.Bool.{true, false, and-eq-true-iff, true≢false}
 use mathlib.Core.List.{List, [], _∷_, _++_}
 use Prim.Native.Nat.{ℕ, zero, suc, _+_, _*_, _-_, _/_, _%_, _^_, _≤_, _<_}
 use native.Mathlib.Nat.{add-zero}
@@ -9,13 +9,13 @@ use native.Mathlib.Omega.{arith}
 use lib.Dec.{eqb}
 use lib.ListN.{getD, length}
 use borrow.Author.Tests.{lt-ltb, eqb-true}
-use Rattle.parity.specs.Finite.{sum, count, all}
+use Rattle.parity.specs.Finite.{count, all}
 use Rattle.parity.specs.Matrix.{Matrix, put, inRange, ruleA}
 use Rattle.parity.specs.Splits.{Pair, splitAll, splitRight, splitsRight}
 use Rattle.parity.specs.Record.{kindOf, payload, headKind, formOf, headWord, numberIn, openWord, bitWord, carries, pairIn, splitWord, endWord, Checked, stopped, checked, reading, loaded, ending, performing, behind, loading, bitWords, opening, checkWords, splitting, splitWords, recordOf}
 use Rattle.parity.specs.declared.Form.{Form}
 use Rattle.parity.specs.Sound.{Sound}
-use Rattle.parity.proofs.Finite.Sums.{is-true, is-false, is, count-suc, count-end}
+use Rattle.parity.proofs.Finite.Sums.{is-true, is-false, is, count-suc, count-end, count-zero}
 use Rattle.parity.proofs.Matrix.Lent.{put-here}
 use Rattle.parity.proofs.Matrix.Accept.{ranges}
 use Rattle.parity.proofs.Record.Reading.{word-made, opens, bits, splits, ends, checks-done, never, never-checked}
@@ -29,10 +29,6 @@ pub record Back (f : Form) (n m c due low : ℕ) (ws : List ℕ) (g : Matrix) (r
   pub bits : Inside n h
   pub checks : (d a : ℕ) → m ≤ d → h d a ≡ false
   pub words : checkWords f h n c ++ (opening f c (count n (h c)) ∷ (bitWords (h c) low ++ ws)) ≡ checkWords f h n m ++ rest
-
-count-none : (s : ℕ → Bool) → count 0 s ≡ 0
-unfolding count sum
-count-none s = refl
 
 module _ (f : Form) (n m c due low : ℕ) (ws : List ℕ) (g : Matrix) (rest : List ℕ) (h : Matrix) (P : Part n g c low) where
   -- a bit of the check
@@ -75,7 +71,7 @@ module _ (f : Form) (n m c due low : ℕ) (ws : List ℕ) (g : Matrix) (rest : L
         ]
 
     opened : x ≡ count n (h (suc c))
-    opened = let u = count-none (h (suc c)) in omega (arith, B .ones)
+    opened = let u = count-zero (h (suc c)) in omega (arith, B .ones)
 
     back-open : due ≡ 0 → Back f n m c due low (opening f (suc c) x ∷ ws) g rest h
     back-open z = record {
@@ -201,7 +197,7 @@ rest-back f n m (w ∷ ws) rest q h k e =
       | yes l ↦
           let (o, r) = first-open f n m 1 0 0 (λ d a. false) rest q h w ws l e in
           let B = reads-back f n m ws 2 0 (payload w % 256) 0 (λ d a. false) rest q h l (start n k) r in
-          let x : payload w % 256 ≡ count n (h 0) = omega (arith, B .ones, count-none (h 0)) in
+          let x : payload w % 256 ≡ count n (h 0) = omega (arith, B .ones, count-zero (h 0)) in
           let t = rw (no-checks, no-bits) at (B .words) in
           record { bits = B .bits .none; checks = B .checks; words = rw (o, x) t }
       | no l ↦ none-read f n m (w ∷ ws) rest q h (omega arith) e

@@ -1,5 +1,5 @@
 -- Reading a record, word by word at its places, and the ones of a check one after another. Assumes nothing.
-use mathlib.Core.Path.{_≡_, sym, _∙_}
+use mathlib.Core.Path.{_≡_, refl, sym, _∙_}
 use mathlib.Core.Bool.{true, false, _&&_, and-false, and-eq-true-iff}
 use mathlib.Core.List.{List, [], _∷_}
 use Prim.Native.Nat.{ℕ, suc, _+_, _*_, _-_, _/_, _%_, _^_, _≤_, _<_}
@@ -190,7 +190,7 @@ module _ (f : Form) (n m : ℕ) (source : List ℕ) (p k : ℕ) (h : Matrix) whe
     module _ (o : splitWord f h n m k x ≡ false) where
       pub not-end : endWord x ≡ false → performingAt f n m source p k h ≡ faulty p
       unfolding performing
-      not-end e = rw (drop-cons source p 0 l, o, e)
+      not-end e = rw (drop-cons source p 0 l, o, e) refl
 
       pub end-last : endWord x ≡ true → length source ≤ suc p → performingAt f n m source p k h ≡ loaded n m k h
       unfolding performing ending

@@ -2,21 +2,16 @@
 use mathlib.Core.Path.{_≡_, refl, sym, ap, _∙_}
 use mathlib.Core.Bool.{Bool, true, false, not, _&&_, _||_, or-false, and-true, and-eq-true-iff}
 use Prim.Native.Nat.{ℕ, zero, suc, _+_, _-_, _<_, _≤_}
-use native.Mathlib.Nat.{add-zero}
+use native.Mathlib.Nat.{add-zero, zero-add}
 use native.Mathlib.Omega.{arith}
 use Rattle.parity.specs.Finite.{any, all}
 use Rattle.parity.specs.Matrix.{Matrix}
 use Rattle.parity.specs.Soft.{Messages, isErased, isSure, turnsSign, leastSoft, turnsOdd, checkSends, gathered, settled, bitSends, but, toBits, toChecks, sentAfter, resultAfter}
 use Rattle.parity.specs.declared.Channel.{Channel}
 use Rattle.parity.proofs.Finite.Sums.{is-true, is-false, is, count-suc, count-cong}
-use Rattle.parity.proofs.Finite.Firsts.{all-cong}
+use Rattle.parity.proofs.Finite.Firsts.{all-cong, any-cong}
 
 -- ---- only the numbers below n count
-pub any-cong : (n : ℕ) (p q : ℕ → Bool) → ((i : ℕ) → i < n → p i ≡ q i) → any n p ≡ any n q
-unfolding any
-any-cong zero p q e = refl
-any-cong (suc n) p q e = rw (any-cong n p q (λ i k. e i (omega arith)), e n (omega arith))
-
 least-cong : (n : ℕ) (p q : ℕ → Bool) (f g : ℕ → Channel) → ((i : ℕ) → i < n → p i ≡ q i) → ((i : ℕ) → i < n → f i ≡ g i) → leastSoft n p f ≡ leastSoft n q g
 unfolding leastSoft
 least-cong zero p q f g e h = refl
@@ -71,10 +66,7 @@ unfolding checkSends turnsOdd any all leastSoft
 check-suc n p f e = rw (count-suc n (λ i. p i && turnsSign (f i)), e, or-false, and-true, add-zero)
 
 check-end : (d n : ℕ) (p : ℕ → Bool) (f : ℕ → Channel) → ((i : ℕ) → n ≤ i → p i ≡ false) → checkSends (d + n) p f ≡ checkSends n p f
-check-end zero n p f e = ap (λ z. checkSends z p f) (plain n)
-  where
-    plain : (n : ℕ) → 0 + n ≡ n
-    plain n = omega arith
+check-end zero n p f e = ap (λ z. checkSends z p f) (zero-add n)
 check-end (suc d) n p f e = ap (λ z. checkSends z p f) (shift d n) ∙ check-suc (d + n) p f (e (d + n) (omega arith)) ∙ check-end d n p f e
   where
     shift : (d n : ℕ) → suc d + n ≡ suc (d + n)

@@ -17,7 +17,7 @@ use Rattle.parity.specs.Floats.{positiveZero, negative, plusZero, magnit
 use Rattle.parity.specs.Soft.{isErased, isSoft, leastWith, leastSoft, turnsOdd, checkSends}
 use Rattle.parity.specs.declared.Channel.{Channel}
 use Rattle.parity.specs.declared.Channel.the-variants.{Sure, Soft, Erased}
-use Rattle.parity.proofs.Soft.Forms.{is-sure, is-soft, is-erased, form}
+use Rattle.parity.proofs.Soft.Forms.{is-sure, is-soft, is-erased, form, soft-same}
 use Rattle.parity.proofs.Finite.Bools.{or-false-both}
 use Rattle.parity.proofs.Soft.Numbers.{zero-is}
 use Rattle.parity.proofs.Soft.Counts.{all-sure}
@@ -164,7 +164,7 @@ one-input n p f y S e =
             let g = S (F .place) (F .below) (F .passes) (F .input) (F .is-input) .0 in
             let t = turnsOdd n p f in
             let E = either-cond t (F .input) (neg (leastSoft n p f)) (leastSoft n p f) (either-neg (F .input) (leastSoft n p f) (F .either)) (F .either) in
-            let q : y ≡ turned t (leastSoft n p f) = out (rw (a, all-sure n p f a, b) at e) in
+            let q : y ≡ turned t (leastSoft n p f) = soft-same (rw (a, all-sure n p f a, b) at e) in
             record {
               place = F .place;
               below = F .below;
@@ -181,6 +181,3 @@ one-input n p f y S e =
 
     never' : {y : Float} {b : Bool} → Sure b ≡ Soft y → ⊥
     never' {y} {b} e = let z : _≡_ {A = ℕ} 0 1 = cc in omega arith
-
-    out : {y z : Float} → Soft z ≡ Soft y → y ≡ z
-    out {y} {z} e = cc

@@ -15,3 +15,6 @@ pub form : (v : Channel) → Form v
 form (Sure b) = is-sure b refl
 form (Soft x) = is-soft x refl
 form Erased = is-erased refl
+
+pub soft-same : {x y : Float} → Soft y ≡ Soft x → x ≡ y
+soft-same {x} {y} e = cc

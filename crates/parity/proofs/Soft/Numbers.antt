@@ -2,9 +2,9 @@
 use mathlib.Core.Path.{_≡_, refl}
 use mathlib.Core.Bool.{false, true, cond}
 use lib.IntN.{pos}
-use lib.Ieee.{inf, fin, span, climb, size, odd, units, round, neg, sum, add, lt, eq, ofFields, ofBits}
+use lib.Ieee.{fin, span, climb, size, odd, units, round, neg, sum, add, lt, eq, ofFields, ofBits}
 use lib.Dec.{eqb}
-use Rattle.parity.specs.Floats.{positiveZero, limit, negativeLimit, infinite}
+use Rattle.parity.specs.Floats.{positiveZero, limit, negativeLimit}
 use Rattle.parity.specs.Soft.{gathered, bitSends}
 use Rattle.parity.specs.declared.Channel.the-variants.{Soft}
 
@@ -19,10 +19,6 @@ limit-is = refl
 pub lower-is : negativeLimit ≡ fin true 1 (pos 20)
 unfolding ofBits neg
 lower-is = refl
-
-pub infinite-is : infinite ≡ inf false
-unfolding ofBits
-infinite-is = refl
 
 -- Only the whole sum is cut: 1,048,576 and 1,048,576 and minus 1,048,576 are 1,048,576.
 only-whole-sum : bitSends (Soft limit) 2 (λ i. true) (λ i. cond (eqb i 0) (Soft limit) (Soft negativeLimit)) ≡ Soft limit

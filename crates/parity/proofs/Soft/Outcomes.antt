@@ -23,8 +23,8 @@ use Rattle.parity.specs.SoftPromises.{AnswerIsInput, EndsAsPeeling, Writ
 use Rattle.parity.specs.declared.Channel.{Channel}
 use Rattle.parity.specs.declared.Channel.the-variants.{Sure, Soft, Erased}
 use Rattle.parity.proofs.Finite.Bools.{or-false-both}
-use Rattle.parity.proofs.Finite.Sums.{is-true, is-false, is, any-of}
-use Rattle.parity.proofs.Finite.Firsts.{any-none}
+use Rattle.parity.proofs.Finite.Sums.{is-true, is-false, is}
+use Rattle.parity.proofs.Finite.Firsts.{any-none, none-at}
 use Rattle.parity.proofs.Matrix.Accept.{Accepted, passes}
 use Rattle.parity.proofs.Matrix.Packing.{listFrom-cong}
 use Rattle.parity.proofs.Causes.Admit.{accepted-number}
@@ -105,8 +105,7 @@ fine N rounds word floats bytes values e =
         }
       where
         at : (i : ℕ) → i < N → sound (messageAt word floats i) ≡ true
-        at i k = unfold messageAt wrongFloat in small-sound (getD word i 0) (getD floats i nan)
-            (elim (is (wrongFloat word floats i)) [ is-false q ↦ q | is-true q ↦ absurd (true≢false (sym (any-of N (wrongFloat word floats) i k q) ∙ f)) ])
+        at i k = unfold messageAt wrongFloat in small-sound (getD word i 0) (getD floats i nan) (none-at N (wrongFloat word floats) f i k)
 
 -- ---- an answer
 module _ (ws : List ℕ) (n m k rounds : ℕ) (word : List ℕ) (floats : List Float) (bytes : List ℕ) (values : List Float)

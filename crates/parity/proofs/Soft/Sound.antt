@@ -52,7 +52,7 @@ check-sound n p f S = elim (is (any n (λ i. p i && isErased (f i)))) [
 ]
 
 -- ---- a bit: a sum of numbers is no NaN, though it may be infinite
-finite-number : (x : Float) → finite x ≡ true → isNan x ≡ false
+pub finite-number : (x : Float) → finite x ≡ true → isNan x ≡ false
 unfolding isNan
 finite-number nan e = absurd (false≢true e)
 finite-number (inf s) e = refl

@@ -1,6 +1,6 @@
 -- The min-sum of two numbers that are counted from B: sign times sign, the lesser distance from B. Assumes nothing.
 use mathlib.Core.Path.{_≡_, sym, ap, _∙_}
-use mathlib.Core.Bool.{Bool, true, false, not, cond}
+use mathlib.Core.Bool.{Bool, true, false, cond}
 use Prim.Native.Nat.{ℕ, _+_, _-_, _<_, _≤_, min, max}
 use native.Mathlib.Decide.{decLe}
 use native.Mathlib.Omega.{arith}
@@ -66,18 +66,6 @@ clip-sign B u v a b false true k l p q = both (omega arith) (decLe B v)
     both g (no z) = down B u v (omega arith) ∙ turn-more B _ (min a b) (down-above B u v (B + B - v) a b p g (mirror B v (omega arith)))
 clip-sign B u v a b false false k l p q = up B u v (omega arith) ∙ up-above B u v (B + B - v) a b p q (mirror B v (omega arith))
 
-top-up : (B u v w : ℕ) → w + v ≡ B + B → B ≤ v → max w (min u v) ≤ B + B
-top-up B u v w e k = omega arith
-
-pub clip-bound : (B u v : ℕ) → v ≤ B + B → clip B u v ≤ B + B
-clip-bound B u v k = elim (decLe B v) [
-  | yes z ↦ rw (up B u v z) (top-up B u v (B + B - v) (mirror B v k) z)
-  | no z ↦ rw (down B u v (omega arith)) (cut (B + B) (max v (min u (B + B - v))))
-]
-  where
-    cut : (x y : ℕ) → x - y ≤ x
-    cut x y = omega arith
-
 -- ---- the two may change places; w and x are the mirrors of v and u
 same-up : (B u v w x : ℕ) → w + v ≡ B + B → x + u ≡ B + B → B ≤ v → B ≤ u → max w (min u v) ≡ max x (min v u)
 same-up B u v w x p q k l = omega arith
@@ -88,9 +76,6 @@ same-cross B u v w x p q k l = omega arith
 same-down : (B u v w x : ℕ) → w + v ≡ B + B → x + u ≡ B + B → v < B → u < B → max v (min u w) ≡ max u (min v x)
 same-down B u v w x p q k l = omega arith
 
-to-less : (D x y : ℕ) → x + y ≡ D → x ≡ D - y
-to-less D x y e = omega arith
-
 pub clip-comm : (B u v : ℕ) → u ≤ B + B → v ≤ B + B → clip B u v ≡ clip B v u
 clip-comm B u v k l =
     let p = mirror B v l in
@@ -98,10 +83,10 @@ clip-comm B u v k l =
     elim (decLe B v) [
       | yes z ↦ elim (decLe B u) [
         | yes y ↦ up B u v z ∙ same-up B u v (B + B - v) (B + B - u) p q z y ∙ sym (up B v u y)
-        | no y ↦ up B u v z ∙ to-less (B + B) _ _ (same-cross B u v (B + B - v) (B + B - u) p q z (omega arith)) ∙ sym (down B v u (omega arith))
+        | no y ↦ up B u v z ∙ less (B + B) _ _ (same-cross B u v (B + B - v) (B + B - u) p q z (omega arith)) ∙ sym (down B v u (omega arith))
       ]
       | no z ↦ elim (decLe B u) [
-        | yes y ↦ down B u v (omega arith) ∙ sym (to-less (B + B) _ _ (same-cross B v u (B + B - u) (B + B - v) q p y (omega arith))) ∙ sym (up B v u y)
+        | yes y ↦ down B u v (omega arith) ∙ sym (less (B + B) _ _ (same-cross B v u (B + B - u) (B + B - v) q p y (omega arith))) ∙ sym (up B v u y)
         | no y ↦ down B u v (omega arith) ∙ ap (λ n. B + B - n) (same-down B u v (B + B - v) (B + B - u) p q (omega arith) (omega arith)) ∙ sym (down B v u (omega arith))
       ]
     ]

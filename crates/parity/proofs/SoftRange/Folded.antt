@@ -5,10 +5,10 @@ use Prim.Native.Nat.{ℕ, zero, suc, _+_, _-_, _<_, _≤_, min}
 use native.Mathlib.Decide.{decLe}
 use native.Mathlib.Omega.{arith}
 use lib.Ieee.{Float}
-use Rattle.parity.specs.Finite.{one, count, any, all}
+use Rattle.parity.specs.Finite.{count, any, all}
 use Rattle.parity.specs.Words.{odd}
 use Rattle.parity.proofs.Finite.Sums.{is-true, is-false, is, any-at, all-false, count-suc}
-use Rattle.parity.specs.Floats.{negative, plusZero, magnitude, turned, lesser, infinite}
+use Rattle.parity.specs.Floats.{negative, magnitude, turned, lesser}
 use Rattle.parity.specs.Soft.{isErased, isSure, turnsSign, leastSoft, turnsOdd, checkSends}
 use Rattle.parity.specs.declared.Channel.{Channel}
 use Rattle.parity.specs.declared.Channel.the-variants.{Soft}
@@ -17,7 +17,7 @@ use Rattle.parity.proofs.Soft.Exact.{below-infinite}
 use Rattle.parity.specs.SoftRangePromises.{sendsFor}
 use Rattle.parity.proofs.SoftRange.Keys.{bound, key}
 use Rattle.parity.proofs.SoftRange.Clip.{clip, clip-sign}
-use Rattle.parity.proofs.SoftRange.Pairs.{Real, key-top, zero-twice, real-magnitude, real-lesser, key-lesser, real-turned, key-turned, key-parts}
+use Rattle.parity.proofs.SoftRange.Pairs.{Real, key-top, real-magnitude, real-lesser, key-lesser, real-turned, key-turned, key-parts}
 
 -- the first n values, combined; none is above all
 pub folded : (ℕ → Float) → ℕ → ℕ
@@ -121,7 +121,6 @@ pub record Answered (g : ℕ → Float) (n : ℕ) : Type 0 where
   pub is : sendsFor n g ≡ Soft value
   pub real : Real value
   pub at : key value ≡ folded g n
-  pub zero' : plusZero value ≡ value
 
 answer-soft : (g : ℕ → Float) (n : ℕ) → sendsFor (suc n) g ≡ Soft (turned (turnsOdd (suc n) every (soft g)) (leastSoft (suc n) every (soft g)))
 unfolding checkSends
@@ -145,7 +144,6 @@ answered g n R =
       is = answer-soft g n;
       real = real-turned t (K .real);
       at = key-turned t (K .real) ∙ (rw (K .at) (sides t (K .size) (K .small))) ∙ sym (K .is);
-      zero' = zero-twice _;
     }
   where
     sides : (t : Bool) (a : ℕ) → a ≤ bound → cond t (bound + bound - (bound + a)) (bound + a) ≡ cond t (bound - a) (bound + a)

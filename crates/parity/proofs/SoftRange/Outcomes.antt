@@ -1,6 +1,6 @@
 -- The ends that the call gives are the range of the min-sum answer, and the only ones. Assumes nothing.
 use mathlib.Core.Path.{_≡_, refl, sym, ap, _∙_}
-use mathlib.Core.Bool.{Bool, true, false, not, cond, and-eq-true-iff, true≢false, false≢true}
+use mathlib.Core.Bool.{true, false, not, cond, and-eq-true-iff, false≢true}
 use mathlib.Core.List.{List, [], _∷_}
 use Prim.Native.Nat.{ℕ, _-_, _<_, _≤_}
 use native.Mathlib.Omega.{arith}
@@ -15,15 +15,14 @@ use Rattle.parity.specs.SoftRange.{rangeTo, wrongSizes, unfit, crossed, 
 use Rattle.parity.specs.SoftRangePromises.{Reached, IsRange, Gives, RangeGiven, RangeOnly, sendsFor}
 use Rattle.parity.specs.declared.Channel.the-variants.{Soft}
 use Rattle.parity.proofs.Finite.Bools.{or-false-both}
-use Rattle.parity.proofs.Finite.Sums.{is-true, is-false, is, any-of}
+use Rattle.parity.proofs.Finite.Sums.{is-true, is-false, is}
+use Rattle.parity.proofs.Finite.Firsts.{none-at}
+use Rattle.parity.proofs.Soft.Forms.{soft-same}
 use Rattle.parity.proofs.SoftRange.Keys.{key, le-lt, same-key}
 use Rattle.parity.proofs.SoftRange.Pairs.{Real, eq-keys}
 use Rattle.parity.proofs.SoftRange.Law.{Proper, key-le, range-law, range-zeros, range-real, choice-answered}
 
 -- ---- what an answer says of the lists
-none-at : (n : ℕ) (p : ℕ → Bool) → any n p ≡ false → (i : ℕ) → i < n → p i ≡ false
-none-at n p e i k = elim (is (p i)) [ is-false q ↦ q | is-true q ↦ absurd (true≢false (sym (any-of n p i k q) ∙ e)) ]
-
 fit-finite : (xs : List Float) (i : ℕ) → unfit xs i ≡ false → finite (getD xs i nan) ≡ true
 unfolding unfit
 fit-finite xs i e = and-eq-true-iff (finite (getD xs i nan)) (le (magnitude (getD xs i nan)) limit) .0 (not-false _ e) .0
@@ -93,9 +92,6 @@ eq-finite (inf s) y a e = absurd (false≢true a)
 eq-finite (fin s m k) nan a e = absurd (false≢true e)
 eq-finite (fin s m k) (inf t) a e = absurd (false≢true e)
 eq-finite (fin s m k) (fin t n d) a e = refl
-
-soft-same : {y z : Float} → Soft z ≡ Soft y → y ≡ z
-soft-same {y} {z} e = cc
 
 same-end : {x y : Float} → Real x → Real y → key x ≤ key y → key y ≤ key x → plusZero x ≡ x → plusZero y ≡ y → x ≡ y
 same-end {x} {y} R S k l p q = sym p ∙ same-key x y (R .finite') (S .finite') (R .fits') (S .fits') (omega arith) ∙ q

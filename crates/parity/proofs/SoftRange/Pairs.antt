@@ -6,7 +6,7 @@ use native.Mathlib.Decide.{decLt}
 use native.Mathlib.Omega.{arith}
 use lib.Dec.{eqb, ltb}
 use borrow.Author.Tests.{eq-eqb, eqb-true, lt-ltb, le-ltb}
-use lib.Ieee.{Float, fin, binary32, lt, eq, neg, fits}
+use lib.Ieee.{Float, binary32, lt, eq, neg, fits}
 use Rattle.parity.proofs.Finite.Sums.{is-true, is-false, is}
 use Rattle.parity.specs.Floats.{positiveZero, negative, plusZero, magnitude, turned, lesser, finite}
 use Rattle.parity.specs.SoftRange.{sendsForTwo, greater}
@@ -15,7 +15,7 @@ use Rattle.parity.proofs.Soft.Exact.{fits-neg}
 use Rattle.parity.proofs.Soft.Sound.{neg-finite}
 use Rattle.parity.proofs.Soft.Fits.{zero-fit}
 use Rattle.parity.proofs.Soft.Outcomes.{finite-zero}
-use Rattle.parity.proofs.SoftRange.Keys.{bound, size, sign, key, size-bound, lt-key, key-of-zero, neg-key, zero-by-key, eq-key}
+use Rattle.parity.proofs.SoftRange.Keys.{bound, sign, key, size-bound, lt-key, key-of-zero, neg-key, zero-by-key, eq-key}
 
 -- a finite 32-bit float
 pub record Real (x : Float) : Type 0 where

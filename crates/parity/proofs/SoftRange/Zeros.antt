@@ -16,7 +16,7 @@ use Rattle.parity.specs.SoftRangePromises.{SameValues, ZerosAlike}
 use Rattle.parity.specs.declared.Ends.{Ends}
 use Rattle.parity.proofs.Finite.Sums.{is-true, is-false, is}
 use Rattle.parity.proofs.Soft.Numbers.{zero-is}
-use Rattle.parity.proofs.Soft.Cong.{any-cong}
+use Rattle.parity.proofs.Finite.Firsts.{any-cong}
 use Rattle.parity.proofs.Soft.Sound.{limit-finite}
 use Rattle.parity.proofs.Soft.Fits.{limit-fit}
 use Rattle.parity.proofs.Soft.Outcomes.{finite-zero}

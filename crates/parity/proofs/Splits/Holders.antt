@@ -1,15 +1,14 @@
 -- The checks that hold a pair: carried where the share is above 0, and those that hold the new bit after the split. Assumes nothing.
 use mathlib.Core.Path.{_≡_, refl, sym, _∙_}
-use mathlib.Core.Bool.{true, not, _&&_, and-eq-true-iff}
+use mathlib.Core.Bool.{not, and-eq-true-iff}
 use mathlib.Core.List.{List, []}
 use Prim.Native.Nat.{ℕ, suc, _+_, _-_, _<_}
 use native.Mathlib.Nat.{add-suc}
 use native.Mathlib.Omega.{arith}
 use lib.Dec.{eqb}
 use borrow.Author.Tests.{ne-eqb, eqb-false, not-true}
-use Rattle.parity.specs.Finite.{any}
 use Rattle.parity.specs.Matrix.{Matrix}
-use Rattle.parity.specs.Cycles.{share, heldBy, splitOf, lowerBit, higherBit, Orthogonalised, orthogonal}
+use Rattle.parity.specs.Cycles.{share, heldBy, splitOf, lowerBit, higherBit, orthogonal}
 use Rattle.parity.specs.CyclesPromises.{Names, holding, holdingBeside}
 use Rattle.parity.proofs.Finite.Sums.{is-true, is-false, is, any-of, count-at, count-pos}
 use Rattle.parity.proofs.Finite.Firsts.{any-none}

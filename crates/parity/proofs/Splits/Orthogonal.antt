@@ -1,12 +1,12 @@
 -- Orthogonalising: its turns, what they keep, and how it ends. Assumes nothing.
-use mathlib.Core.Path.{_≡_, refl, sym, _∙_}
+use mathlib.Core.Path.{_≡_, refl, sym, ap, _∙_}
 use mathlib.Core.Logic.{_↔_}
 use mathlib.Core.Bool.{Bool, true, false, true≢false, false≢true}
 use mathlib.Core.List.{List}
 use Prim.Native.Nat.{ℕ, zero, suc, _+_, _≤_, _<_}
 use native.Mathlib.Omega.{arith}
 use native.Mathlib.Decide.{ℕ-discrete, decLt}
-use borrow.Author.Tests.{eq-eqb, ne-eqb, lt-ltb, le-ltb}
+use borrow.Author.Tests.{ne-eqb, lt-ltb, le-ltb}
 use Rattle.parity.specs.Matrix.{Matrix}
 use Rattle.parity.specs.Cycles.{heldBy, pairs, cycles, splitOf, largestShare, lowerBit, higherBit, Orthogonalised, orthogonal}
 use Rattle.parity.specs.Sound.{Sound}
@@ -24,7 +24,9 @@ module _ (turns : ℕ) (h : Matrix) (n m k splits total : ℕ) (held : List ℕ)
   pub stops-full : 2 ≤ largestShare h (n + k) (m + k) → k ≡ 392
       → orthogonal (suc turns) h n m k splits total held ≡ record { finished = false; splits = splits; sum = total; k = k; held = held; matrix = h }
   unfolding orthogonal
-  stops-full e q = rw (le-ltb _ _ e, eq-eqb k 392 q, orthogonal)
+  stops-full e q =
+      let full : ℕ → Orthogonalised = λ x. record { finished = false; splits = splits; sum = total; k = x; held = held; matrix = h } in
+      rw (le-ltb _ _ e, q, orthogonal) (ap full q)
 
   -- else it splits the pair and repeats
   pub repeats : 2 ≤ largestShare h (n + k) (m + k) → (k ≡ 392 → ⊥)
@@ -32,7 +34,7 @@ module _ (turns : ℕ) (h : Matrix) (n m k splits total : ℕ) (held : List ℕ)
       ≡ orthogonal turns (splitOf h (n + k) (m + k) (lowerBit h (n + k) (m + k)) (higherBit h (n + k) (m + k))) n m (suc k) (suc splits)
       (total + pairs (largestShare h (n + k) (m + k))) (heldBy h (m + k) (lowerBit h (n + k) (m + k)) (higherBit h (n + k) (m + k)))
   unfolding orthogonal
-  repeats e q = rw (le-ltb _ _ e, ne-eqb k 392 q, orthogonal)
+  repeats e q = rw (le-ltb _ _ e, ne-eqb k 392 q, orthogonal) refl
 
 -- 393 - k turns are enough: more of them change nothing.
 pub enough : (n m turns : ℕ) (h : Matrix) (k splits total : ℕ) (held : List ℕ) → k ≤ 392 → 393 ≤ turns + k

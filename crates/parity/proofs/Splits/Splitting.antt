@@ -1,5 +1,5 @@
 -- What counting and the calls that split or take back answer and leave: the splits made and taken back, and the causes that refuse. Assumes nothing.
-use mathlib.Core.Path.{_≡_, sym, ap, _∙_}
+use mathlib.Core.Path.{_≡_, refl, sym, ap, _∙_}
 use mathlib.Core.Bool.{true, false, not, _&&_, and-eq-true-iff}
 use mathlib.Core.List.{List, [], _∷_}
 use Prim.Native.Nat.{ℕ, suc, _+_, _-_, _≤_, _<_, _^_}
@@ -50,7 +50,7 @@ module _ (ws : List ℕ) (n m k : ℕ) (A : Accepted ws n m k) where
   module _ (u v : ℕ) (p : notPair N u v ≡ false) (s : 2 ≤ share h M u v) (l : k ≡ 392 → ⊥) where
     pub split-made : splitOutcome ws n m k u v ≡ record { reply = answer (share h M u v ∷ suc k ∷ heldBy h M u v); after = pack 8 (splitOf h N M u v) }
     unfolding splitOutcome splitReply
-    split-made = rw (passes ws n m k A, p, le-ltb (share h M u v) 2 s, ne-eqb k 392 l)
+    split-made = rw (passes ws n m k A, p, le-ltb (share h M u v) 2 s, ne-eqb k 392 l) refl
 
     split-keeps : Sound (splitOf h N M u v) n m (suc k)
     split-keeps =

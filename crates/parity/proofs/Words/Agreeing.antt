@@ -1,15 +1,15 @@
 -- The codewords that agree with a received word, and what determining writes by them: what peeling recovers is among it. Assumes nothing.
-use mathlib.Core.Path.{_≡_, refl, sym, ap, _∙_, fun-ext}
+use mathlib.Core.Path.{_≡_, sym, ap, _∙_, fun-ext}
 use mathlib.Core.Logic.{_↔_}
 use mathlib.Core.Bool.{Bool, true, false, not, _&&_, and-eq-true-iff, true≢false, false≢true}
 use Prim.Native.Nat.{ℕ, _≤_, _<_}
 use native.Mathlib.Omega.{arith}
 use lib.Dec.{eqb}
-use Rattle.parity.specs.Finite.{one, all}
+use Rattle.parity.specs.Finite.{one}
 use Rattle.parity.specs.Matrix.{Matrix}
 use Rattle.parity.specs.Words.{erased, isOne, evenChecks, residue, peels, peeled}
 use Rattle.parity.specs.Determining.{agreesWith, someAgrees, agreesAtOne, agreesAtZero, determined}
-use Rattle.parity.proofs.Finite.Sums.{is-true, is-false, is, one≤1, all-at, all-of}
+use Rattle.parity.proofs.Finite.Sums.{is-true, is-false, is, one≤1, all-at, all-of, one-only}
 use Rattle.parity.proofs.Finite.Bools.{or-else, same-test, beq-same, beq-refl}
 use Rattle.parity.proofs.Splits.Split.{Even, evens}
 use Rattle.parity.proofs.Words.Extend.{inside-cong}
@@ -147,14 +147,8 @@ module _ (h : Matrix) (N M : ℕ) (w : ℕ → ℕ) where
   pub peeled-determined : someAgrees h N M w ≡ true → (b : ℕ) → b < N → (peeled h N M w b ≡ 2 → ⊥) → determined h N M w b ≡ peeled h N M w b
   peeled-determined e b k d =
       let (y, a) = some-at e in
-      one-value b k (y b) y a (λ z f. one-same (z b) (y b) (sym (right-value h N M w z (agree-solves z f) b k d) ∙ right-value h N M w y (agree-solves y a) b k d))
+      one-value b k (y b) y a (λ z f. one-only (z b) (y b) (sym (right-value h N M w z (agree-solves z f) b k d) ∙ right-value h N M w y (agree-solves y a) b k d))
       ∙ sym (right-value h N M w y (agree-solves y a) b k d)
-    where
-      one-same : (u v : Bool) → one u ≡ one v → u ≡ v
-      one-same true true q = refl
-      one-same true false q = absurd (omega arith)
-      one-same false true q = absurd (omega arith)
-      one-same false false q = refl
 
   -- the codewords that agree with a stage of peeling
   module _ (u : ℕ → ℕ) (S : Stage h N M w u) where

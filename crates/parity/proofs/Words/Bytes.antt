@@ -2,7 +2,7 @@
 -- Assumes nothing.
 use mathlib.Core.Path.{_≡_, refl, sym, ap, _∙_}
 use mathlib.Core.Logic.{_↔_, _⊎_, inl, inr}
-use mathlib.Core.Bool.{Bool, true, false, cond, true≢false}
+use mathlib.Core.Bool.{Bool, true, false, cond}
 use mathlib.Core.List.{List, _++_}
 use Prim.Native.Nat.{ℕ, _+_, _-_, _≤_, _<_}
 use native.Mathlib.Nat.{zero-add}
@@ -10,31 +10,43 @@ use native.Mathlib.Omega.{arith}
 use lib.Dec.{eqb, ltb}
 use lib.ListN.{length, take, replicate, length-append, length-replicate, getD-replicate, List·getD-append}
 use lib.Seq.{getD-take, getD-append-add, length-take-le, ext-getD}
-use borrow.Author.Tests.{eqb-true, ltb-true, ltb-false}
-use Rattle.parity.specs.Finite.{any, listFrom}
+use borrow.Author.Tests.{eqb-true, ltb-false, le-ltb, ne-eqb}
+use Rattle.parity.specs.Finite.{listFrom, one}
 use Rattle.parity.specs.Matrix.{Matrix}
 use Rattle.parity.specs.Words.{isOne, inside}
 use Rattle.parity.specs.Causes.{Reply}
 use Rattle.parity.specs.Calls.{byteOf, wrongByte, checkingBytes}
 use Rattle.parity.specs.Demand3.{erasing}
-use Rattle.parity.proofs.Finite.Sums.{is-true, is-false, is, any-of, any-at}
+use Rattle.parity.proofs.Finite.Sums.{is-true, is-false, is, one≤1, eqb-one, eqb-two, byte-known}
 use Rattle.parity.proofs.Matrix.Packing.{length-listFrom, at-listFrom}
 use Rattle.parity.proofs.Splits.Split.{Stops, Even}
 use Rattle.parity.proofs.Words.Extend.{inside-cong}
+use Rattle.parity.proofs.Finite.Firsts.{none-at, any-none}
+use native.Mathlib.Decide.{ℕ-discrete}
 
 -- bytes that cause 11 does not refuse
 pub right-bytes : (top : ℕ) (w : List ℕ) → (wrongByte top w ≡ false) ↔ ((b : ℕ) → b < length w → byteOf w b ≤ top)
 unfolding wrongByte
 right-bytes top w = (
-  λ e b l. elim (is (ltb top (byteOf w b))) [
-    | is-false q ↦ ltb-false top (byteOf w b) q
-    | is-true q ↦ absurd (true≢false (sym (any-of (length w) (λ b. ltb top (byteOf w b)) b l q) ∙ e))
-  ],
-  λ f. elim (is (any (length w) (λ b. ltb top (byteOf w b)))) [
-    | is-false q ↦ q
-    | is-true q ↦ let (b, l, r) = any-at (length w) (λ b. ltb top (byteOf w b)) q in absurd (omega (arith, f b l, ltb-true top (byteOf w b) r))
-  ],
+  λ e b l. ltb-false top (byteOf w b) (none-at (length w) (λ b. ltb top (byteOf w b)) e b l),
+  λ f. any-none (length w) (λ b. ltb top (byteOf w b)) (λ b l. le-ltb top (byteOf w b) (f b l)),
 )
+
+-- the byte of a bit that may be erased: 2 exactly if it is, and else the bit
+pub erasable-most : (e x : Bool) → cond e 2 (one x) ≤ 2
+erasable-most true x = omega arith
+erasable-most false x = omega (arith, one≤1 x)
+
+pub erasable-erased : (e x : Bool) → eqb (cond e 2 (one x)) 2 ≡ e
+erasable-erased true x = refl
+erasable-erased false x = eqb-two x
+
+pub erasable-of : (a : ℕ) → a ≤ 2 → cond (eqb a 2) 2 (one (eqb a 1)) ≡ a
+erasable-of a k = elim (ℕ-discrete a 2) [ yes q ↦ rw q | no d ↦ rw (ne-eqb a 2 d) (byte-known a k d) ]
+
+pub erasable-bit : (e x : Bool) → cond (eqb (cond e 2 (one x)) 2) x (eqb (cond e 2 (one x)) 1) ≡ x
+erasable-bit true x = refl
+erasable-bit false x = rw (eqb-two x) (eqb-one x)
 
 -- a word of N bytes up to `top`: causes 10 and 11 do not refuse it
 pub record Word (N top : ℕ) (w : List ℕ) : Type 0 where

@@ -19,7 +19,7 @@ use Rattle.parity.specs.Causes.{Reply, answer, refusal, accepting, Outco
 use Rattle.parity.specs.Calls.{byteOf, wrongByte, checkingBytes, verifyReply, peelReply, peelOutcome, determineReply, determineOutcome}
 use Rattle.parity.specs.Demand3.{Verifies, erasing, Left}
 use Rattle.parity.specs.DeterminingPromises.{Agreeing, Determines, WritesOneValue, RefusedIfNone, PeeledIsDetermined, RefusedWithPeeling, ErasedCodeword, DeterminedTwice, NothingErased}
-use Rattle.parity.proofs.Finite.Sums.{is-true, is-false, is, one≤1, sum-zero, byte-one, eqb-one}
+use Rattle.parity.proofs.Finite.Sums.{is-true, is-false, is, one≤1, sum-zero, byte-one, eqb-one, byte-known}
 use Rattle.parity.proofs.Matrix.Packing.{length-listFrom, at-listFrom}
 use Rattle.parity.proofs.Matrix.Accept.{Accepted, accepts, accepting-answers, accepting-refuses, passes}
 use Rattle.parity.proofs.Causes.Admit.{accepted-number}
@@ -71,10 +71,7 @@ module _ (ws : List ℕ) (n m k : ℕ) (w : List ℕ) where
 
   -- the value of a byte that is not erased
   pub byte-value : Word N 2 w → (b : ℕ) → b < N → (byteOf w b ≡ 2 → ⊥) → one (isOne (byteOf w) b) ≡ byteOf w b
-  byte-value W b l d = byte-one (byteOf w b) (below-two (byteOf w b) (W .bytes b l) d)
-    where
-      below-two : (a : ℕ) → a ≤ 2 → (a ≡ 2 → ⊥) → a ≤ 1
-      below-two a i j = omega arith
+  byte-value W b l d = byte-known (byteOf w b) (W .bytes b l) d
 
   pub agreeing-of : Taken ws n m k w → (y : ℕ → Bool) → Agree h N M (byteOf w) y → Agreeing ws n m k w (listed y)
   agreeing-of T y a = record {
@@ -105,7 +102,7 @@ module _ (ws : List ℕ) (n m k : ℕ) (w : List ℕ) where
     pub determine-made : someAgrees h N M (byteOf w) ≡ true
         → o ≡ record { reply = answer (losses n k (byteOf w) (determined h N M (byteOf w))); after = listFrom 0 N (determined h N M (byteOf w)) }
     unfolding determineOutcome determineReply
-    determine-made e = rw (passes ws n m k (T .accepted), eq-eqb (length w) N (T .word .size), word-right N 2 w (T .word), e)
+    determine-made e = rw (passes ws n m k (T .accepted), eq-eqb (length w) N (T .word .size), word-right N 2 w (T .word), e) refl
 
     pub determine-refused : someAgrees h N M (byteOf w) ≡ false → o ≡ record { reply = refusal 12 []; after = w }
     unfolding determineOutcome determineReply

@@ -21,7 +21,7 @@ use Rattle.parity.specs.Calls.{byteOf}
 use Rattle.parity.specs.Packets.{laneWord, lostWord, laneOutcome, oddLane, mendedBit, stillLost, wordsOf, packetsReply, packetsOutcome}
 use Rattle.parity.specs.PacketsPromises.{PacketsAsLanes, StillLost}
 use Rattle.parity.specs.DeterminingPromises.{Agreeing}
-use Rattle.parity.proofs.Finite.Bools.{same-test}
+use Rattle.parity.proofs.Finite.Bools.{same-test, xor-self, xor-false}
 use Rattle.parity.proofs.Finite.Sums.{is-true, is-false, is, byte-one, sum-zero}
 use Rattle.parity.proofs.Matrix.Digits.{same-bits}
 use Rattle.parity.proofs.Matrix.Packing.{length-listFrom, at-listFrom, word-lt, word-bit, lent-flat}
@@ -29,7 +29,7 @@ use Rattle.parity.proofs.Matrix.Accept.{Accepted}
 use Rattle.parity.proofs.Causes.Admit.{accepted-number}
 use Rattle.parity.proofs.Words.Residue.{inside-xor}
 use Rattle.parity.proofs.Words.Agreeing.{Agree, some-of, some-at, open-at, stays-open, written-value, determined-byte}
-use Rattle.parity.proofs.Words.Bytes.{Word}
+use Rattle.parity.proofs.Words.Bytes.{Word, erasable-most, erasable-erased, erasable-bit}
 use Rattle.parity.proofs.Words.Determining.{Taken, determine-made, determine-refused, answered, after-size, after-at, agreeing-at, agreeing-of, listed, listed-at}
 
 -- reading the words of rows
@@ -108,13 +108,9 @@ module _ (h : Matrix) (N M : ℕ) (w w₀ : ℕ → ℕ) (same : (b : ℕ) → b
       stays-open h N M w₀ b l (sum y z) none
       record {
         even = λ c k. even-sum y z c (u .even c k) (v .even c k);
-        known = λ a i t. let s = sym (same a i) ∙ t in rw (u .known a i s, v .known a i s, zero a i t) (self (isOne w a));
+        known = λ a i t. let s = sym (same a i) ∙ t in rw (u .known a i s, v .known a i s, zero a i t) (xor-self (isOne w a) (isOne w a) refl);
       }
       agree-none (rw (p, not-true (z b) r) (unfold xor in refl)) refl
-    where
-      self : (x : Bool) → xor x x ≡ false
-      self true = unfold xor in refl
-      self false = unfold xor in refl
 
   -- and one that agrees with w₀ makes another of one that agrees with w
   pub open-more : someAgrees h N M w ≡ true → (b : ℕ) → b < N → determined h N M w₀ b ≡ 2 → determined h N M w b ≡ 2
@@ -124,14 +120,10 @@ module _ (h : Matrix) (N M : ℕ) (w w₀ : ℕ → ℕ) (same : (b : ℕ) → b
       both u (sum u y) a
       record {
         even = λ c k. even-sum u y c (a .even c k) (v .even c k);
-        known = λ d i s. unfold sum in rw (v .known d i (same d i ∙ s), zero d i (same d i ∙ s)) (right (u d) ∙ a .known d i s);
+        known = λ d i s. unfold sum in rw (v .known d i (same d i ∙ s), zero d i (same d i ∙ s)) (xor-false (u d) ∙ a .known d i s);
       }
       (unfold sum in (rw p (flip (u b))))
     where
-      right : (x : Bool) → xor x false ≡ x
-      right true = unfold xor in refl
-      right false = unfold xor in refl
-
       flip : (x : Bool) → xor x true ≡ not x
       flip true = unfold xor in refl
       flip false = unfold xor in refl
@@ -150,24 +142,14 @@ module _ (N L : ℕ) (lost packets : List ℕ) (i : ℕ) where
 
   -- the packet's bit is read from the lane's word, or kept where that is 2
   pub lane-bit : (b : ℕ) → b < N → let x = byteOf (laneWord N L lost packets i) b in cond (eqb x 2) (lent L packets b i) (eqb x 1) ≡ lent L packets b i
-  lane-bit b l = rw (lane-at b l) (go (eqb (byteOf lost b) 1) (lent L packets b i))
-    where
-      go : (x v : Bool) → cond (eqb (cond x 2 (one v)) 2) v (eqb (cond x 2 (one v)) 1) ≡ v
-      go true v = refl
-      go false true = refl
-      go false false = refl
+  lane-bit b l = rw (lane-at b l) (erasable-bit (eqb (byteOf lost b) 1) (lent L packets b i))
 
   pub lane-size : length (laneWord N L lost packets i) ≡ N
   unfolding laneWord
   lane-size = length-listFrom 0 N (λ b. cond (eqb (byteOf lost b) 1) 2 (one (lent L packets b i)))
 
   pub lane-word : Word N 2 (laneWord N L lost packets i)
-  lane-word = record { size = lane-size; bytes = λ b l. rw (lane-at b l) (few (eqb (byteOf lost b) 1) (lent L packets b i)) }
-    where
-      few : (x y : Bool) → cond x 2 (one y) ≤ 2
-      few true y = omega arith
-      few false true = omega arith
-      few false false = omega arith
+  lane-word = record { size = lane-size; bytes = λ b l. rw (lane-at b l) (erasable-most (eqb (byteOf lost b) 1) (lent L packets b i)) }
 
 module _ (N : ℕ) (lost : List ℕ) where
   pub lost-at : (b : ℕ) → b < N → byteOf (lostWord N lost) b ≡ cond (eqb (byteOf lost b) 1) 2 0
@@ -179,18 +161,10 @@ module _ (N : ℕ) (lost : List ℕ) where
   lost-size = length-listFrom 0 N (λ b. cond (eqb (byteOf lost b) 1) 2 0)
 
   pub lost-word : Word N 2 (lostWord N lost)
-  lost-word = record { size = lost-size; bytes = λ b l. rw (lost-at b l) (few (eqb (byteOf lost b) 1)) }
-    where
-      few : (x : Bool) → cond x 2 0 ≤ 2
-      few true = omega arith
-      few false = omega arith
+  lost-word = record { size = lost-size; bytes = λ b l. rw (lost-at b l) (erasable-most (eqb (byteOf lost b) 1) false) }
 
   pub lost-erased : (b : ℕ) → b < N → erased (byteOf (lostWord N lost)) b ≡ eqb (byteOf lost b) 1
-  lost-erased b l = rw (lost-at b l) (go (eqb (byteOf lost b) 1))
-    where
-      go : (x : Bool) → eqb (cond x 2 0) 2 ≡ x
-      go true = refl
-      go false = refl
+  lost-erased b l = rw (lost-at b l) (erasable-erased (eqb (byteOf lost b) 1) false)
 
   pub lost-zero : (b : ℕ) → b < N → isOne (byteOf (lostWord N lost)) b ≡ false
   lost-zero b l = rw (lost-at b l) (go (eqb (byteOf lost b) 1))
@@ -200,12 +174,7 @@ module _ (N : ℕ) (lost : List ℕ) where
       go false = refl
 
 pub lane-erased : (N L : ℕ) (lost packets : List ℕ) (i b : ℕ) → b < N → erased (byteOf (laneWord N L lost packets i)) b ≡ eqb (byteOf lost b) 1
-lane-erased N L lost packets i b l = rw (lane-at N L lost packets i b l) (go (eqb (byteOf lost b) 1) (lent L packets b i))
-  where
-    go : (x y : Bool) → eqb (cond x 2 (one y)) 2 ≡ x
-    go true y = refl
-    go false true = refl
-    go false false = refl
+lane-erased N L lost packets i b l = rw (lane-at N L lost packets i b l) (erasable-erased (eqb (byteOf lost b) 1) (lent L packets b i))
 
 one-true : (x : Bool) → _≡_ {A = ℕ} (one x) 1 → x ≡ true
 one-true true e = refl

@@ -1,6 +1,6 @@
 -- What the answer of mending packets tells, what it leaves of codewords, and that mending again changes nothing. Assumes nothing.
 use mathlib.Core.Path.{_≡_, refl, sym, ap, _∙_}
-use mathlib.Core.Bool.{Bool, false, not, cond, _&&_, and-not-self}
+use mathlib.Core.Bool.{Bool, false, not, cond, _&&_}
 use mathlib.Core.List.{List, [], _∷_, _++_}
 use Prim.Native.Nat.{ℕ, _+_, _*_, _<_}
 use native.Mathlib.Nat.{one-mul}
@@ -21,7 +21,7 @@ use Rattle.parity.specs.Packets.{isLost, laneWord, lostWord, laneOutcome
 use Rattle.parity.specs.PacketsPromises.{LossesDecide, PacketsTold, Codewords, CodewordsMended, MendedTwice}
 use Rattle.parity.specs.DeterminingPromises.{Agreeing}
 use Rattle.parity.proofs.Finite.Bools.{or-false-both}
-use Rattle.parity.proofs.Finite.Sums.{is-true, is-false, is, one≤1, eqb-one, eqb-two, sum-zero, count-cong}
+use Rattle.parity.proofs.Finite.Sums.{is-true, is-false, is, one≤1, eqb-one, eqb-two, count-cong, count-never}
 use Rattle.parity.proofs.Matrix.Lent.{lent-empty}
 use Rattle.parity.proofs.Matrix.Packing.{length-listFrom, listFrom-cong}
 use Rattle.parity.proofs.Matrix.Accept.{Accepted, passes}
@@ -68,7 +68,9 @@ module _ (ws : List ℕ) (n m k : ℕ) (lost packets odd : List ℕ) where
     unfolding packetsOutcome packetsReply
     reply-is =
         let (p, q) = right in
-        rw (passes ws n m k (mending-accepted ws n m k lost packets odd e), p, q, determine-made ws n m k (lostWord N lost) (zeros-taken ws n m k lost packets odd e) (zeros-agreed ws n m k lost packets odd e))
+        rw (passes ws n m k (mending-accepted ws n m k lost packets odd e), p, q)
+        (ap (λ (u : Outcome). answer (u .reply .values ++ (count (L * 64) (oddLane ws n m k lost packets L) ∷ [])))
+        (determine-made ws n m k (lostWord N lost) (zeros-taken ws n m k lost packets odd e) (zeros-agreed ws n m k lost packets odd e)))
 
     lost-after : (b : ℕ) → b < N → isLost (o .lost) b ≡ erased d b
     lost-after b l = rw (still ws n m k lost packets odd e b l) (eqb-one (erased d b))
@@ -246,7 +248,4 @@ mended-twice ws n m k lost packets odd rs ra ls la lanes f =
     let y = packets-is ws n m k (o .lost) (o .packets) (o .odd) e′ ∙ packets-again ws n m k lost packets odd e in
     let z = odd-is ws n m k (o .lost) (o .packets) (o .odd) e′ ∙ odd-again ws n m k lost packets odd e in
     outcome-is _ _ _ _ _ (packets-told ws n m k (o .lost) (o .packets) (o .odd) e′
-    ∙ rw (x, z, s, nothing n (isLost (o .lost)), nothing k (λ j. isLost (o .lost) (n + j)), p, q, c)) x y z
-  where
-    nothing : (i : ℕ) (x : ℕ → Bool) → count i (λ b. x b && not (x b)) ≡ 0
-    nothing i x = unfold count in sum-zero i (λ b l. rw (and-not-self (x b)))
+    ∙ rw (x, z, s, count-never n (isLost (o .lost)), count-never k (λ j. isLost (o .lost) (n + j)), p, q, c)) x y z

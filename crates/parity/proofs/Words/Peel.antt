@@ -2,11 +2,10 @@
 use mathlib.Core.Path.{_≡_, ap, _∙_}
 use mathlib.Core.Bool.{Bool, true, false}
 use Prim.Native.Nat.{ℕ, _<_}
-use native.Mathlib.Omega.{arith}
 use Rattle.parity.specs.Finite.{one}
 use Rattle.parity.specs.Matrix.{Matrix}
 use Rattle.parity.specs.Words.{residue, solves, erased, isOne, peels, peeled}
-use Rattle.parity.proofs.Finite.Sums.{is-true, is-false, is, one≤1}
+use Rattle.parity.proofs.Finite.Sums.{is-true, is-false, is}
 use Rattle.parity.proofs.Words.Extend.{inside-cong}
 use Rattle.parity.proofs.Words.Residue.{below, below-at, anySet-of, the-one, Solves, solve, unique}
 
@@ -29,11 +28,6 @@ module _ (h : Matrix) (N M : ℕ) (w : ℕ → ℕ) (y : ℕ → Bool) (s : Solv
   unfolding peeled
   peeled-value b k e = rw e (ap one (the-one N (solves h N M (erased w) (residue h N M (erased w)) (isOne w)) y found b k
       (λ z t. unique h N M (erased w) (isOne w) z y (solve h N M (erased w) (residue h N M (erased w)) (isOne w) z .0 t) s b k e)))
-
-  pub left-residue : (b : ℕ) → b < N → peeled h N M w b ≡ 2 → residue h N M (erased w) b ≡ true
-  left-residue b k q =
-      elim (is (residue h N M (erased w) b))
-      [ is-true e ↦ e | is-false e ↦ absurd (omega (arith, peeled-value b k e, one≤1 (y b))) ]
 
   pub right-value : (b : ℕ) → b < N → (peeled h N M w b ≡ 2 → ⊥) → peeled h N M w b ≡ one (y b)
   right-value b k q =

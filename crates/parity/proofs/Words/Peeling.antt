@@ -1,10 +1,10 @@
 -- What peeling promises of the lists that it is lent and leaves: what is left is the largest stopping set within the erased bits; a word got
 -- from a codeword by erasing is peeled, to the codeword's bits; peeling twice changes nothing more. Assumes nothing.
 use mathlib.Core.Path.{_≡_, refl, sym, ap, _∙_}
-use mathlib.Core.Bool.{Bool, true, false, not, _&&_, and-not-self}
+use mathlib.Core.Bool.{Bool, true, false, not, _&&_}
 use mathlib.Core.List.{List, [], _∷_}
 use mathlib.Core.Logic.{_⊎_, ⊎-elim}
-use Prim.Native.Nat.{ℕ, _+_, _%_, _≤_, _<_}
+use Prim.Native.Nat.{ℕ, _+_, _%_, _<_}
 use native.Mathlib.Nat.{zero-add}
 use native.Mathlib.Omega.{arith}
 use lib.Dec.{eqb}
@@ -15,7 +15,7 @@ use Rattle.parity.specs.Matrix.{Matrix, lent}
 use Rattle.parity.specs.Words.{erased, isOne, inside, residue, peels, peeled, recovered, losses, agrees}
 use Rattle.parity.specs.Causes.{Reply, answer, Outcome, refusal}
 use Rattle.parity.specs.Calls.{byteOf, verifyReply, isStoppingReply, peelReply, peelOutcome}
-use Rattle.parity.proofs.Finite.Sums.{is-true, is-false, is, one≤1, all-of, sum-zero, count-cong, count-part, byte-one, eqb-one, eqb-two}
+use Rattle.parity.proofs.Finite.Sums.{is-true, is-false, is, one≤1, all-of, count-cong, count-part, byte-one, eqb-one, eqb-two, byte-known, count-never}
 use Rattle.parity.proofs.Matrix.Packing.{length-listFrom, at-listFrom, listFrom-cong}
 use Rattle.parity.proofs.Words.Extend.{inside-cong}
 use Rattle.parity.proofs.Words.Residue.{outside, anySet-at, residue-of, residue-within, residue-stops, Solves, solve}
@@ -192,10 +192,7 @@ module _ (ws : List ℕ) (n m k : ℕ) (w : List ℕ) where
         let z : erased (byteOf w) b ≡ false = ne-eqb (byteOf w b) 2 d in
         let q : r b ≡ false = elim (is (r b)) [ is-false q ↦ q | is-true q ↦ absurd (d (eqb-true (byteOf w b) 2 (residue-within h N M (erased (byteOf w)) b l q))) ] in
         after-at b l ∙ peeled-value h N M (byteOf w) y s b l q ∙ ap one (s .known b l z)
-        ∙ byte-one (byteOf w b) (below-two (byteOf w b) (A .word .bytes b l) d)
-      where
-        below-two : (a : ℕ) → a ≤ 2 → (a ≡ 2 → ⊥) → a ≤ 1
-        below-two a i j = omega arith
+        ∙ byte-known (byteOf w b) (A .word .bytes b l) d
 
     left-word : Word N 2 left
     left-word = record {
@@ -234,12 +231,9 @@ module _ (ws : List ℕ) (n m k : ℕ) (w : List ℕ) where
     unfolding losses recovered
     peel-again =
         let e = peel-made ws n m k (A .accepted) left left-word (byteOf left) left-ended left-agrees in
-        let p = nothing n (erased (byteOf left)) in
-        let q = nothing k (λ j. erased (byteOf left) (n + j)) in
+        let p = count-never n (erased (byteOf left)) in
+        let q = count-never k (λ j. erased (byteOf left) (n + j)) in
         e ∙ rw (p, q, list-bytes N left after-size)
-      where
-        nothing : (i : ℕ) (s : ℕ → Bool) → count i (λ b. s b && not (s b)) ≡ 0
-        nothing i s = unfold count in sum-zero i (λ b l. rw (and-not-self (s b)))
 
 -- a word that is got from a codeword x by erasing
 module _ (ws : List ℕ) (n m k : ℕ) (x : List ℕ) (v : verifyReply ws n m k x ≡ answer (1 ∷ [])) (w : List ℕ) (size : length w ≡ n + k)

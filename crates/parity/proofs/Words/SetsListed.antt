@@ -1,5 +1,5 @@
 -- What an answered listing of stopping sets tells and leaves (M-109). Assumes nothing.
-use mathlib.Core.Path.{_≡_, sym, ap, _∙_}
+use mathlib.Core.Path.{_≡_, refl, sym, ap, _∙_}
 use mathlib.Core.Bool.{Bool, true, false, not}
 use mathlib.Core.List.{List, [], _∷_, _++_, List·Memᴰ}
 use Prim.Native.Nat.{ℕ, _+_, _*_, _-_, _≤_, _<_}
@@ -80,7 +80,7 @@ module _ (ws : List ℕ) (n m k t : ℕ) (target : List ℕ) where
             after = flat (found ws n m k t) ++ drop (length (flat (found ws n m k t))) target;
           }
       unfolding stoppingSetsOutcome
-      list-made l = rw (accepting-answers ws n m k _ a, e, le-ltb (length target) (length (flat (found ws n m k t))) l)
+      list-made l = rw (accepting-answers ws n m k _ a, e, le-ltb (length target) (length (flat (found ws n m k t))) l) refl
 
   -- an answer: no cause refuses
   answered : stoppingSetsOutcome ws n m k t target .reply .number ≡ 0 → (cause ws n m k ≡ 0) × (wrongSize t ≡ false) × (length (flat (found ws n m k t)) ≤ length target)

@@ -18,7 +18,7 @@ use Rattle.parity.specs.Calls.{byteOf, verifyReply, peelOutcome}
 use Rattle.parity.specs.Demand3.{Verifies, erasing, Left}
 use Rattle.parity.specs.Solving.{ready, solving, solvingAll, isRun, isComplete}
 use Rattle.parity.specs.SolvingPromises.{AnyOrder, SolvedInAnyOrder}
-use Rattle.parity.proofs.Finite.Sums.{is-true, is-false, is, byte-one, eqb-one, eqb-two, any-of, any-at, count-at, count-two, count-part, sum-point}
+use Rattle.parity.proofs.Finite.Sums.{is-true, is-false, is, byte-one, eqb-one, eqb-two, any-of, any-at, count-at, count-two, count-part, sum-point, byte-known}
 use Rattle.parity.proofs.Matrix.Lent.{count-add}
 use Rattle.parity.proofs.Matrix.Packing.{length-listFrom, at-listFrom}
 use Rattle.parity.proofs.Splits.Split.{Stops}
@@ -46,7 +46,7 @@ module _ (h : Matrix) (N : ℕ) (w : List ℕ) (c : ℕ) where
 
     solving-at : (b : ℕ) → b < N → byteOf (solving h N w c) b ≡ cond (h c b && erased (byteOf w) b) value (byteOf w b)
     unfolding solving
-    solving-at b l = at-listFrom 0 (length w) _ b (omega arith) ∙ rw (zero-add b)
+    solving-at b l = at-listFrom 0 (length w) _ b (omega arith) ∙ rw (zero-add b) refl
 
     -- a step on a check that is ready is the step of peeling at its erased bit
     pub one-step : ready h N w c ≡ true
@@ -209,12 +209,9 @@ module _ (ws : List ℕ) (n m k : ℕ) (x : List ℕ) (v : Verifies ws n m k x) 
   right : (cs : List ℕ) → isRun h N M w cs ≡ true → (b : ℕ) → b < N → (Left (solvingAll h N w cs) b → ⊥) → byteOf (solvingAll h N w cs) b ≡ byteOf x b
   right cs r b l d =
       let S = after cs r .stage in
-      sym (byte-one (byteOf (solvingAll h N w cs) b) (below-two (byteOf (solvingAll h N w cs) b) (S .bytes b l) d))
+      sym (byte-known (byteOf (solvingAll h N w cs) b) (S .bytes b l) d)
       ∙ ap one (sym (S .right (isOne (byteOf x)) (solves-w ws n m k x v w size got) b l (ne-eqb (byteOf (solvingAll h N w cs) b) 2 d)))
       ∙ byte-one (byteOf x b) (codeword-x ws n m k x v w size got .word .bytes b l)
-    where
-      below-two : (a : ℕ) → a ≤ 2 → (a ≡ 2 → ⊥) → a ≤ 1
-      below-two a i j = omega arith
 
   every-run : AnyOrder ws n m k x w
   unfolding losses

@@ -1,7 +1,7 @@
 -- `reply::pass` meets its contract. Assumes nothing.
 use borrow.Author.Needs.{needs}
 use mathlib.Core.Path.{refl, sym, ap}
-use Rattle.reply.specs.Passed.{numberedReply}
+use Rattle.parity.specs.Causes.{numberedReply}
 use Rattle.reply.proofs.Passing.{bare, front, next, same}
 use Rattle.reply.proofs.pass.Statement.{statement}
 use Rattle.reply.proofs.pass.Tie as tie

@@ -3,7 +3,8 @@ use mathlib.Core.Path.{_≡_}
 use Prim.Native.Nat.{_-_, _*_, _%_, min}
 use native.Mathlib.Omega.{arith}
 use lib.Pow.{pow-pos}
-use Rattle.matrix.proofs.Masks.{shift-one, mask-of}
+use Rattle.parity.proofs.Matrix.Digits.{one-shl}
+use Rattle.matrix.proofs.Masks.{mask-of}
 use borrow.Author.Needs.{needs}
 use Rattle.matrix.proofs.outside.mask.Statement.{statement}
 use Rattle.matrix.proofs.outside.mask.Tie as tie
@@ -20,7 +21,7 @@ shl-result c = search needs
 sub-result : tie.Need-sub-result
 sub-result c =
     let a = c .before .before .args in
-    rw (shift-one (a .bits % 64) (omega arith)) (pow-pos (a .bits % 64))
+    rw (one-shl (a .bits % 64) (omega arith)) (pow-pos (a .bits % 64))
 
 returns-3 : tie.Need-returns-3
 returns-3 c =

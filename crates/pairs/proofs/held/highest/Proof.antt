@@ -8,7 +8,8 @@ use lib.Bits.{bitAnd, and-le-r}
 use lib.Count.{leading-top}
 use lib.ListN.{getD}
 use Rattle.pairs.specs.Rows.{inBoth}
-use Rattle.pairs.proofs.Words.{Clear, clear-none, clear-down, greatest-zero, greatest-here, leading-highest}
+use Rattle.rows.proofs.Next.{Clear, clear-none}
+use Rattle.pairs.proofs.Words.{clear-down, greatest-zero, greatest-here, leading-highest}
 use Rattle.pairs.proofs.held.highest.Statement.{statement}
 use Rattle.pairs.proofs.held.highest.Tie as tie
 

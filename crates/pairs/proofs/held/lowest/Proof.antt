@@ -1,5 +1,5 @@
 -- `lowest` meets its contract. Assumes nothing.
-use mathlib.Core.Path.{_≡_, _∙_}
+use mathlib.Core.Path.{_≡_}
 use Prim.Native.Nat.{_+_, _*_, _-_, _≤_}
 use native.Mathlib.Nat.{lt-of-le-of-lt}
 use native.Mathlib.Omega.{arith}
@@ -9,7 +9,8 @@ use lib.Count.{trailing-le}
 use lib.ListN.{getD}
 use Rattle.parity.proofs.Matrix.Ones.{trailing-lowest}
 use Rattle.pairs.specs.Rows.{inBoth}
-use Rattle.pairs.proofs.Words.{Clear, clear-none, clear-up, least-top, least-here}
+use Rattle.rows.proofs.Next.{Clear, clear-none}
+use Rattle.pairs.proofs.Words.{clear-up, least-top, least-here}
 use Rattle.pairs.proofs.held.lowest.Statement.{statement}
 use Rattle.pairs.proofs.held.lowest.Tie as tie
 

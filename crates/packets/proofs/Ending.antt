@@ -27,7 +27,6 @@ use Rattle.parity.proofs.Words.Peeling.{losses-same}
 use Rattle.sets.specs.Sets.{SetOf}
 use Rattle.steps.specs.Steps.{held, filled}
 use Rattle.steps.proofs.Held.{erased-held, ones-held}
-use Rattle.steps.proofs.Start.{three}
 use Rattle.sets.specs.Losses.{Counted}
 use Rattle.sets.proofs.Sizes.{fewer-left, losses-sizes}
 use Rattle.lanes.specs.Tiles.{arrived}

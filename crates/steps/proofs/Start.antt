@@ -12,17 +12,10 @@ use Rattle.parity.specs.Finite.{one}
 use Rattle.parity.specs.Matrix.{Matrix, lent}
 use Rattle.parity.specs.Calls.{byteOf, wrongByte}
 use Rattle.parity.proofs.Words.Steps.{stage-start}
-use Rattle.parity.proofs.Words.Bytes.{right-bytes}
+use Rattle.parity.proofs.Words.Bytes.{right-bytes, erasable-of}
 use Rattle.sets.specs.Sets.{SetOf}
 use Rattle.steps.specs.Steps.{held, Settled, Short}
 use Rattle.steps.proofs.Held.{Held, held-reached}
-
--- a byte from its two tests
-pub three : (a : ℕ) → a ≤ 2 → cond (eqb a 2) 2 (one (eqb a 1)) ≡ a
-three zero k = refl
-three (suc zero) k = refl
-three (suc (suc zero)) k = refl
-three (suc (suc (suc a))) k = absurd (omega arith)
 
 -- a set that bytes make has none of their number or above
 pub set-short : (W : ℕ) (w : List ℕ) (v : ℕ) (r : List ℕ) → SetOf W w v r → Short (length w) (lent W r 0)
@@ -32,7 +25,7 @@ module _ (W : ℕ) (h : Matrix) (M : ℕ) (w es os : List ℕ) (few : length w �
   -- the sets that the bytes make hold the word
   bytes-held : held (lent W es 0) (lent W os 0) ≡ byteOf w
   bytes-held = fun-ext (λ b. rw (E .at b, O .at b) (elim (decLt b (length w)) [
-    | yes l ↦ rw (lt-ltb b (length w) l) (three (byteOf w b) (right-bytes 2 w .0 right b l))
+    | yes l ↦ rw (lt-ltb b (length w) l) (erasable-of (byteOf w b) (right-bytes 2 w .0 right b l))
     | no l ↦ rw (le-ltb b (length w) (omega arith), List·getD-eq-default w 0 {n = b} (omega arith))
   ]))
 

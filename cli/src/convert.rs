@@ -9,7 +9,7 @@ pub fn run(mut args: Args) -> Result<u8, Fault> {
     let (from, to, given) = (args.format("--from")?, args.format("--to")?, args.flag("--given"));
     let [input, output] = args.files(["IN", "OUT"])?;
     let to = Format::of(&output, to, "--to")?;
-    places::apart(&[("IN", &input), ("OUT", &output)])?;
+    places::apart(&[("IN", places::input(&input)), ("OUT", places::output(&output))])?;
     let mut matrix = files::read(&input, from)?;
     if given {
         matrix = matrix.given().map_err(|refusal| files::refused(&input, refusal))?;

@@ -10,6 +10,7 @@ use crate::progress;
 use crate::random::Random;
 use crate::svg;
 use parity::Refusal;
+use std::path::Path;
 use std::sync::atomic::{AtomicBool, AtomicU64, Ordering};
 use std::thread;
 
@@ -57,7 +58,7 @@ impl Point {
 impl Setup {
     pub fn new(matrix: &Matrix) -> Result<Setup, Refusal> {
         let given = matrix.given()?;
-        let rank = parity::rank(&given.words, given.n, given.m, 0)?;
+        let rank = given.rank()?;
         Ok(Setup { given, extended: matrix.extended()?.matrix, rank })
     }
 }
@@ -216,15 +217,15 @@ pub fn run(mut args: Args) -> Result<u8, Fault> {
     let seed = args.number("--seed", 0, u64::MAX)?.unwrap_or(SEED);
     let [path] = args.files(["FILE"])?;
     let Some(out) = out else { return Err(Fault::usage("curve needs --out and the name of a picture; see --help")) };
-    let mut named = vec![("FILE", path.as_path()), ("--out", out.as_path())];
-    named.extend(table.as_ref().map(|table| ("--csv", table.as_path())));
+    let mut named = vec![("FILE", places::input(&path)), ("--out", places::output(&out))];
+    named.extend(table.as_ref().map(|table| ("--csv", places::output(table))));
     places::apart(&named)?;
     let plan = Plan { words, seed };
     let refused = |refusal| files::refused(&path, refusal);
     let setup = Setup::new(&files::read(&path, from)?).map_err(refused)?;
     let threads = thread::available_parallelism().map_or(1, |cores| cores.get());
     let points = measure(&setup, plan, threads).map_err(refused)?;
-    let name = path.file_name().unwrap_or(path.as_os_str()).to_string_lossy();
+    let name = files::name(Path::new(path.file_name().unwrap_or(path.as_os_str())));
     files::write(&out, svg::draw(&picture(&name, &setup, plan, &points)).as_bytes())?;
     if let Some(table) = table {
         files::write(&table, csv(&setup, &points).as_bytes())?;

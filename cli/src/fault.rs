@@ -1,5 +1,6 @@
 //! What goes wrong, in one line.
 
+use crate::files;
 use std::fmt;
 use std::path::Path;
 
@@ -31,12 +32,12 @@ impl Fault {
 
     /// A file that cannot be read, written or taken.
     pub fn file(path: &Path, what: &str) -> Fault {
-        Fault::stream(&path.display().to_string(), what)
+        Fault::stream(&files::name(path), what)
     }
 
     /// A line of a file that cannot be taken.
     pub fn line(path: &Path, fault: &LineFault) -> Fault {
-        Fault::stream(&format!("{}:{}", path.display(), fault.line), &fault.what)
+        Fault::stream(&format!("{}:{}", files::name(path), fault.line), &fault.what)
     }
 
     /// Standard input or output that fails.
@@ -56,14 +57,39 @@ impl fmt::Display for Fault {
     }
 }
 
-/// A text with its control characters written out, so that it is one line.
+/// A text with its control characters and byte order marks written out, so that it is one line.
 pub fn shown(text: &str) -> String {
-    text.chars().flat_map(|c| if c.is_control() { c.escape_default().collect() } else { vec![c] }).collect()
+    let is_hidden = |c: char| c.is_control() || c == '\u{feff}';
+    text.chars().flat_map(|c| if is_hidden(c) { c.escape_default().collect() } else { vec![c] }).collect()
 }
 
 /// The front of a piece of a file, for a message.
 pub fn quoted(piece: &[u8]) -> String {
     const MOST: usize = 20;
+    if let Some(mark) = byte_order_mark(piece) {
+        return mark.to_string();
+    }
     let front = String::from_utf8_lossy(&piece[..piece.len().min(MOST)]).into_owned();
     format!("'{}{}'", shown(&front), if piece.len() > MOST { ".." } else { "" })
+}
+
+/// The byte order mark at the front of a text, which editors put there unseen.
+pub fn byte_order_mark(text: &[u8]) -> Option<&'static str> {
+    match text {
+        [0xEF, 0xBB, 0xBF, ..] => Some("a byte order mark (UTF-8)"),
+        [0xFF, 0xFE, ..] | [0xFE, 0xFF, ..] => Some("a byte order mark (UTF-16)"),
+        _ => None,
+    }
+}
+
+/// The first character of a piece of a line, for a message.
+pub fn character(piece: &[u8]) -> String {
+    let length =
+        |chunk: std::str::Utf8Chunk| chunk.valid().chars().next().map_or(chunk.invalid().len(), char::len_utf8);
+    let first = piece.utf8_chunks().next().map_or(0, length);
+    if byte_order_mark(piece).is_some() {
+        quoted(piece)
+    } else {
+        quoted(&piece[..first])
+    }
 }

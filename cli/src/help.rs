@@ -1,31 +1,33 @@
 //! What `--help` prints.
 
 pub const PROGRAM: &str = "\
-parity: looks at a parity-check matrix, converts it, mends words with it and
-draws what it recovers. Every answer is one of the proved library's calls.
+parity: looks at a parity-check matrix, converts it, encodes and mends words
+with it and draws what it recovers. Every answer is one of the proved library's
+calls.
 
   parity convert IN OUT       alist, 0/1 text and record, in any direction
   parity inspect FILE         weights, rank, rate, cycles, stopping sets
   parity extend FILE OUT      orthogonalised, with its splits, as a record
-  parity mend FILE            mends the words on standard input
+  parity mend FILE            mends words with erased bits
   parity curve FILE --out SVG the share of bits left over the erasure rate
   parity COMMAND --help       the options of a command
   parity --version
 
 A file's format is that of its extension: .alist, .txt (0/1 text, a line for
 each check) or .rec (record, words of 4 bytes, the highest byte first). --from
-alist, text or record names the format of a file with another extension. A
-matrix has 1 to 120 bits and 0 to 120 checks. A record may carry splits.
+alist, text or record names the format of a file with another extension. As a
+matrix - is standard input, and as an output standard output. A matrix has 1 to
+120 bits and 0 to 120 checks. A record may carry splits.
 
 An output that is an input or the other output, by any path or link, is refused
 as a wrong argument. A file is written whole, or else the old one stays.
 
 Exit status: 0 done; 1 a file or stream that cannot be read, written or taken,
-one line on standard error says why; 2 wrong arguments; 3 and 4 as mend and
-extend say.
+one line on standard error says why; 2 wrong arguments; 3 and 4 as the commands
+say.
 ";
 
-const CONVERT: &str = "\
+pub const CONVERT: &str = "\
 parity convert IN OUT [--from FORMAT] [--to FORMAT] [--given]
 
 Reads the matrix IN and writes it as OUT. FORMAT is alist, text or record;
@@ -41,39 +43,42 @@ line on standard error with the file and the line; 2 wrong arguments. Where IN
 is not taken nothing is written.
 ";
 
-const INSPECT: &str = "\
+pub const INSPECT: &str = "\
 parity inspect FILE [--json] [--from FORMAT]
 
 Says of the matrix: n, m, ones, the weights of its checks and of its bits, rank,
-rate, cycle count, and the stopping sets of 1 to 4 sent bits, how many and the
-first five. Then, of the matrix orthogonalised: the splits made, their sum, k,
-the cycles left and the ones. Bits are counted from 0. Of a record with splits
-the first part is about the checks before its splits; orthogonalising goes on
-from them.
+rate, which bits hold the message, cycle count, and the stopping sets of 1 to 4
+sent bits, how many and the first five. It remarks on what is likely a mistake:
+rate 0, more checks than rank, bits in no check, checks that are empty or repeat
+an earlier one. Then, of the matrix orthogonalised: the splits made, their sum,
+k, the cycles left and the ones. Bits and checks are counted from 0. Of a record
+with splits the first part is about the checks before its splits;
+orthogonalising goes on from them.
 
   --json     the same in one line of JSON, with the weight of each check and bit
 
 Exit status: 0 done; 1 FILE cannot be read or taken; 2 wrong arguments.
 ";
 
-const EXTEND: &str = "\
+pub const EXTEND: &str = "\
 parity extend FILE OUT [--from FORMAT]
 
 Orthogonalises the matrix, and writes it with its splits as a record of the
-third form (of the second form where there is nothing to split). Prints the
-splits made, their sum, k and the cycles left. OUT must be another file than
-FILE.
+third form (of the second form where there is nothing to split). No other format
+holds splits, so that OUT may not end in .alist or .txt. Prints the splits made,
+their sum, k and the cycles left, on standard error where OUT is -. OUT must be
+another file than FILE.
 
 Exit status: 0 written; 1 FILE cannot be read or taken, or OUT not written; 2
 wrong arguments; 3 written, but k is 392, the most, and cycles are left.
 ";
 
-const MEND: &str = "\
+pub const MEND: &str = "\
 parity mend FILE [--by WAY] [--from FORMAT]
 
 Reads words from standard input, a line for each, of 0, 1 and ? (or .) for an
 erased bit, and writes each line mended to standard output, in order. Bits that
-are left keep their mark. WAY is
+are left keep their mark, and blanks, tabs and commas between bits stay. WAY is
 
   given      peeling with the given matrix
   extended   peeling with the orthogonalised matrix
@@ -85,13 +90,14 @@ Of a record with splits the given matrix is that before the splits, and the
 orthogonalised one has them. The end of the input brings one line on standard
 error: words, bits erased, recovered and left, contradictions. A word that
 contradicts the checks comes out as it was. So does a line that is no word, for
-which a line with its number goes to standard error.
+which a line with its number goes to standard error: ten of them are named, and
+the further ones counted.
 
 Exit status: 0 done; 1 FILE or a stream cannot be read, written or taken; 2
 wrong arguments; 3 some word contradicts the checks; 4 some line is no word.
 ";
 
-const CURVE: &str = "\
+pub const CURVE: &str = "\
 parity curve FILE --out SVG [--csv CSV] [--words N] [--seed S] [--from FORMAT]
 
 Draws the share of sent bits left over the erasure rate, 0.02 to 1 in steps of
@@ -110,15 +116,3 @@ SVG and CSV must be two files, and neither may be FILE.
 Exit status: 0 written; 1 FILE cannot be read or taken, or a file not written;
 2 wrong arguments.
 ";
-
-/// The help of a command.
-pub fn of(command: &str) -> &'static str {
-    match command {
-        "convert" => CONVERT,
-        "inspect" => INSPECT,
-        "extend" => EXTEND,
-        "mend" => MEND,
-        "curve" => CURVE,
-        _ => PROGRAM,
-    }
-}

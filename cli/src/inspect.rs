@@ -6,6 +6,7 @@ use crate::files;
 use crate::json;
 use crate::matrix::{Extended, Matrix};
 use crate::output;
+use crate::remarks;
 use parity::{Refusal, SET_SIZE_MOST};
 use std::collections::BTreeMap;
 
@@ -27,6 +28,9 @@ pub struct Report {
     pub given: Matrix,
     pub carried: usize,
     pub rank: usize,
+    /// The bits that hold the message, rising.
+    pub message_bits: Vec<usize>,
+    pub remarks: Vec<String>,
     pub cycles: u64,
     pub sets: Vec<Sets>,
     pub extended: Extended,
@@ -38,16 +42,19 @@ pub fn run(mut args: Args) -> Result<u8, Fault> {
     let [path] = args.files(["FILE"])?;
     let matrix = files::read(&path, from)?;
     let report = report(&matrix).map_err(|refusal| files::refused(&path, refusal))?;
-    let name = path.display().to_string();
+    let name = files::name(&path);
     output::text(&if as_json { report.json(&name) } else { report.text(&name) })
 }
 
 pub fn report(matrix: &Matrix) -> Result<Report, Refusal> {
     let given = matrix.given()?;
     let extended = matrix.extended()?;
+    let rank = given.rank()?;
     Ok(Report {
         carried: matrix.k,
-        rank: parity::rank(&given.words, given.n, given.m, 0)?,
+        rank,
+        message_bits: given.message_bits()?,
+        remarks: remarks::of(&given, rank),
         cycles: given.count()?,
         sets: (1..=SET_SIZE_MOST).map(|size| sets(&given, size)).collect::<Result<_, _>>()?,
         cycles_left: extended.matrix.count()?,
@@ -87,6 +94,21 @@ fn tally(weights: &[usize]) -> String {
     }
 }
 
+/// Rising numbers, those in a row as the first and the last of them.
+fn ranges(numbers: &[usize]) -> String {
+    let rows = numbers.chunk_by(|one, next| one + 1 == *next);
+    let shown = |row: &[usize]| match row {
+        [first, .., last] => format!("{first}-{last}"),
+        row => row.iter().map(usize::to_string).collect(),
+    };
+    let rows: Vec<String> = rows.map(shown).collect();
+    if rows.is_empty() {
+        "none".to_string()
+    } else {
+        rows.join(" ")
+    }
+}
+
 impl Sets {
     fn text(&self) -> String {
         let list = |set: &Vec<u16>| set.iter().map(u16::to_string).collect::<Vec<_>>().join(" ");
@@ -120,9 +142,11 @@ impl Report {
             ("weights of bits", tally(&bits)),
             ("rank", rank.to_string()),
             ("rate", format!("{rate:.4} ({message} of {n})")),
+            ("message bits", ranges(&self.message_bits)),
             ("cycle count", cycles.to_string()),
         ];
         lines.extend(SET_NAMES.into_iter().zip(self.sets.iter().map(Sets::text)));
+        lines.extend(self.remarks.iter().map(|remark| ("remark", remark.clone())));
         lines.extend([
             ("orthogonalised:", String::new()),
             ("splits made", extended.splits.to_string()),
@@ -135,7 +159,7 @@ impl Report {
     }
 
     pub fn json(&self, name: &str) -> String {
-        let Report { given, carried, rank, cycles, sets, extended, cycles_left } = self;
+        let Report { given, carried, rank, cycles, sets, extended, cycles_left, .. } = self;
         let (checks, bits) = weights(given);
         let after = json::object(&[
             ("complete", extended.complete.to_string()),
@@ -155,8 +179,10 @@ impl Report {
             ("bit_weights", json::list(bits)),
             ("rank", rank.to_string()),
             ("rate", format!("{:.6}", self.rate())),
+            ("message_bits", json::list(&self.message_bits)),
             ("cycles", cycles.to_string()),
             ("stopping_sets", json::list(sets.iter().map(Sets::json))),
+            ("remarks", json::list(self.remarks.iter().map(|remark| json::string(remark)))),
             ("orthogonalised", after),
         ]);
         whole + "\n"

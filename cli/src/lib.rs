@@ -11,16 +11,20 @@ pub mod files;
 pub mod help;
 pub mod inspect;
 pub mod json;
+pub mod lines;
 pub mod matrix;
 pub mod mend;
+pub mod nearest;
 pub mod output;
 pub mod places;
 pub mod progress;
 pub mod random;
 pub mod record;
+pub mod remarks;
 pub mod replace;
 pub mod svg;
 pub mod text;
+pub mod words;
 
 use args::Args;
 use fault::Fault;
@@ -44,28 +48,47 @@ pub fn run(arguments: Vec<OsString>) -> u8 {
     }
 }
 
+type Command = fn(Args) -> Result<u8, Fault>;
+
+/// The commands: their names, and what their `--help` says.
+const COMMANDS: [(&str, Command, &str); 5] = [
+    ("convert", convert::run, help::CONVERT),
+    ("inspect", inspect::run, help::INSPECT),
+    ("extend", extend::run, help::EXTEND),
+    ("mend", mend::run, help::MEND),
+    ("curve", curve::run, help::CURVE),
+];
+
+fn names() -> [&'static str; COMMANDS.len()] {
+    COMMANDS.map(|(name, _, _)| name)
+}
+
 fn command(arguments: Vec<OsString>) -> Result<u8, Fault> {
     let mut rest = arguments.into_iter();
     let Some(first) = rest.next() else {
-        return Err(Fault::usage("a command is missing: convert, inspect, extend, mend or curve; see parity --help"));
+        let commands = nearest::listed(&names(), "or");
+        return Err(Fault::usage(&format!("a command is missing: {commands}; see parity --help")));
     };
     let name = first.to_string_lossy();
-    let command: fn(Args) -> Result<u8, Fault> = match name.as_ref() {
+    match name.as_ref() {
         "--help" | "-h" | "help" => return output::text(help::PROGRAM),
         "--version" | "-V" => return output::text(concat!("parity ", env!("CARGO_PKG_VERSION"), "\n")),
-        "convert" => convert::run,
-        "inspect" => inspect::run,
-        "extend" => extend::run,
-        "mend" => mend::run,
-        "curve" => curve::run,
-        other => {
-            let known = "convert, inspect, extend, mend, curve";
-            return Err(Fault::usage(&format!("'{other}' is no command; there are {known}; see parity --help")));
-        }
+        _ => {}
+    }
+    let Some((_, command, help)) = COMMANDS.iter().find(|(known, _, _)| *known == name) else {
+        return Err(unknown(&name));
     };
     let rest: Vec<OsString> = rest.collect();
     if Args::asks_for_help(&rest) {
-        return output::text(help::of(&name));
+        return output::text(help);
     }
     command(Args::new(rest))
+}
+
+fn unknown(command: &str) -> Fault {
+    let known = match nearest::of(command, &names()) {
+        Some(near) => format!("did you mean {near}?"),
+        None => format!("there are {};", nearest::listed(&names(), "and")),
+    };
+    Fault::usage(&format!("'{command}' is no command; {known} see parity --help"))
 }

@@ -5,6 +5,9 @@ use parity::{Loaded, Orthogonalised, Refusal, RECORD_MOST, WORDS};
 /// The most sent bits, and the most given checks.
 pub const MOST: usize = 120;
 
+/// The two matrices that a command may work with, as `--by` names them, and whether it is the extended one.
+pub const EITHER: [(&str, bool); 2] = [("given", false), ("extended", true)];
+
 /// The bits of each check, rising, of n bits: what a file of text says.
 #[derive(Clone, PartialEq, Eq, Debug)]
 pub struct Checks {
@@ -56,9 +59,14 @@ impl Matrix {
         Ok(record)
     }
 
+    /// The words of a check.
+    pub fn row(&self, check: usize) -> [u64; 8] {
+        std::array::from_fn(|word| self.words[8 * check + word])
+    }
+
     /// The bits that a check contains, rising.
     pub fn bits_of(&self, check: usize) -> Vec<usize> {
-        let row = &self.words[8 * check..8 * check + 8];
+        let row = self.row(check);
         (0..self.n + self.k).filter(|bit| row[bit / 64] >> (bit % 64) & 1 == 1).collect()
     }
 
@@ -90,6 +98,27 @@ impl Matrix {
         };
         matrix.k = k;
         Ok(Extended { matrix, splits, sum, complete })
+    }
+
+    /// The rank of a matrix with k = 0.
+    pub fn rank(&self) -> Result<usize, Refusal> {
+        parity::rank(&self.words, self.n, self.m, self.k)
+    }
+
+    /// The bits of a matrix with k = 0 that hold the message, rising.
+    pub fn message_bits(&self) -> Result<Vec<usize>, Refusal> {
+        let mut marks = vec![0; self.n];
+        parity::message_bits(&self.words, self.n, self.m, self.k, &mut marks)?;
+        Ok((0..self.n).filter(|&bit| marks[bit] == 1).collect())
+    }
+
+    /// The given matrix, or the extended one.
+    pub fn either(&self, extended: bool) -> Result<Matrix, Refusal> {
+        if extended {
+            Ok(self.extended()?.matrix)
+        } else {
+            self.given()
+        }
     }
 
     pub fn count(&self) -> Result<u64, Refusal> {

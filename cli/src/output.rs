@@ -10,9 +10,14 @@ pub fn message(line: &str) {
     let _ = writeln!(io::stderr(), "{line}");
 }
 
+/// Writes bytes to standard output.
+pub fn bytes(bytes: &[u8]) -> Result<(), Fault> {
+    let mut out = io::stdout().lock();
+    out.write_all(bytes).and_then(|_| out.flush()).map_err(|error| Fault::stream(OUTPUT, &error.to_string()))
+}
+
 /// Writes a text to standard output.
 pub fn text(text: &str) -> Result<u8, Fault> {
-    let mut out = io::stdout().lock();
-    out.write_all(text.as_bytes()).and_then(|_| out.flush()).map_err(|e| Fault::stream(OUTPUT, &e.to_string()))?;
+    bytes(text.as_bytes())?;
     Ok(crate::DONE)
 }

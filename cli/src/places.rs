@@ -1,6 +1,7 @@
 //! Where paths lead: an output is no other file that is named.
 
 use crate::fault::Fault;
+use crate::files::is_stream;
 use std::ffi::OsString;
 use std::fs;
 use std::io::ErrorKind;
@@ -10,8 +11,26 @@ use std::path::{Path, PathBuf};
 /// No chain of symbolic links is followed further.
 const LINKS: usize = 40;
 
-/// The path of standard output.
+/// The paths of standard input and of standard output.
+const INPUT: &str = "/dev/stdin";
 pub const OUTPUT: &str = "/dev/stdout";
+
+/// Where an input is read, and where an output is written; `-` is a stream.
+pub fn input(path: &Path) -> &Path {
+    if is_stream(path) {
+        Path::new(INPUT)
+    } else {
+        path
+    }
+}
+
+pub fn output(path: &Path) -> &Path {
+    if is_stream(path) {
+        Path::new(OUTPUT)
+    } else {
+        path
+    }
+}
 
 /// A file by its device and its number there; one that does not exist yet by those of its folder, and its name.
 type Place = (u64, u64, OsString);

@@ -24,4 +24,14 @@ impl Random {
     pub fn chance(&mut self, part: u64, whole: u64) -> bool {
         (self.number() >> 32) * whole < part << 32
     }
+
+    /// A number below `end`, which is below 2^32.
+    pub fn below(&mut self, end: u64) -> u64 {
+        ((self.number() >> 32) * end) >> 32
+    }
+
+    /// A part of 1, from 0 on and below 1.
+    pub fn part(&mut self) -> f64 {
+        (self.number() >> 11) as f64 / (1u64 << 53) as f64
+    }
 }

@@ -1,8 +1,9 @@
 //! 0/1 text: a line for each check, a digit for each bit. Blanks, tabs and commas may stand between digits; empty
 //! lines, and what follows a `#`, are passed over.
 
-use crate::fault::{quoted, LineFault};
+use crate::fault::{character, LineFault};
 use crate::matrix::{Checks, Matrix, MOST};
+use crate::words::is_gap;
 
 pub fn read(bytes: &[u8]) -> Result<Checks, LineFault> {
     let mut found = Checks { n: 0, checks: Vec::new() };
@@ -33,15 +34,10 @@ fn digits(line: &[u8]) -> Result<Vec<bool>, String> {
     for (place, &byte) in line.iter().enumerate() {
         match byte {
             b'0' | b'1' => digits.push(byte == b'1'),
-            b' ' | b'\t' | b',' | b'\r' => {}
+            b'\r' => {}
             b'#' => break,
-            _ => {
-                return Err(format!(
-                    "{} at character {} is neither 0 nor 1",
-                    quoted(&line[place..place + 1]),
-                    place + 1
-                ))
-            }
+            gap if is_gap(gap) => {}
+            _ => return Err(format!("{} at character {} is neither 0 nor 1", character(&line[place..]), place + 1)),
         }
     }
     Ok(digits)

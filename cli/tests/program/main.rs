@@ -25,6 +25,7 @@ mod mutations;
 mod outputs;
 mod refusals;
 mod streams;
+mod stumbles;
 mod support;
 mod words;
 mod xml;

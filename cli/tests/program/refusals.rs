@@ -181,10 +181,11 @@ fn arguments() {
         &["curve", "c.alist", "--out", "out.svg", "--seed", "-1"],
         &["inspect", "two\nlines"],
     ];
+    fs::write(folder.join("two\nlines"), "01\n").expect("a file");
     for args in cases {
         let run = run(&folder, args, b"");
         assert_eq!((run.status, run.text()), (2, ""), "{args:?}");
         assert!(is_one_line(&run.err) && run.err.starts_with("parity: "), "{args:?}: {:?}", run.err);
-        assert_eq!(fs::read_dir(&folder).expect("a folder").count(), 1, "nothing is written");
+        assert_eq!(fs::read_dir(&folder).expect("a folder").count(), 2, "nothing is written");
     }
 }

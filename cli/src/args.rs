@@ -110,7 +110,8 @@ impl Args {
         let number = self.rest.len();
         let paths: Vec<PathBuf> = self.rest.into_iter().map(PathBuf::from).collect();
         paths.try_into().map_err(|_| {
-            Fault::usage(&format!("{number} files are named, and {N} needed: {}; see --help", names.join(" ")))
+            let needed = if N == 0 { String::new() } else { format!(": {}", names.join(" ")) };
+            Fault::usage(&format!("{number} files are named, and {N} needed{needed}; see --help"))
         })
     }
 

@@ -8,6 +8,9 @@ calls.
   parity convert IN OUT       alist, 0/1 text and record, in any direction
   parity inspect FILE         weights, rank, rate, cycles, stopping sets
   parity extend FILE OUT      orthogonalised, with its splits, as a record
+  parity encode FILE          messages to codewords
+  parity message FILE         codewords back to messages
+  parity verify FILE          whether words are codewords
   parity mend FILE            mends words with erased bits
   parity curve FILE --out SVG the share of bits left over the erasure rate
   parity COMMAND --help       the options of a command
@@ -71,6 +74,43 @@ another file than FILE.
 
 Exit status: 0 written; 1 FILE cannot be read or taken, or OUT not written; 2
 wrong arguments; 3 written, but k is 392, the most, and cycles are left.
+";
+
+pub const ENCODE: &str = "\
+parity encode FILE [--from FORMAT]
+
+Reads messages from standard input, a line of n - r digits for each, where r is
+the rank, and writes the codeword that holds each, n digits. Which bits hold the
+message, inspect says; blanks, tabs and commas between digits do not matter. A
+line that is no message comes out as it was, and a line on standard error says
+why: ten of them are named, and the further ones counted.
+
+Exit status: 0 done; 1 FILE or a stream cannot be read, written or taken; 2
+wrong arguments; 4 some line is no message.
+";
+
+pub const MESSAGE: &str = "\
+parity message FILE [--from FORMAT]
+
+Reads words of n bits from standard input, a line for each, of 0, 1 and ? (or .)
+for an erased bit, and writes the n - r bits of each that hold the message; an
+erased one as ?. Nothing is mended: that is mend's part. Of a word that
+contradicts the checks the message is not known, and written as ? alone. A line
+that is no word comes out as it was, and a line on standard error says why.
+
+Exit status: 0 done; 1 FILE or a stream cannot be read, written or taken; 2
+wrong arguments; 3 some word contradicts the checks; 4 some line is no word.
+";
+
+pub const VERIFY: &str = "\
+parity verify FILE [--from FORMAT]
+
+Reads words of n digits from standard input, a line for each, and writes yes for
+a codeword and no for another word. A line that is no word comes out as it was,
+and a line on standard error says why.
+
+Exit status: 0 all are codewords; 1 FILE or a stream cannot be read, written or
+taken; 2 wrong arguments; 3 some word is none; 4 some line is no word.
 ";
 
 pub const MEND: &str = "\

@@ -5,6 +5,7 @@ pub mod alist;
 pub mod args;
 pub mod convert;
 pub mod curve;
+pub mod encode;
 pub mod extend;
 pub mod fault;
 pub mod files;
@@ -14,6 +15,7 @@ pub mod json;
 pub mod lines;
 pub mod matrix;
 pub mod mend;
+pub mod message;
 pub mod nearest;
 pub mod output;
 pub mod places;
@@ -24,6 +26,7 @@ pub mod remarks;
 pub mod replace;
 pub mod svg;
 pub mod text;
+pub mod verify;
 pub mod words;
 
 use args::Args;
@@ -51,10 +54,13 @@ pub fn run(arguments: Vec<OsString>) -> u8 {
 type Command = fn(Args) -> Result<u8, Fault>;
 
 /// The commands: their names, and what their `--help` says.
-const COMMANDS: [(&str, Command, &str); 5] = [
+const COMMANDS: [(&str, Command, &str); 8] = [
     ("convert", convert::run, help::CONVERT),
     ("inspect", inspect::run, help::INSPECT),
     ("extend", extend::run, help::EXTEND),
+    ("encode", encode::run, help::ENCODE),
+    ("message", message::run, help::MESSAGE),
+    ("verify", verify::run, help::VERIFY),
     ("mend", mend::run, help::MEND),
     ("curve", curve::run, help::CURVE),
 ];

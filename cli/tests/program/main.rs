@@ -18,9 +18,11 @@ mod model;
 #[path = "../../../tests/outside/src/random.rs"]
 mod random;
 
+mod coding;
 mod curves;
 mod formats;
 mod golden;
+mod lines;
 mod mutations;
 mod outputs;
 mod refusals;

@@ -92,10 +92,13 @@ fn refused(extension: &str, cases: Vec<(Vec<u8>, &str)>) {
     for (bytes, due) in cases {
         fs::write(folder.join(&file), &bytes).expect("a file");
         let line = format!("parity: {file}{due}\n");
-        let commands: [&[&str]; 5] = [
+        let commands: [&[&str]; 8] = [
             &["convert", &file, "out.txt"],
             &["inspect", &file],
             &["extend", &file, "out.rec"],
+            &["encode", &file],
+            &["message", &file],
+            &["verify", &file],
             &["mend", &file],
             &["curve", &file, "--out", "out.svg", "--csv", "out.csv", "--words", "1"],
         ];

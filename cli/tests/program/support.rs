@@ -72,6 +72,13 @@ pub fn runs(folder: &Path, args: &[&str]) -> Run {
     run
 }
 
+/// Runs the program on some input, which it must answer with status 0 and without a message; gives what it writes.
+pub fn runs_on(folder: &Path, args: &[&str], input: &[u8]) -> Vec<u8> {
+    let run = run(folder, args, input);
+    assert_eq!((run.status, run.err.as_str()), (0, ""), "{args:?}");
+    run.out
+}
+
 /// One line that ends, without a control character.
 pub fn is_one_line(text: &str) -> bool {
     text.strip_suffix('\n').is_some_and(|line| !line.is_empty() && !line.chars().any(char::is_control))

@@ -11,10 +11,16 @@ calls.
   parity encode FILE          messages to codewords
   parity message FILE         codewords back to messages
   parity verify FILE          whether words are codewords
+  parity erase --rate P       a lossy link for words
   parity mend FILE            mends words with erased bits
   parity curve FILE --out SVG the share of bits left over the erasure rate
   parity COMMAND --help       the options of a command
   parity --version
+
+encode to soft read lines from standard input and answer each on standard
+output, so that they can be put together:
+
+  parity encode L | parity erase --rate 0.2 | parity mend L | parity message L
 
 A file's format is that of its extension: .alist, .txt (0/1 text, a line for
 each check) or .rec (record, words of 4 bytes, the highest byte first). --from
@@ -111,6 +117,23 @@ and a line on standard error says why.
 
 Exit status: 0 all are codewords; 1 FILE or a stream cannot be read, written or
 taken; 2 wrong arguments; 3 some word is none; 4 some line is no word.
+";
+
+pub const ERASE: &str = "\
+parity erase --rate P [--seed S]
+parity erase --burst L --gap G [--seed S]
+
+A lossy link: reads words of any length from standard input, a line for each,
+and writes them with some bits erased, as ?. What is erased already stays so. A
+line that is no word comes out as it was, and a line on standard error says why.
+
+  --rate P   each bit is lost with chance P, 0 to 1
+  --burst L  L bits in a row are lost, also across lines
+  --gap G    G bits on average stand between two bursts, at least one
+  --seed S   other losses for another number (1)
+
+Exit status: 0 done; 1 a stream cannot be read or written; 2 wrong arguments; 4
+some line is no word.
 ";
 
 pub const MEND: &str = "\

@@ -6,6 +6,7 @@ pub mod args;
 pub mod convert;
 pub mod curve;
 pub mod encode;
+pub mod erase;
 pub mod extend;
 pub mod fault;
 pub mod files;
@@ -54,13 +55,14 @@ pub fn run(arguments: Vec<OsString>) -> u8 {
 type Command = fn(Args) -> Result<u8, Fault>;
 
 /// The commands: their names, and what their `--help` says.
-const COMMANDS: [(&str, Command, &str); 8] = [
+const COMMANDS: [(&str, Command, &str); 9] = [
     ("convert", convert::run, help::CONVERT),
     ("inspect", inspect::run, help::INSPECT),
     ("extend", extend::run, help::EXTEND),
     ("encode", encode::run, help::ENCODE),
     ("message", message::run, help::MESSAGE),
     ("verify", verify::run, help::VERIFY),
+    ("erase", erase::run, help::ERASE),
     ("mend", mend::run, help::MEND),
     ("curve", curve::run, help::CURVE),
 ];

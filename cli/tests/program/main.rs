@@ -23,6 +23,7 @@ mod curves;
 mod formats;
 mod golden;
 mod lines;
+mod links;
 mod mutations;
 mod outputs;
 mod refusals;

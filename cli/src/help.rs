@@ -13,6 +13,7 @@ calls.
   parity verify FILE          whether words are codewords
   parity erase --rate P       a lossy link for words
   parity mend FILE            mends words with erased bits
+  parity soft FILE            min-sum rounds on words of soft bits
   parity curve FILE --out SVG the share of bits left over the erasure rate
   parity COMMAND --help       the options of a command
   parity --version
@@ -158,6 +159,28 @@ the further ones counted.
 
 Exit status: 0 done; 1 FILE or a stream cannot be read, written or taken; 2
 wrong arguments; 3 some word contradicts the checks; 4 some line is no word.
+";
+
+pub const SOFT: &str = "\
+parity soft FILE [--by given|extended] [--rounds R] [--hard] [--from FORMAT]
+
+Reads words from standard input, a line of n values for each, with blanks, tabs
+or commas between: 0 or 1 for a sure bit, ? for an erased one, and any other
+decimal number for a soft one, which favours 0 when positive (0.0, 1.0 and -1
+are soft). A line of 0, 1 and ? needs no blanks. Each word goes through min-sum
+rounds, and its n results are written in the same form; floats read back to the
+same bits.
+
+  --by extended  with the orthogonalised matrix, its added bits erased (given)
+  --rounds R     1 to 512 rounds (50)
+  --hard         results as 0, 1 and ? without blanks; a soft zero as ?
+
+A line that is no word comes out as it was, and a line on standard error says
+why: also one with a number that is not finite or above 1048576 in magnitude.
+Places in a line are counted from 0.
+
+Exit status: 0 done; 1 FILE or a stream cannot be read, written or taken; 2
+wrong arguments; 4 some line is no word.
 ";
 
 pub const CURVE: &str = "\

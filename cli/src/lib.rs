@@ -25,6 +25,7 @@ pub mod random;
 pub mod record;
 pub mod remarks;
 pub mod replace;
+pub mod soft;
 pub mod svg;
 pub mod text;
 pub mod verify;
@@ -55,7 +56,7 @@ pub fn run(arguments: Vec<OsString>) -> u8 {
 type Command = fn(Args) -> Result<u8, Fault>;
 
 /// The commands: their names, and what their `--help` says.
-const COMMANDS: [(&str, Command, &str); 9] = [
+const COMMANDS: [(&str, Command, &str); 10] = [
     ("convert", convert::run, help::CONVERT),
     ("inspect", inspect::run, help::INSPECT),
     ("extend", extend::run, help::EXTEND),
@@ -64,6 +65,7 @@ const COMMANDS: [(&str, Command, &str); 9] = [
     ("verify", verify::run, help::VERIFY),
     ("erase", erase::run, help::ERASE),
     ("mend", mend::run, help::MEND),
+    ("soft", soft::run, help::SOFT),
     ("curve", curve::run, help::CURVE),
 ];
 

@@ -3,6 +3,9 @@
 
 // The model is written from the papers alone; not all of it is needed here.
 #[allow(dead_code)]
+#[path = "../../../tests/outside/src/cases.rs"]
+mod cases;
+#[allow(dead_code)]
 #[path = "../../../tests/outside/src/elimination.rs"]
 mod elimination;
 #[allow(dead_code)]
@@ -27,6 +30,7 @@ mod links;
 mod mutations;
 mod outputs;
 mod refusals;
+mod soft;
 mod streams;
 mod stumbles;
 mod support;

@@ -45,6 +45,11 @@ impl Fault {
         Fault { status: crate::REFUSED, what: format!("{name}: {what}") }
     }
 
+    /// What the program found and the library's answer do not go together.
+    pub fn disagreement(name: &str, what: &str) -> Fault {
+        Fault { status: crate::DISAGREES, ..Fault::stream(name, what) }
+    }
+
     pub fn status(&self) -> u8 {
         self.status
     }

@@ -13,6 +13,7 @@ calls.
   parity verify FILE          whether words are codewords
   parity erase --rate P       a lossy link for words
   parity mend FILE            mends words with erased bits
+  parity explain FILE         why each erased bit is recovered or not
   parity soft FILE            min-sum rounds on words of soft bits
   parity curve FILE --out SVG the share of bits left over the erasure rate
   parity COMMAND --help       the options of a command
@@ -34,7 +35,7 @@ as a wrong argument. A file is written whole, or else the old one stays.
 
 Exit status: 0 done; 1 a file or stream that cannot be read, written or taken,
 one line on standard error says why; 2 wrong arguments; 3 and 4 as the commands
-say.
+say; 5 as explain says.
 ";
 
 pub const CONVERT: &str = "\
@@ -159,6 +160,31 @@ the further ones counted.
 
 Exit status: 0 done; 1 FILE or a stream cannot be read, written or taken; 2
 wrong arguments; 3 some word contradicts the checks; 4 some line is no word.
+";
+
+pub const EXPLAIN: &str = "\
+parity explain FILE [--by given|extended] [--json] [--from FORMAT]
+
+Reads words from standard input as mend does, and says of each erased bit why it
+has its value, or none:
+
+  turn 3: check 5, with bits 1 2    the check had this bit alone erased then
+  the sum of checks 0 4, with ..    the sum has this bit and received bits alone
+  unknown: a codeword ..            its ones are erased bits, so that either
+                                    value of the bit agrees with the checks
+
+Of a word that contradicts the checks it shows a sum of checks without an erased
+bit that is odd. Each of these is checked again before it is printed, and all of
+them together must leave the word that the library's determine leaves. With --by
+extended the checks and the added bits (from n on) of the orthogonalised matrix
+are used. Bits and checks are counted from 0.
+
+  --json     an object for each line, on a line of its own
+
+Exit status: 0 done; 1 FILE or a stream cannot be read, written or taken; 2
+wrong arguments; 3 some word contradicts the checks; 4 some line is no word; 5
+what was found and the library's answer do not go together, a fault of this
+program: one line says where, and the program ends there.
 ";
 
 pub const SOFT: &str = "\

@@ -3,10 +3,12 @@
 
 pub mod alist;
 pub mod args;
+pub mod certificates;
 pub mod convert;
 pub mod curve;
 pub mod encode;
 pub mod erase;
+pub mod explain;
 pub mod extend;
 pub mod fault;
 pub mod files;
@@ -41,6 +43,7 @@ pub const REFUSED: u8 = 1;
 pub const USAGE: u8 = 2;
 pub const IN_PART: u8 = 3;
 pub const NO_WORD: u8 = 4;
+pub const DISAGREES: u8 = 5;
 
 /// Runs the program with these arguments, its own name left out; answers the exit status.
 pub fn run(arguments: Vec<OsString>) -> u8 {
@@ -56,7 +59,7 @@ pub fn run(arguments: Vec<OsString>) -> u8 {
 type Command = fn(Args) -> Result<u8, Fault>;
 
 /// The commands: their names, and what their `--help` says.
-const COMMANDS: [(&str, Command, &str); 10] = [
+const COMMANDS: [(&str, Command, &str); 11] = [
     ("convert", convert::run, help::CONVERT),
     ("inspect", inspect::run, help::INSPECT),
     ("extend", extend::run, help::EXTEND),
@@ -65,6 +68,7 @@ const COMMANDS: [(&str, Command, &str); 10] = [
     ("verify", verify::run, help::VERIFY),
     ("erase", erase::run, help::ERASE),
     ("mend", mend::run, help::MEND),
+    ("explain", explain::run, help::EXPLAIN),
     ("soft", soft::run, help::SOFT),
     ("curve", curve::run, help::CURVE),
 ];

@@ -80,7 +80,8 @@ pub fn of_form(
     Ok(bad)
 }
 
-/// Gives every line, without its newline, to `answer`; what that puts for the lines at hand goes out before more is read.
+/// Gives every line, without its newline, to `answer`; what that puts for the lines at hand goes out before more is read,
+/// and before a fault ends it.
 fn stream(
     input: &mut impl Read,
     out: &mut impl Write,
@@ -100,7 +101,8 @@ fn stream(
         filled += more;
         let mut start = 0;
         while let Some(place) = buffer[seen..filled].iter().position(|&byte| byte == b'\n') {
-            answer(&buffer[start..seen + place], &mut answers)?;
+            answer(&buffer[start..seen + place], &mut answers)
+                .or_else(|fault| write(out, &mut answers).and(Err(fault)))?;
             (start, seen) = (seen + place + 1, seen + place + 1);
         }
         write(out, &mut answers)?;

@@ -1,5 +1,6 @@
 //! Files that a program apart computed from the papers' rules, and what the program writes.
 
+use crate::json;
 use crate::support::{examples, folder, golden, run, runs};
 use std::fs;
 use std::path::Path;
@@ -35,6 +36,7 @@ fn inspect() {
         assert_eq!(text.out, file(&golden().join(format!("{name}.inspect"))), "{}", text.text());
         let json = runs(&folder, &["inspect", "--json", &matrix]);
         assert_eq!(json.out, file(&golden().join(format!("{name}.json"))), "{}", json.text());
+        assert!(json::read(json.text().trim_end()).is_ok(), "{}", json.text());
     }
     let text = runs(&golden(), &["inspect", "case-c-extended.rec"]);
     assert_eq!(text.out, file(&golden().join("case-c-extended.inspect")), "{}", text.text());

@@ -6,6 +6,9 @@
 #[path = "../../../tests/outside/src/cases.rs"]
 mod cases;
 #[allow(dead_code)]
+#[path = "../../../tests/outside/src/codes.rs"]
+mod codes;
+#[allow(dead_code)]
 #[path = "../../../tests/outside/src/elimination.rs"]
 mod elimination;
 #[allow(dead_code)]
@@ -21,10 +24,19 @@ mod model;
 #[path = "../../../tests/outside/src/random.rs"]
 mod random;
 
+/// What `codes` says of a call that fails; none of those is made here.
+mod compare {
+    pub fn describe(lent: &crate::model::Lent) -> String {
+        format!("{lent:?}")
+    }
+}
+
 mod coding;
 mod curves;
+mod explaining;
 mod formats;
 mod golden;
+mod json;
 mod lines;
 mod links;
 mod mutations;

@@ -92,7 +92,7 @@ fn refused(extension: &str, cases: Vec<(Vec<u8>, &str)>) {
     for (bytes, due) in cases {
         fs::write(folder.join(&file), &bytes).expect("a file");
         let line = format!("parity: {file}{due}\n");
-        let commands: [&[&str]; 9] = [
+        let commands: [&[&str]; 10] = [
             &["convert", &file, "out.txt"],
             &["inspect", &file],
             &["extend", &file, "out.rec"],
@@ -100,6 +100,7 @@ fn refused(extension: &str, cases: Vec<(Vec<u8>, &str)>) {
             &["message", &file],
             &["verify", &file],
             &["mend", &file],
+            &["explain", &file],
             &["soft", &file],
             &["curve", &file, "--out", "out.svg", "--csv", "out.csv", "--words", "1"],
         ];

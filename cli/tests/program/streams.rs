@@ -9,7 +9,9 @@ fn help_and_version() {
     let here = folder("help");
     assert_eq!(runs(&here, &["--version"]).text(), "parity 0.1.0\n");
     let whole = runs(&here, &["--help"]);
-    for command in ["convert", "inspect", "extend", "encode", "message", "verify", "erase", "mend", "soft", "curve"] {
+    for command in
+        ["convert", "inspect", "extend", "encode", "message", "verify", "erase", "mend", "explain", "soft", "curve"]
+    {
         assert!(whole.text().contains(&format!("\n  parity {command} ")), "{command}");
         for args in [vec![command, "--help"], vec![command, "-h"], vec![command, "file", "--help"]] {
             let help = runs(&here, &args);
@@ -26,7 +28,7 @@ fn empty_input() {
     let mended = run(&golden(), &["mend", "case-c.alist"], b"");
     let said = "words 0, bits erased 0, recovered 0, left 0, contradictions 0, lines that are no words 0\n";
     assert_eq!((mended.status, mended.text(), mended.err.as_str()), (0, "", said));
-    for command in ["encode", "message", "verify", "soft"] {
+    for command in ["encode", "message", "verify", "explain", "soft"] {
         assert_eq!(runs(&golden(), &[command, "case-c.alist"]).text(), "");
     }
 }
@@ -76,7 +78,7 @@ fn unread(args: &[&str], input: fs::File) -> (Option<i32>, String) {
 fn broken_pipes() {
     let here = folder("pipes");
     fs::write(here.join("words"), "00000000000000000000000\n".repeat(100_000)).expect("a file");
-    for command in ["mend --by given", "mend", "message", "verify", "soft --rounds 1"] {
+    for command in ["mend --by given", "mend", "message", "verify", "explain", "soft --rounds 1"] {
         let mut args: Vec<&str> = command.split(' ').collect();
         args.push("case-l.alist");
         let (status, said) = unread(&args, fs::File::open(here.join("words")).expect("a file"));

@@ -7,6 +7,7 @@ calls.
 
   parity convert IN OUT       alist, 0/1 text and record, in any direction
   parity inspect FILE         weights, rank, rate, cycles, stopping sets
+  parity same A B             whether two matrices have the same code
   parity extend FILE OUT      orthogonalised, with its splits, as a record
   parity encode FILE          messages to codewords
   parity message FILE         codewords back to messages
@@ -69,6 +70,17 @@ orthogonalising goes on from them.
   --json     the same in one line of JSON, with the weight of each check and bit
 
 Exit status: 0 done; 1 FILE cannot be read or taken; 2 wrong arguments.
+";
+
+pub const SAME: &str = "\
+parity same A B [--from FORMAT]
+
+Says whether the codewords of the matrix A are those of B. Where they are not it
+shows a word that is a codeword of one and none of the other. Of a record with
+splits the checks before its splits count, which have the same code.
+
+Exit status: 0 the same code; 1 A or B cannot be read or taken; 2 wrong
+arguments; 3 not the same code.
 ";
 
 pub const EXTEND: &str = "\

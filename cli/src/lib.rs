@@ -27,6 +27,7 @@ pub mod random;
 pub mod record;
 pub mod remarks;
 pub mod replace;
+pub mod same;
 pub mod soft;
 pub mod svg;
 pub mod text;
@@ -59,9 +60,10 @@ pub fn run(arguments: Vec<OsString>) -> u8 {
 type Command = fn(Args) -> Result<u8, Fault>;
 
 /// The commands: their names, and what their `--help` says.
-const COMMANDS: [(&str, Command, &str); 11] = [
+const COMMANDS: [(&str, Command, &str); 12] = [
     ("convert", convert::run, help::CONVERT),
     ("inspect", inspect::run, help::INSPECT),
+    ("same", same::run, help::SAME),
     ("extend", extend::run, help::EXTEND),
     ("encode", encode::run, help::ENCODE),
     ("message", message::run, help::MESSAGE),

@@ -42,6 +42,7 @@ mod links;
 mod mutations;
 mod outputs;
 mod refusals;
+mod same;
 mod soft;
 mod streams;
 mod stumbles;

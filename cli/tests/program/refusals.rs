@@ -92,9 +92,10 @@ fn refused(extension: &str, cases: Vec<(Vec<u8>, &str)>) {
     for (bytes, due) in cases {
         fs::write(folder.join(&file), &bytes).expect("a file");
         let line = format!("parity: {file}{due}\n");
-        let commands: [&[&str]; 10] = [
+        let commands: [&[&str]; 11] = [
             &["convert", &file, "out.txt"],
             &["inspect", &file],
+            &["same", &file, &file],
             &["extend", &file, "out.rec"],
             &["encode", &file],
             &["message", &file],

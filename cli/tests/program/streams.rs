@@ -9,9 +9,10 @@ fn help_and_version() {
     let here = folder("help");
     assert_eq!(runs(&here, &["--version"]).text(), "parity 0.1.0\n");
     let whole = runs(&here, &["--help"]);
-    for command in
-        ["convert", "inspect", "extend", "encode", "message", "verify", "erase", "mend", "explain", "soft", "curve"]
-    {
+    for command in [
+        "convert", "inspect", "same", "extend", "encode", "message", "verify", "erase", "mend", "explain", "soft",
+        "curve",
+    ] {
         assert!(whole.text().contains(&format!("\n  parity {command} ")), "{command}");
         for args in [vec![command, "--help"], vec![command, "-h"], vec![command, "file", "--help"]] {
             let help = runs(&here, &args);

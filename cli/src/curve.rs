@@ -10,7 +10,6 @@ use crate::progress;
 use crate::random::Random;
 use crate::svg;
 use parity::Refusal;
-use std::path::Path;
 use std::sync::atomic::{AtomicBool, AtomicU64, Ordering};
 use std::thread;
 
@@ -225,7 +224,7 @@ pub fn run(mut args: Args) -> Result<u8, Fault> {
     let setup = Setup::new(&files::read(&path, from)?).map_err(refused)?;
     let threads = thread::available_parallelism().map_or(1, |cores| cores.get());
     let points = measure(&setup, plan, threads).map_err(refused)?;
-    let name = files::name(Path::new(path.file_name().unwrap_or(path.as_os_str())));
+    let name = files::title(&path);
     files::write(&out, svg::draw(&picture(&name, &setup, plan, &points)).as_bytes())?;
     if let Some(table) = table {
         files::write(&table, csv(&setup, &points).as_bytes())?;

@@ -65,6 +65,14 @@ pub fn name(path: &Path) -> String {
     }
 }
 
+/// What an input is called in a picture: the file without its folder.
+pub fn title(path: &Path) -> String {
+    match path.file_name() {
+        Some(file) if !is_stream(path) => file.to_string_lossy().into_owned(),
+        _ => name(path),
+    }
+}
+
 /// The matrix of a file, in the format named or that of its extension.
 pub fn read(path: &Path, named: Option<Format>) -> Result<Matrix, Fault> {
     let input = open(path)?;

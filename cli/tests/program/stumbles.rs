@@ -50,10 +50,10 @@ fn streams() {
     assert!(drawn.text().starts_with("<svg ") && drawn.text().contains(">standard input<"), "{}", drawn.err);
     assert_eq!(fs::read_dir(&here).expect("a folder").count(), 0, "no file is called -");
     fs::write(here.join("-"), &alist).expect("a file");
-    assert_eq!(
-        runs(&here, &["inspect", "./-", "--from", "alist"]).text().lines().next(),
-        Some(&*format!("{:25}./-", "file"))
-    );
+    let first = format!("{:25}./-", "file");
+    assert_eq!(runs(&here, &["inspect", "./-", "--from", "alist"]).text().lines().next(), Some(first.as_str()));
+    let drawn = runs(&here, &["curve", "./-", "--from", "alist", "--words", "1", "--out", "/dev/stdout"]);
+    assert!(drawn.text().contains(">-<"), "{}", drawn.text());
     let mut wrong = alist;
     wrong[0] = b'x';
     let due = "standard input:1: 'x' is no number that can be taken";

@@ -29,6 +29,10 @@ fn members(set: &Set) -> Vec<usize> {
     (0..512).filter(|&member| has(set, member)).collect()
 }
 
+fn weight(set: &Set) -> u32 {
+    set.iter().map(|word| word.count_ones()).sum()
+}
+
 /// Why an erased bit has its value, or none.
 #[derive(Clone, PartialEq, Eq, Debug)]
 pub enum Reason {
@@ -54,11 +58,19 @@ pub enum Explanation {
 }
 
 /// A sum of checks: which ones, which bits are in it, and what its received bits sum to.
-#[derive(Clone)]
+#[derive(Clone, Default)]
 struct Sum {
     checks: Set,
     bits: Set,
     odd: bool,
+}
+
+impl Sum {
+    fn add(&mut self, other: &Sum) {
+        add(&mut self.checks, &other.checks);
+        add(&mut self.bits, &other.bits);
+        self.odd ^= other.odd;
+    }
 }
 
 /// Sums of checks, reduced: sum i has the erased bit `pivots[i]`, which no other sum has; those behind have no erased bit.
@@ -86,12 +98,44 @@ impl Reduced {
         let pivot = self.sums[done].clone();
         for (place, sum) in self.sums.iter_mut().enumerate() {
             if place != done && has(&sum.bits, bit) {
-                add(&mut sum.checks, &pivot.checks);
-                add(&mut sum.bits, &pivot.bits);
-                sum.odd ^= pivot.odd;
+                sum.add(&pivot);
             }
         }
         self.pivots.push(bit);
+    }
+
+    /// The sums without an erased bit.
+    fn spare(&self) -> &[Sum] {
+        &self.sums[self.pivots.len()..]
+    }
+
+    /// A sum that says the same of the erased bits by fewer checks, as far as adding a spare sum helps.
+    fn shortened(&self, mut sum: Sum) -> Sum {
+        let weight_with = |sum: &Sum, spare: &Sum| {
+            let mut checks = sum.checks;
+            add(&mut checks, &spare.checks);
+            weight(&checks)
+        };
+        while let Some(spare) =
+            self.spare().iter().filter(|spare| !spare.odd).min_by_key(|spare| weight_with(&sum, spare))
+        {
+            if weight_with(&sum, spare) >= weight(&sum.checks) {
+                break;
+            }
+            sum.add(spare);
+        }
+        sum
+    }
+
+    /// Codewords with ones at erased bits alone, one for each erased bit that is no pivot; all others are sums of them.
+    fn codewords(&self, erased: &[usize]) -> Vec<Set> {
+        let codeword = |&free: &usize| {
+            let mut ones = set_of(&[free]);
+            let sums = self.pivots.iter().zip(&self.sums);
+            sums.filter(|(_, sum)| has(&sum.bits, free)).for_each(|(&pivot, _)| turn(&mut ones, pivot));
+            ones
+        };
+        erased.iter().filter(|bit| !self.pivots.contains(bit)).map(codeword).collect()
     }
 }
 
@@ -104,13 +148,15 @@ fn parity_of(word: &[u8], bits: &[usize]) -> u8 {
 pub fn explain(matrix: &Matrix, word: &[u8]) -> Explanation {
     let erased: Vec<usize> = (0..word.len()).filter(|&bit| word[bit] == 2).collect();
     let reduced = Reduced::new(matrix, word, &erased);
-    if let Some(sum) = reduced.sums[reduced.pivots.len()..].iter().find(|sum| sum.odd) {
+    if let Some(sum) = reduced.spare().iter().filter(|sum| sum.odd).min_by_key(|sum| weight(&sum.checks)) {
+        let sum = reduced.shortened(sum.clone());
         return Explanation::Contradicting { checks: members(&sum.checks), with: members(&sum.bits) };
     }
     let mut reasons = peel(matrix, word);
     let mut open = set_of(&erased);
     reasons.iter().for_each(|(bit, _)| turn(&mut open, *bit));
-    reasons.extend(members(&open).into_iter().map(|bit| (bit, without_turn(&reduced, word, &erased, bit))));
+    let codewords = reduced.codewords(&erased);
+    reasons.extend(members(&open).into_iter().map(|bit| (bit, without_turn(&reduced, &codewords, word, bit))));
     Explanation::Agreeing(reasons)
 }
 
@@ -135,22 +181,15 @@ fn peel(matrix: &Matrix, word: &[u8]) -> Reasons {
     }
 }
 
-/// The reason of an erased bit that no check solved.
-fn without_turn(reduced: &Reduced, word: &[u8], erased: &[usize], bit: usize) -> Reason {
-    let Reduced { sums, pivots } = reduced;
-    let free = |sum: &Sum| erased.iter().copied().find(|&other| has(&sum.bits, other) && !pivots.contains(&other));
-    let pivot = pivots.iter().position(|&pivot| pivot == bit);
-    let free = match pivot.map(|place| (&sums[place], free(&sums[place]))) {
-        Some((sum, None)) => {
-            let with: Vec<usize> = members(&sum.bits).into_iter().filter(|&other| other != bit).collect();
-            return Reason::Summed { checks: members(&sum.checks), value: parity_of(word, &with), with };
-        }
-        Some((_, Some(free))) => free,
-        None => bit,
-    };
-    let mut ones = set_of(&[free]);
-    (0..pivots.len()).filter(|&place| has(&sums[place].bits, free)).for_each(|place| turn(&mut ones, pivots[place]));
-    Reason::Unknown { ones: members(&ones) }
+/// The reason of an erased bit that no check solved: one in no codeword is a pivot, and alone in its sum.
+fn without_turn(reduced: &Reduced, codewords: &[Set], word: &[u8], bit: usize) -> Reason {
+    if let Some(ones) = codewords.iter().filter(|ones| has(ones, bit)).min_by_key(|ones| weight(ones)) {
+        return Reason::Unknown { ones: members(ones) };
+    }
+    let sum = reduced.pivots.iter().position(|&pivot| pivot == bit).map(|place| reduced.sums[place].clone());
+    let sum = reduced.shortened(sum.unwrap_or_default());
+    let with: Vec<usize> = members(&sum.bits).into_iter().filter(|&other| other != bit).collect();
+    Reason::Summed { checks: members(&sum.checks), value: parity_of(word, &with), with }
 }
 
 /// Checks every certificate by itself, from the matrix anew, and that together they say what the library's `determine`
@@ -161,8 +200,8 @@ pub fn check(matrix: &Matrix, word: &[u8], explanation: &Explanation) -> Result<
     match (explanation, answer) {
         (Explanation::Contradicting { checks, with }, Err(Refusal::Contradiction)) => {
             let received = with.iter().all(|&bit| word[bit] < 2);
-            let odd = sum_of(matrix, checks) == set_of(with) && parity_of(word, with) == 1;
-            holds(received && odd, "the contradiction")?;
+            let odd = sum_of(matrix, checks) == Some(set_of(with)) && parity_of(word, with) == 1;
+            holds(received && odd && rises(with), "the contradiction")?;
             Ok(word.to_vec())
         }
         (Explanation::Agreeing(reasons), Ok(_)) => {
@@ -170,7 +209,8 @@ pub fn check(matrix: &Matrix, word: &[u8], explanation: &Explanation) -> Result<
             holds(left == determined, "that determine leaves the same word")?;
             Ok(left)
         }
-        (_, answer) => Err(format!("the certificates say otherwise than determine, which answers {answer:?}")),
+        (_, Ok(_)) => Err("the certificates say a contradiction, and determine none".to_string()),
+        (_, Err(refusal)) => Err(format!("the certificates say otherwise than determine: {refusal}")),
     }
 }
 
@@ -204,19 +244,24 @@ fn follow(matrix: &Matrix, word: &[u8], reasons: &Reasons) -> Result<Vec<u8>, St
     Ok(left)
 }
 
-/// The bits that an odd number of these checks contain.
-fn sum_of(matrix: &Matrix, checks: &[usize]) -> Set {
+/// Whether numbers rise, so that each is there once.
+fn rises(numbers: &[usize]) -> bool {
+    numbers.is_sorted_by(|one, next| one < next)
+}
+
+/// The bits that an odd number of these checks contain, if the checks rise.
+fn sum_of(matrix: &Matrix, checks: &[usize]) -> Option<Set> {
     let mut sum = [0; 8];
     checks.iter().for_each(|&check| add(&mut sum, &matrix.row(check)));
-    sum
+    rises(checks).then_some(sum)
 }
 
 /// What the bit must be by the sum of the checks, if that has this bit and `with`, which are known, and no other.
 fn rests_on(matrix: &Matrix, checks: &[usize], bit: usize, with: &[usize], word: &[u8]) -> Option<u8> {
     let mut due = set_of(with);
     turn(&mut due, bit);
-    let known = with.iter().all(|&other| word[other] < 2);
-    (known && sum_of(matrix, checks) == due).then(|| parity_of(word, with))
+    let known = rises(with) && with.iter().all(|&other| word[other] < 2);
+    (known && sum_of(matrix, checks) == Some(due)).then(|| parity_of(word, with))
 }
 
 /// Whether the library verifies the word with these ones, and all of them are erased.
@@ -224,5 +269,5 @@ fn lies_inside(matrix: &Matrix, word: &[u8], ones: &[usize]) -> bool {
     let mut codeword = vec![0; word.len()];
     ones.iter().for_each(|&bit| codeword[bit] = 1);
     let verified = parity::verify(&matrix.words, matrix.n, matrix.m, matrix.k, &codeword);
-    verified == Ok(true) && ones.iter().all(|&bit| word[bit] == 2)
+    verified == Ok(true) && rises(ones) && ones.iter().all(|&bit| word[bit] == 2)
 }

@@ -39,10 +39,20 @@ fn due(a: &Matrix, b: &Matrix) -> bool {
     rank == elimination::rank(a) && rank == elimination::rank(b)
 }
 
+/// The same by the library's own calls, where the checks of both have room in one matrix.
+fn due_by_join(a: &Matrix, b: &Matrix) -> Option<bool> {
+    let mut words = vec![0; parity::WORDS];
+    let m = parity::join(&a.pack(), a.n, a.m, 0, &b.pack(), b.n, b.m, 0, &mut words).ok()?;
+    let rank = |matrix: &Matrix| parity::rank(&matrix.pack(), matrix.n, matrix.m, 0).expect("a rank");
+    let both = parity::rank(&words, a.n, m, 0).expect("a rank");
+    Some(both == rank(a) && both == rank(b))
+}
+
 /// Runs the program on `a` and `b`, and holds the word that it shows to both matrices.
 fn compare(here: &Path, files: [&str; 2], a: &Matrix, b: &Matrix) -> bool {
     let run = run(here, &["same", files[0], files[1]], b"");
     let same = due(a, b);
+    assert!(due_by_join(a, b).is_none_or(|by_join| by_join == same), "{a:?} {b:?}");
     assert_eq!((run.status, run.err.as_str()), (if same { 0 } else { 3 }, ""), "{a:?} {b:?}");
     if same {
         assert_eq!(run.text(), "the same code\n");

@@ -209,10 +209,15 @@ fn remarks() {
 }
 
 /// What a user mistypes, and what the program says.
-const MISTYPED: [(&[&str], &str); 17] = [
+const MISTYPED: [(&[&str], &str); 22] = [
     (&["mned", "case-c.alist"], "'mned' is no command; did you mean mend? see parity --help"),
     (&["inspcet"], "'inspcet' is no command; did you mean inspect? see parity --help"),
     (&["conv"], "'conv' is no command; did you mean convert? see parity --help"),
+    (&["explian", "case-c.alist"], "'explian' is no command; did you mean explain? see parity --help"),
+    (&["explain", "case-c.alist", "--jason"], "'--jason' is no option here; did you mean --json? see --help"),
+    (&["explain", "case-c.alist", "--by", "block"], "--by takes given or extended, and not 'block'"),
+    (&["encode", "case-c.alist", "--by", "given"], "'--by' is no option here; see --help"),
+    (&["verify"], "0 files are named, and 1 needed: FILE; see --help"),
     (&["mend", "case-c.alist", "--form", "alist"], "'--form' is no option here; did you mean --from? see --help"),
     (&["mend", "case-c.alist", "-by=given"], "'-by=given' is no option here; did you mean --by? see --help"),
     (&["mend", "--By", "given", "case-c.alist"], "'--By' is no option here; did you mean --by? see --help"),

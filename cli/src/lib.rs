@@ -1,5 +1,6 @@
 //! A companion for matrices from the field: files in three formats, and the commands of the program `parity`. What
-//! it says of a matrix or a word is the answer of a call of the proved library.
+//! it says of a matrix or a word is the answer of a call of the proved library; the certificates that it finds itself
+//! are checked, and held to the library's answer, before they are said.
 
 pub mod alist;
 pub mod args;

@@ -1,11 +1,16 @@
 /* Case C of the specification through the C interface. A collector makes one call,
  * parity_mend_block, which recovers the three erased bits of 2,2,2,1,1,1,1 in its
  * second stage. Then the same by hand: the given matrix leaves all three;
- * orthogonalised, it recovers them and the added bit.
+ * orthogonalised, it recovers them and the added bit. Last a word with a false bit,
+ * which is refused, and what the refusal says.
  *
  *   rt staticlib capi
  *   cc -Iinclude -o target/example examples/example.c target/staticlib/libcapi.a
  *   target/example
+ *
+ * or, where the library is installed,
+ *
+ *   cc -o example example.c $(pkg-config --cflags --libs parity)
  */
 #include "parity.h"
 #include <stdio.h>
@@ -22,7 +27,7 @@ static uint64_t words[PARITY_WORDS];
 
 static int refused(const char *call, uint32_t number)
 {
-    fprintf(stderr, "%s is refused %u\n", call, (unsigned)number);
+    fprintf(stderr, "%s is refused %u: %s\n", call, (unsigned)number, parity_refusal_text(number));
     return 1;
 }
 
@@ -57,7 +62,7 @@ int main(void)
     for (b = 0; b < sizeof received; b++)
         printf(" %u", (unsigned)received[b]);
     printf("\n");
-    if (values[0] != 2 || values[1] != 4)
+    if (values[0] != PARITY_STAGE_EXTENDED || values[1] != 4)
         return 1;
     for (b = 0; b < sizeof received; b++)
         if (received[b] != expected[b])
@@ -92,5 +97,10 @@ int main(void)
     for (b = 0; b < sizeof word; b++)
         if (word[b] != expected[b])
             return 1;
-    return 0;
+
+    word[3] = 1 - word[3];
+    number = parity_peel(words, PARITY_WORDS, n, m, k, word, sizeof word,
+                         values, PARITY_VALUES_MOST);
+    printf("a false bit: refused %u, %s\n", (unsigned)number, parity_refusal_text(number));
+    return number != PARITY_CONTRADICTION;
 }

@@ -1,6 +1,56 @@
-/* Parity checks for lossy sample streams: the C interface.
+/* Parity checks for lossy sample streams: the C interface, version 1.0.0.
  *
- * Link with libcapi.a (`rt staticlib capi` writes target/staticlib/libcapi.a).
+ * First its use, in order; then what holds for every call; then the calls.
+ *
+ * 1. COMPILE. Where the library is installed (`./install`):
+ *
+ *   cc program.c $(pkg-config --cflags --libs parity)
+ *
+ * In the repository, where `rt staticlib capi` writes target/staticlib/libcapi.a:
+ *
+ *   cc -Iinclude program.c target/staticlib/libcapi.a
+ *
+ * 2. LOAD. A matrix lives in memory of the caller, with n, m and k beside it. It
+ * comes from a record, or by its name from parity_house_code.
+ *
+ *   static uint64_t words[PARITY_WORDS];
+ *   uint64_t values[PARITY_VALUES_MOST];
+ *   uint32_t number;
+ *   size_t n, m, k;
+ *
+ *   number = parity_load(record, record_len, words, PARITY_WORDS,
+ *                        values, PARITY_VALUES_MOST);
+ *   if (number != PARITY_ANSWER)
+ *       return refused(number);
+ *   n = values[0], m = values[1], k = values[2];
+ *
+ * 3. MEND. A received word is a byte for each bit: 0, 1 or PARITY_ERASED.
+ *
+ *   number = parity_mend_block(words, PARITY_WORDS, n, m, k, word, n,
+ *                              values, PARITY_VALUES_MOST);
+ *
+ * Afterwards each bit that the checks determine is 0 or 1, and every other one is
+ * PARITY_ERASED still: nothing is guessed. values[0] is the last stage to run, a
+ * PARITY_STAGE_. The matrix has k = 0: of a record that carries splits they are
+ * taken back first, by parity_take_back. Where a lost packet takes the same bit of
+ * many words, one call of parity_mend_packets mends them all.
+ *
+ * 4. LOOK AT THE NUMBER. What does not fit is refused, by a number above 0.
+ *
+ *   fprintf(stderr, "refused %u: %s\n", (unsigned)number, parity_refusal_text(number));
+ *
+ * PARITY_CONTRADICTION says that some bit arrived false: no codeword agrees with
+ * the word, which is left as it was. Any other number is a fault of the program,
+ * or of the record that it was given; where it carries a place or a length, that
+ * is values[0].
+ *
+ * VERSIONS. PARITY_VERSION is that of this header and of the library beside it.
+ * Its first number grows with every change that a compiled program could notice: a
+ * function, macro or cause that is gone or means something else, another
+ * parameter, another answer or refusal for the same arguments. The shared
+ * library's name has this number. The second grows where something is added, and
+ * all that was there stays. The third grows where neither is so: speed, words of
+ * a text or a comment.
  *
  * THE MATRIX. There are n sent bits (1 to 120), m given checks (0 to 120) and
  * k added bits (0 to 392), each with one added check. Bits are numbered from 0:
@@ -50,6 +100,12 @@
 extern "C" {
 #endif
 
+/* The version of this header and of the library beside it. */
+#define PARITY_VERSION "1.0.0"
+#define PARITY_VERSION_MAJOR 1
+#define PARITY_VERSION_MINOR 0
+#define PARITY_VERSION_PATCH 0
+
 /* The number of words of every matrix slice. */
 #define PARITY_WORDS 4096
 /* The largest number of sent bits, of given checks and of added bits. */
@@ -72,6 +128,16 @@ extern "C" {
 #define PARITY_VALUES_MOST 5
 /* The most bytes of stack that a call needs. */
 #define PARITY_STACK_MOST 65536
+
+/* Bytes of a word beside 0 and 1: an erased bit, and in parity_min_sum a soft one. */
+#define PARITY_ERASED 2
+#define PARITY_SOFT 3
+
+/* The stages of parity_mend_block: peeling, peeling with the orthogonalised copy,
+ * elimination. */
+#define PARITY_STAGE_PEELING 1
+#define PARITY_STAGE_EXTENDED 2
+#define PARITY_STAGE_ELIMINATION 3
 
 /* An answer. */
 #define PARITY_ANSWER 0
@@ -133,6 +199,38 @@ extern "C" {
 #define PARITY_HOUSE_HAMMING_7 2
 #define PARITY_HOUSE_HAMMING_15 3
 #define PARITY_HOUSE_HAMMING_31 4
+
+/* The specification's words for a number that a call returned, in a text that stays. */
+static inline const char *parity_refusal_text(uint32_t number)
+{
+    switch (number) {
+    case PARITY_ANSWER: return "answer";
+    case PARITY_MATRIX_LENGTH: return "matrix slice is not 4,096 words";
+    case PARITY_RANGE: return "n, m or k outside its range";
+    case PARITY_ONE_OUTSIDE: return "a one at bit n+k or above, or check m+k or above";
+    case PARITY_RULE_A: return "rule A broken";
+    case PARITY_FAULTY_WORD: return "faulty record word";
+    case PARITY_RECORD_SHORT: return "lent record too short to write";
+    case PARITY_PAIR: return "u = v, or either at n+k or above";
+    case PARITY_SHARE: return "share below two";
+    case PARITY_FULL: return "k = 392 and a pair with share two or more is to be split";
+    case PARITY_LENGTH: return "a word, message or set of wrong length";
+    case PARITY_BYTE: return "a byte outside the values named";
+    case PARITY_CONTRADICTION: return "contradiction: checks that cannot be made even";
+    case PARITY_EXTENDED: return "k above 0";
+    case PARITY_NOTHING_TO_TAKE_BACK: return "k = 0: nothing to take back";
+    case PARITY_CANNOT_TAKE_BACK: return "taken back, the matrix would break rule A; or no splits made it";
+    case PARITY_UNKNOWN_NAME: return "no house code has the name";
+    case PARITY_SET_SIZE: return "a set size outside 1 to 4";
+    case PARITY_SETS_SHORT: return "slice for the sets too short";
+    case PARITY_DIFFERENT_LENGTHS: return "two matrices to be joined have different n";
+    case PARITY_TOO_MANY_CHECKS: return "joined, two matrices have more than 120 checks";
+    case PARITY_ROUNDS: return "rounds outside 1 to 512";
+    case PARITY_FLOAT: return "a soft float that is not finite or above 1,048,576 in magnitude";
+    case PARITY_LOW_ABOVE_HIGH: return "a low above its high";
+    default: return "no call returns this number";
+    }
+}
 
 /* Loads a record of any form.
  *
@@ -372,8 +470,8 @@ uint32_t parity_mend_packets(const uint64_t *words, size_t words_len,
  * words: read.
  * word: n bytes of 0, 1 or 2 (erased). An answer writes the bits at which all
  *   codewords that agree have one value; the others keep 2.
- * Values of the answer, 2: the last stage to run (1, 2 or 3), whether or not bits
- *   remain; how many bits the two peelings recovered together, at most 632, a bit
+ * Values of the answer, 2: the last stage to run (PARITY_STAGE_.., 1, 2 or 3),
+ *   whether or not bits remain; how many bits the two peelings recovered together, at most 632, a bit
  *   that both recovered being counted twice.
  * Refusals: 1, 2, 3, 4, 13, 10; 11 with the place in `word`; 12 exactly when no
  *   codeword agrees.

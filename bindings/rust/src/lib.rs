@@ -10,6 +10,9 @@ pub mod ffi;
 
 use std::slice::ChunksExact;
 
+/// The version of the C interface and of the library, as `include/parity.h` has it.
+pub const VERSION: &str = env!("CARGO_PKG_VERSION");
+
 /// The number of words of a matrix.
 pub const WORDS: usize = 4096;
 
@@ -30,6 +33,15 @@ pub const ROUNDS_MOST: usize = 512;
 pub const MESSAGES: usize = 65_536;
 /// The most other bits of a check in [`min_sum_range`].
 pub const OTHERS_MOST: usize = 511;
+
+/// Bytes of a word beside 0 and 1: an erased bit, and in [`min_sum`] a soft one.
+pub const ERASED: u8 = 2;
+pub const SOFT: u8 = 3;
+
+/// The stages of [`mend_block`]: peeling, peeling with the orthogonalised copy, elimination.
+pub const STAGE_PEELING: usize = 1;
+pub const STAGE_EXTENDED: usize = 2;
+pub const STAGE_ELIMINATION: usize = 3;
 
 /// The names of the house codes: the circulant of 23 bits, and the Hamming checks for lengths 3, 7, 15 and 31.
 pub const HOUSE_CIRCULANT: usize = 0;
@@ -118,6 +130,37 @@ impl Refusal {
             Refusal::Rounds => 22,
             Refusal::Float { .. } => 23,
             Refusal::LowAboveHigh { .. } => 24,
+        }
+    }
+}
+
+impl Refusal {
+    /// The words of the specification's table, as the requests left it; those of `parity_refusal_text` in C.
+    pub fn text(&self) -> &'static str {
+        match self {
+            Refusal::MatrixLength => "matrix slice is not 4,096 words",
+            Refusal::Range => "n, m or k outside its range",
+            Refusal::OneOutside => "a one at bit n+k or above, or check m+k or above",
+            Refusal::RuleA => "rule A broken",
+            Refusal::FaultyWord { .. } => "faulty record word",
+            Refusal::RecordShort { .. } => "lent record too short to write",
+            Refusal::Pair => "u = v, or either at n+k or above",
+            Refusal::Share { .. } => "share below two",
+            Refusal::Full | Refusal::FullAfter { .. } => "k = 392 and a pair with share two or more is to be split",
+            Refusal::Length => "a word, message or set of wrong length",
+            Refusal::Byte { .. } => "a byte outside the values named",
+            Refusal::Contradiction => "contradiction: checks that cannot be made even",
+            Refusal::Extended => "k above 0",
+            Refusal::NothingToTakeBack => "k = 0: nothing to take back",
+            Refusal::CannotTakeBack => "taken back, the matrix would break rule A; or no splits made it",
+            Refusal::UnknownName => "no house code has the name",
+            Refusal::SetSize => "a set size outside 1 to 4",
+            Refusal::SetsShort { .. } => "slice for the sets too short",
+            Refusal::DifferentLengths => "two matrices to be joined have different n",
+            Refusal::TooManyChecks => "joined, two matrices have more than 120 checks",
+            Refusal::Rounds => "rounds outside 1 to 512",
+            Refusal::Float { .. } => "a soft float that is not finite or above 1,048,576 in magnitude",
+            Refusal::LowAboveHigh { .. } => "a low above its high",
         }
     }
 }

@@ -1,5 +1,5 @@
 //! The C header, the wrapper's declarations and the crate's own functions are the same: functions, parameters in their
-//! order, types and results. The header's numbers are those of the wrapper.
+//! order, types and results. The header's numbers, version and texts are those of the wrapper, and of the Python package.
 
 use parity::Refusal;
 
@@ -37,8 +37,16 @@ fn rust_type(c: &str) -> String {
     }
 }
 
+/// The header without its one function that has a body.
+fn declarations(text: &str) -> String {
+    let start = text.find("static inline").unwrap();
+    let end = start + text[start..].find("\n}\n").unwrap() + 3;
+    assert_eq!(text.matches("static inline").count(), 1);
+    text[..start].to_string() + &text[end..]
+}
+
 fn of_header(text: &str) -> Vec<Declared> {
-    let text = without_comments(text);
+    let text = without_comments(&declarations(text));
     let mut all = Vec::new();
     for part in text.split(';').filter(|part| part.contains("parity_")) {
         let (head, parameters) = part.split_once('(').unwrap();
@@ -113,40 +121,47 @@ fn header_wrapper_and_crate_agree() {
     assert_eq!(header, of_crate(&text));
 }
 
+/// Every refusal, by its name in the header.
+const REFUSALS: [(&str, Refusal); 23] = [
+    ("MATRIX_LENGTH", Refusal::MatrixLength),
+    ("RANGE", Refusal::Range),
+    ("ONE_OUTSIDE", Refusal::OneOutside),
+    ("RULE_A", Refusal::RuleA),
+    ("FAULTY_WORD", Refusal::FaultyWord { place: 0 }),
+    ("RECORD_SHORT", Refusal::RecordShort { needed: 0 }),
+    ("PAIR", Refusal::Pair),
+    ("SHARE", Refusal::Share { share: 0 }),
+    ("FULL", Refusal::Full),
+    ("LENGTH", Refusal::Length),
+    ("BYTE", Refusal::Byte { place: 0 }),
+    ("CONTRADICTION", Refusal::Contradiction),
+    ("EXTENDED", Refusal::Extended),
+    ("NOTHING_TO_TAKE_BACK", Refusal::NothingToTakeBack),
+    ("CANNOT_TAKE_BACK", Refusal::CannotTakeBack),
+    ("UNKNOWN_NAME", Refusal::UnknownName),
+    ("SET_SIZE", Refusal::SetSize),
+    ("SETS_SHORT", Refusal::SetsShort { needed: 0 }),
+    ("DIFFERENT_LENGTHS", Refusal::DifferentLengths),
+    ("TOO_MANY_CHECKS", Refusal::TooManyChecks),
+    ("ROUNDS", Refusal::Rounds),
+    ("FLOAT", Refusal::Float { place: 0 }),
+    ("LOW_ABOVE_HIGH", Refusal::LowAboveHigh { place: 0 }),
+];
+
 #[test]
 fn header_has_the_numbers_of_the_wrapper() {
     let header = read("../../include/parity.h");
     let defined: Vec<(&str, usize)> = header
         .lines()
         .filter_map(|line| line.strip_prefix("#define PARITY_")?.split_once(' '))
+        .filter(|(_, value)| !value.starts_with('"'))
         .map(|(name, number)| (name, number.trim().parse().unwrap()))
         .collect();
-    let refusals = [
-        ("MATRIX_LENGTH", Refusal::MatrixLength),
-        ("RANGE", Refusal::Range),
-        ("ONE_OUTSIDE", Refusal::OneOutside),
-        ("RULE_A", Refusal::RuleA),
-        ("FAULTY_WORD", Refusal::FaultyWord { place: 0 }),
-        ("RECORD_SHORT", Refusal::RecordShort { needed: 0 }),
-        ("PAIR", Refusal::Pair),
-        ("SHARE", Refusal::Share { share: 0 }),
-        ("FULL", Refusal::Full),
-        ("LENGTH", Refusal::Length),
-        ("BYTE", Refusal::Byte { place: 0 }),
-        ("CONTRADICTION", Refusal::Contradiction),
-        ("EXTENDED", Refusal::Extended),
-        ("NOTHING_TO_TAKE_BACK", Refusal::NothingToTakeBack),
-        ("CANNOT_TAKE_BACK", Refusal::CannotTakeBack),
-        ("UNKNOWN_NAME", Refusal::UnknownName),
-        ("SET_SIZE", Refusal::SetSize),
-        ("SETS_SHORT", Refusal::SetsShort { needed: 0 }),
-        ("DIFFERENT_LENGTHS", Refusal::DifferentLengths),
-        ("TOO_MANY_CHECKS", Refusal::TooManyChecks),
-        ("ROUNDS", Refusal::Rounds),
-        ("FLOAT", Refusal::Float { place: 0 }),
-        ("LOW_ABOVE_HIGH", Refusal::LowAboveHigh { place: 0 }),
-    ];
+    let version: Vec<usize> = parity::VERSION.split('.').map(|number| number.parse().unwrap()).collect();
     let mut due = vec![
+        ("VERSION_MAJOR", version[0]),
+        ("VERSION_MINOR", version[1]),
+        ("VERSION_PATCH", version[2]),
         ("WORDS", parity::WORDS),
         ("SENT_MOST", 120),
         ("CHECKS_MOST", 120),
@@ -158,9 +173,14 @@ fn header_has_the_numbers_of_the_wrapper() {
         ("OTHERS_MOST", parity::OTHERS_MOST),
         ("VALUES_MOST", parity::VALUES_MOST),
         ("STACK_MOST", parity::STACK_MOST),
+        ("ERASED", usize::from(parity::ERASED)),
+        ("SOFT", usize::from(parity::SOFT)),
+        ("STAGE_PEELING", parity::STAGE_PEELING),
+        ("STAGE_EXTENDED", parity::STAGE_EXTENDED),
+        ("STAGE_ELIMINATION", parity::STAGE_ELIMINATION),
         ("ANSWER", 0),
     ];
-    due.extend(refusals.map(|(name, refusal)| (name, refusal.number() as usize)));
+    due.extend(REFUSALS.map(|(name, refusal)| (name, refusal.number() as usize)));
     due.extend([
         ("HOUSE_CIRCULANT", parity::HOUSE_CIRCULANT),
         ("HOUSE_HAMMING_3", parity::HOUSE_HAMMING_3),
@@ -169,4 +189,38 @@ fn header_has_the_numbers_of_the_wrapper() {
         ("HOUSE_HAMMING_31", parity::HOUSE_HAMMING_31),
     ]);
     assert_eq!(defined, due);
+}
+
+#[test]
+fn one_version() {
+    let header = read("../../include/parity.h");
+    let version = parity::VERSION;
+    assert!(header.contains(&format!("#define PARITY_VERSION \"{version}\"\n")));
+    assert!(header.lines().next().unwrap().ends_with(&format!("version {version}.")));
+    assert!(read("../python/parity/__init__.py").contains(&format!("__version__ = \"{version}\"\n")));
+    assert!(read("../../cli/Cargo.toml").contains(&format!("\nversion = \"{version}\"\n")));
+}
+
+/// The texts of the header stand in a `case` each, those of the Python package in a line `number: "text",` each.
+#[test]
+fn one_text_for_each_refusal() {
+    let header = read("../../include/parity.h");
+    let function = header.split_once("*parity_refusal_text").unwrap().1.split_once("\n}\n").unwrap().0;
+    let texts: Vec<(&str, &str)> = function
+        .lines()
+        .filter_map(|line| line.trim().strip_prefix("case PARITY_")?.split_once(": return \""))
+        .map(|(name, text)| (name, text.strip_suffix("\";").unwrap()))
+        .collect();
+    let mut due = vec![("ANSWER", "answer")];
+    due.extend(REFUSALS.iter().map(|(name, refusal)| (*name, refusal.text())));
+    assert_eq!(texts, due);
+
+    let python = read("../python/parity/refusals.py");
+    let lines: Vec<&str> =
+        python.split_once("TEXTS").unwrap().1.split_once("\n}\n").unwrap().0.lines().skip(1).collect();
+    let due = REFUSALS.iter().map(|(_, refusal)| format!("    {}: \"{}\",", refusal.number(), refusal.text()));
+    assert_eq!(lines, due.collect::<Vec<String>>());
+    for (name, refusal) in REFUSALS {
+        assert!(python.contains(&format!("    {name} = {}\n", refusal.number())), "{name}");
+    }
 }

@@ -7,7 +7,7 @@ use std::process::{Command, Stdio};
 #[test]
 fn help_and_version() {
     let here = folder("help");
-    assert_eq!(runs(&here, &["--version"]).text(), "parity 0.1.0\n");
+    assert_eq!(runs(&here, &["--version"]).text(), "parity 1.0.0\n");
     let whole = runs(&here, &["--help"]);
     for command in [
         "convert", "inspect", "same", "extend", "encode", "message", "verify", "erase", "mend", "explain", "soft",

@@ -66,6 +66,6 @@ def load() -> ctypes.CDLL:
             function.restype = ctypes.c_uint32
         return library
     raise ImportError(
-        f"the shared library {NAME} is missing ({'; '.join(faults)}); `bindings/make-shared` makes it, `./install` "
+        f"the shared library {NAME} is missing ({'; '.join(faults)}); `packaging/make-shared` makes it, `./install` "
         "installs it, and PARITY_LIBRARY may name the file"
     )

@@ -7,7 +7,7 @@
 //! An argument is `name=number` or a slice `name:type:length:place-value,..`, where a value is hexadecimal (of a float its
 //! bits) and places that are not named hold 0. Behind the answer stand the slices that the call may write, as they are then.
 
-use parity::{Held, Ranged, Refusal, MESSAGES, WORDS};
+use parity::{Held, MESSAGES, Ranged, Refusal, WORDS};
 
 /// Splitmix64.
 struct Random(u64);
@@ -410,7 +410,7 @@ fn soft(random: &mut Random) {
     let most = random.pick(&[2, 3]);
     let mut word = received(random, word, most);
     let mut floats: Vec<f32> = word.iter().map(|_| float(random)).collect();
-    let places = floats.iter_mut().zip(&word).filter(|(_, &byte)| byte == 3);
+    let places = floats.iter_mut().zip(&word).filter(|(_, byte)| **byte == 3);
     let whole = !random.once_in(4);
     places.filter(|_| whole).for_each(|(value, _)| *value = random.below(1001) as f32 / 16.0 - 20.0);
     let mut message_bytes = vec![0; if random.once_in(20) { 8 } else { MESSAGES }];

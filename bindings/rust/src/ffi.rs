@@ -1,9 +1,18 @@
 //! The declarations of `include/parity.h`. A slice is a pointer and then its length.
+//!
+//! ```
+//! let (words, mut values) = ([0u64; parity::WORDS], [0; parity::VALUES_MOST]);
+//! // The pointers and lengths are those of live slices.
+//! let number = unsafe {
+//!     parity::ffi::parity_rank(words.as_ptr(), words.len(), 7, 0, 0, values.as_mut_ptr(), values.len())
+//! };
+//! assert_eq!((number, values[0]), (0, 0));
+//! ```
 
 #![allow(clippy::too_many_arguments)]
 
 #[rustfmt::skip]
-extern "C" {
+unsafe extern "C" {
     pub fn parity_load(
         record: *const u32, record_len: usize,
         words: *mut u64, words_len: usize,

@@ -1,56 +1,204 @@
 //! Parity checks for lossy sample streams: slices in, Rust enums out.
 //!
-//! The matrix is lent as exactly [`WORDS`] words of 64 bits, with n, m and k beside it. `include/parity.h` says how
-//! a check's bits stand in them. Slices may have any length and numbers any value: what does not fit is refused. A call
-//! takes nothing from the heap and keeps no state, so that any number of threads may call at once.
+//! [`Matrix`] has a matrix in memory of its own, with the calls as methods:
+//!
+//! ```
+//! let matrix = parity::Matrix::house_code(parity::HOUSE_CIRCULANT)?;
+//! let mut word = matrix.encode(&[1, 0, 1, 1, 0, 1, 1, 1, 1, 0, 0, 1])?;
+//! let sent = word.clone();
+//! word[3..9].fill(parity::ERASED);
+//! matrix.mend(&mut word)?;
+//! assert_eq!(word, sent);
+//! # Ok::<(), parity::Refusal>(())
+//! ```
+//!
+//! The plain functions take memory that the caller lends: the matrix as exactly [`WORDS`] words of 64 bits, with n, m and k
+//! beside it. `include/parity.h` says how a check's bits stand in them. Slices may have any length and numbers any value: what
+//! does not fit is refused. A plain function takes nothing from the heap and keeps no state, so that any number of threads may
+//! call at once.
 
 #![allow(clippy::too_many_arguments)]
 
 pub mod ffi;
+mod matrix;
+
+pub use matrix::Matrix;
 
 use std::slice::ChunksExact;
 
 /// The version of the C interface and of the library, as `include/parity.h` has it.
+///
+/// ```
+/// assert!(parity::VERSION.starts_with("1."));
+/// ```
 pub const VERSION: &str = env!("CARGO_PKG_VERSION");
 
 /// The number of words of a matrix.
+///
+/// ```
+/// let mut words = [0; parity::WORDS];
+/// assert!(parity::house_code(parity::HOUSE_HAMMING_3, &mut words).is_ok());
+/// ```
 pub const WORDS: usize = 4096;
 
-/// The most words that [`write`] uses.
+/// The most words that [`write()`] uses.
+///
+/// ```
+/// let (mut words, mut record) = ([0; parity::WORDS], [0; parity::RECORD_MOST]);
+/// assert_eq!(parity::write(&words, 120, 120, 0, &mut record), Ok(122));
+/// ```
 pub const RECORD_MOST: usize = 14_914;
 
 /// The largest sets that [`stopping_sets`] lists.
+///
+/// ```
+/// let matrix = parity::Matrix::of_checks(4, &[])?;
+/// assert_eq!(matrix.stopping_sets(parity::SET_SIZE_MOST)?, [0, 1, 2, 3]);
+/// assert_eq!(matrix.stopping_sets(parity::SET_SIZE_MOST + 1), Err(parity::Refusal::SetSize));
+/// # Ok::<(), parity::Refusal>(())
+/// ```
 pub const SET_SIZE_MOST: usize = 4;
 
-/// The most values that a call carries.
+/// The most values that a call carries: the length of `values` in [`ffi`].
+///
+/// ```
+/// assert_eq!(parity::VALUES_MOST, 5);
+/// ```
 pub const VALUES_MOST: usize = 5;
 
 /// The most bytes of stack that a call needs.
+///
+/// ```
+/// let thread = std::thread::Builder::new().stack_size(4 * parity::STACK_MOST);
+/// let made = thread.spawn(|| parity::Matrix::house_code(0)?.rank()).unwrap();
+/// assert_eq!(made.join().unwrap(), Ok(11));
+/// ```
 pub const STACK_MOST: usize = 65_536;
 
-/// The most rounds of [`min_sum`], and the number of bytes and of floats that it needs for its messages.
+/// The most rounds of [`min_sum`].
+///
+/// ```
+/// let matrix = parity::Matrix::of_checks(1, &[])?;
+/// let mut bits = [parity::Bit::Erased];
+/// assert_eq!(matrix.min_sum(parity::ROUNDS_MOST, &mut bits), Ok(()));
+/// assert_eq!(matrix.min_sum(parity::ROUNDS_MOST + 1, &mut bits), Err(parity::Refusal::Rounds));
+/// # Ok::<(), parity::Refusal>(())
+/// ```
 pub const ROUNDS_MOST: usize = 512;
+
+/// The number of bytes and of floats that [`min_sum`] needs for its messages.
+///
+/// ```
+/// let (mut bytes, mut floats) = (vec![0; parity::MESSAGES], vec![0.0; parity::MESSAGES]);
+/// let words = [0; parity::WORDS];
+/// assert_eq!(parity::min_sum(&words, 1, 0, 0, 1, &mut [2], &mut [0.0], &mut bytes, &mut floats), Ok(()));
+/// ```
 pub const MESSAGES: usize = 65_536;
+
 /// The most other bits of a check in [`min_sum_range`].
+///
+/// ```
+/// let ends = [1.0; parity::OTHERS_MOST + 1];
+/// assert!(parity::min_sum_range(&ends[1..], &ends[1..]).is_ok());
+/// assert_eq!(parity::min_sum_range(&ends, &ends), Err(parity::Refusal::Length));
+/// ```
 pub const OTHERS_MOST: usize = 511;
 
-/// Bytes of a word beside 0 and 1: an erased bit, and in [`min_sum`] a soft one.
+/// The byte of an erased bit.
+///
+/// ```
+/// let mut word = [parity::ERASED, 1];
+/// parity::Matrix::of_checks(2, &[&[0, 1]])?.mend(&mut word)?;
+/// assert_eq!(word, [1, 1]);
+/// # Ok::<(), parity::Refusal>(())
+/// ```
 pub const ERASED: u8 = 2;
+
+/// The byte of a soft bit, in [`min_sum`].
+///
+/// ```
+/// assert_eq!(parity::Bit::Soft(0.5).parts(), (parity::SOFT, 0.5));
+/// ```
 pub const SOFT: u8 = 3;
 
-/// The stages of [`mend_block`]: peeling, peeling with the orthogonalised copy, elimination.
+/// The first stage of [`mend_block`]: peeling.
+///
+/// ```
+/// let matrix = parity::Matrix::of_checks(2, &[&[0, 1]])?;
+/// assert_eq!(matrix.mend(&mut [2, 1])?.stage, parity::STAGE_PEELING);
+/// # Ok::<(), parity::Refusal>(())
+/// ```
 pub const STAGE_PEELING: usize = 1;
+
+/// The second stage of [`mend_block`]: peeling with the orthogonalised copy.
+///
+/// ```
+/// let matrix = parity::Matrix::of_checks(7, &[&[0, 1, 2, 3], &[0, 1, 4, 5], &[0, 2, 6]])?;
+/// assert_eq!(matrix.mend(&mut [2, 2, 2, 1, 1, 1, 1])?.stage, parity::STAGE_EXTENDED);
+/// # Ok::<(), parity::Refusal>(())
+/// ```
 pub const STAGE_EXTENDED: usize = 2;
+
+/// The third stage of [`mend_block`]: elimination.
+///
+/// ```
+/// let matrix = parity::Matrix::of_checks(2, &[&[0, 1]])?;
+/// assert_eq!(matrix.mend(&mut [2, 2])?.stage, parity::STAGE_ELIMINATION);
+/// # Ok::<(), parity::Refusal>(())
+/// ```
 pub const STAGE_ELIMINATION: usize = 3;
 
-/// The names of the house codes: the circulant of 23 bits, and the Hamming checks for lengths 3, 7, 15 and 31.
+/// The name of the house code of case L, the circulant of 23 bits.
+///
+/// ```
+/// assert_eq!(parity::Matrix::house_code(parity::HOUSE_CIRCULANT)?.bits_of(0), [0, 1, 2, 3, 4, 7, 10, 12]);
+/// # Ok::<(), parity::Refusal>(())
+/// ```
 pub const HOUSE_CIRCULANT: usize = 0;
+
+/// The name of the Hamming checks for length 3.
+///
+/// ```
+/// assert_eq!(parity::Matrix::house_code(parity::HOUSE_HAMMING_3)?.n(), 3);
+/// # Ok::<(), parity::Refusal>(())
+/// ```
 pub const HOUSE_HAMMING_3: usize = 1;
+
+/// The name of the Hamming checks for length 7.
+///
+/// ```
+/// assert_eq!(parity::Matrix::house_code(parity::HOUSE_HAMMING_7)?.n(), 7);
+/// # Ok::<(), parity::Refusal>(())
+/// ```
 pub const HOUSE_HAMMING_7: usize = 2;
+
+/// The name of the Hamming checks for length 15.
+///
+/// ```
+/// assert_eq!(parity::Matrix::house_code(parity::HOUSE_HAMMING_15)?.n(), 15);
+/// # Ok::<(), parity::Refusal>(())
+/// ```
 pub const HOUSE_HAMMING_15: usize = 3;
+
+/// The name of the Hamming checks for length 31.
+///
+/// ```
+/// assert_eq!(parity::Matrix::house_code(parity::HOUSE_HAMMING_31)?.n(), 31);
+/// # Ok::<(), parity::Refusal>(())
+/// ```
 pub const HOUSE_HAMMING_31: usize = 4;
 
 /// Why a call was refused, with the values that the refusal carries.
+///
+/// ```
+/// use parity::{Matrix, Refusal};
+///
+/// let matrix = Matrix::of_checks(2, &[&[0, 1]])?;
+/// let refusal = matrix.verify(&[0, 9]).unwrap_err();
+/// assert_eq!(refusal, Refusal::Byte { place: 1 });
+/// assert_eq!(refusal.to_string(), "refusal 11: a byte outside the values named at place 1");
+/// # Ok::<(), Refusal>(())
+/// ```
 #[derive(Clone, Copy, PartialEq, Eq, Debug)]
 pub enum Refusal {
     /// 1: the matrix slice is not 4,096 words.
@@ -105,6 +253,10 @@ pub enum Refusal {
 
 impl Refusal {
     /// The cause's number.
+    ///
+    /// ```
+    /// assert_eq!(parity::Refusal::Contradiction.number(), 12);
+    /// ```
     pub fn number(&self) -> u32 {
         match self {
             Refusal::MatrixLength => 1,
@@ -136,6 +288,10 @@ impl Refusal {
 
 impl Refusal {
     /// The words of the specification's table, as the requests left it; those of `parity_refusal_text` in C.
+    ///
+    /// ```
+    /// assert_eq!(parity::Refusal::Byte { place: 3 }.text(), "a byte outside the values named");
+    /// ```
     pub fn text(&self) -> &'static str {
         match self {
             Refusal::MatrixLength => "matrix slice is not 4,096 words",
@@ -206,6 +362,12 @@ impl std::fmt::Display for Refusal {
 impl std::error::Error for Refusal {}
 
 /// The answer of [`load`].
+///
+/// ```
+/// let mut words = [0; parity::WORDS];
+/// let loaded = parity::load(&[0x1000_0005, 0xF000_0000], &mut words);
+/// assert_eq!(loaded, Ok(parity::Loaded { n: 5, m: 0, k: 0 }));
+/// ```
 #[derive(Clone, Copy, PartialEq, Eq, Debug)]
 pub struct Loaded {
     pub n: usize,
@@ -214,6 +376,11 @@ pub struct Loaded {
 }
 
 /// The answer of [`house_code`].
+///
+/// ```
+/// let mut words = [0; parity::WORDS];
+/// assert_eq!(parity::house_code(3, &mut words), Ok(parity::HouseCode { n: 15, m: 4 }));
+/// ```
 #[derive(Clone, Copy, PartialEq, Eq, Debug)]
 pub struct HouseCode {
     pub n: usize,
@@ -221,6 +388,12 @@ pub struct HouseCode {
 }
 
 /// The lowest and the highest check that hold a pair.
+///
+/// ```
+/// let matrix = parity::Matrix::of_checks(2, &[&[0, 1], &[1], &[0, 1]])?;
+/// assert_eq!(matrix.share(0, 1)?.held, Some(parity::Held { lowest: 0, highest: 2 }));
+/// # Ok::<(), parity::Refusal>(())
+/// ```
 #[derive(Clone, Copy, PartialEq, Eq, Debug)]
 pub struct Held {
     pub lowest: usize,
@@ -228,6 +401,12 @@ pub struct Held {
 }
 
 /// The answer of [`share`]: the share, and the checks that hold the pair, none if it is 0.
+///
+/// ```
+/// let matrix = parity::Matrix::of_checks(2, &[&[0], &[1]])?;
+/// assert_eq!(matrix.share(0, 1)?, parity::Shared { share: 0, held: None });
+/// # Ok::<(), parity::Refusal>(())
+/// ```
 #[derive(Clone, Copy, PartialEq, Eq, Debug)]
 pub struct Shared {
     pub share: u64,
@@ -235,6 +414,14 @@ pub struct Shared {
 }
 
 /// The answer of [`split`]: the share that the pair had, the new k, and the checks that held the pair.
+///
+/// ```
+/// use parity::{Held, Matrix, Split};
+///
+/// let mut matrix = Matrix::of_checks(2, &[&[0, 1], &[0, 1]])?;
+/// assert_eq!(matrix.split(0, 1)?, Split { share: 2, k: 1, held: Held { lowest: 0, highest: 1 } });
+/// # Ok::<(), parity::Refusal>(())
+/// ```
 #[derive(Clone, Copy, PartialEq, Eq, Debug)]
 pub struct Split {
     pub share: u64,
@@ -243,6 +430,13 @@ pub struct Split {
 }
 
 /// The answer of [`take_back`]: the number of other checks that contained the newest added bit, and the new k.
+///
+/// ```
+/// let mut matrix = parity::Matrix::of_checks(2, &[&[0, 1], &[0, 1]])?;
+/// matrix.split(0, 1)?;
+/// assert_eq!(matrix.take_back()?, parity::TakenBack { share: 2, k: 0 });
+/// # Ok::<(), parity::Refusal>(())
+/// ```
 #[derive(Clone, Copy, PartialEq, Eq, Debug)]
 pub struct TakenBack {
     pub share: u64,
@@ -251,6 +445,13 @@ pub struct TakenBack {
 
 /// The answer of [`orthogonalise`]: the splits made, the sum of s(s-1)/2 over their shares, k, and the checks that held the
 /// pair of the final split, none if there was none.
+///
+/// ```
+/// let mut matrix = parity::Matrix::of_checks(2, &[&[0, 1]])?;
+/// let made = parity::Orthogonalised { splits: 0, sum: 0, k: 0, held: None };
+/// assert_eq!(matrix.orthogonalise()?, made);
+/// # Ok::<(), parity::Refusal>(())
+/// ```
 #[derive(Clone, Copy, PartialEq, Eq, Debug)]
 pub struct Orthogonalised {
     pub splits: u64,
@@ -261,6 +462,13 @@ pub struct Orthogonalised {
 
 /// The answer of [`peel`]: how many sent and how many added bits were recovered (2 before and not afterwards), and how
 /// many of each are left (2 afterwards).
+///
+/// ```
+/// let matrix = parity::Matrix::of_checks(3, &[&[0, 1]])?;
+/// let peeled = matrix.peel(&mut [2, 0, 2])?;
+/// assert_eq!(peeled, parity::Peeled { recovered_sent: 1, recovered_added: 0, left_sent: 1, left_added: 0 });
+/// # Ok::<(), parity::Refusal>(())
+/// ```
 #[derive(Clone, Copy, PartialEq, Eq, Debug)]
 pub struct Peeled {
     pub recovered_sent: usize,
@@ -271,6 +479,13 @@ pub struct Peeled {
 
 /// The answer of [`determine`]: how many sent and how many added bits were recovered, peeled and eliminated ones together,
 /// and how many of each are left.
+///
+/// ```
+/// let matrix = parity::Matrix::of_checks(2, &[&[0, 1], &[1]])?;
+/// let determined = matrix.determine(&mut [2, 2])?;
+/// assert_eq!(determined, parity::Determined { recovered_sent: 2, recovered_added: 0, left_sent: 0, left_added: 0 });
+/// # Ok::<(), parity::Refusal>(())
+/// ```
 #[derive(Clone, Copy, PartialEq, Eq, Debug)]
 pub struct Determined {
     pub recovered_sent: usize,
@@ -281,6 +496,13 @@ pub struct Determined {
 
 /// The answer of [`mend_packets`]: how many sent and how many added packets were recovered, how many of each are left, and how
 /// many lanes no codeword agrees with.
+///
+/// ```
+/// let matrix = parity::Matrix::of_checks(2, &[&[0, 1]])?;
+/// let mended = matrix.mend_packets(&mut [1, 0], &mut [0, 44], &mut [0])?;
+/// assert_eq!((mended.recovered_sent, mended.left_sent, mended.odd_lanes), (1, 0, 0));
+/// # Ok::<(), parity::Refusal>(())
+/// ```
 #[derive(Clone, Copy, PartialEq, Eq, Debug)]
 pub struct MendedPackets {
     pub recovered_sent: usize,
@@ -292,6 +514,12 @@ pub struct MendedPackets {
 
 /// The answer of [`mend_block`]: the last stage to run (1 peeling, 2 peeling with the orthogonalised copy, 3 elimination), and
 /// how many bits the two peelings recovered together.
+///
+/// ```
+/// let matrix = parity::Matrix::of_checks(2, &[&[0, 1]])?;
+/// assert_eq!(matrix.mend(&mut [2, 1])?, parity::Mended { stage: parity::STAGE_PEELING, recovered: 1 });
+/// # Ok::<(), parity::Refusal>(())
+/// ```
 #[derive(Clone, Copy, PartialEq, Eq, Debug)]
 pub struct Mended {
     pub stage: usize,
@@ -299,6 +527,13 @@ pub struct Mended {
 }
 
 /// A bit as it was received or as it results: sure, soft with a value whose sign favours 0 when positive, or erased.
+///
+/// ```
+/// use parity::Bit;
+///
+/// let word = [Bit::Sure(false), Bit::Soft(-3.0), Bit::Erased];
+/// assert_eq!(word.map(|bit| bit.parts().0), [0, 3, 2]);
+/// ```
 #[derive(Clone, Copy, PartialEq, Debug)]
 pub enum Bit {
     Sure(bool),
@@ -308,6 +543,10 @@ pub enum Bit {
 
 impl Bit {
     /// The byte and the float of a bit in slices lent to [`min_sum`].
+    ///
+    /// ```
+    /// assert_eq!(parity::Bit::Sure(true).parts(), (1, 0.0));
+    /// ```
     pub fn parts(self) -> (u8, f32) {
         match self {
             Bit::Sure(one) => (one as u8, 0.0),
@@ -317,6 +556,13 @@ impl Bit {
     }
 
     /// The bit of a byte and a float; the float is read only for byte 3. None for a byte above 3.
+    ///
+    /// ```
+    /// use parity::Bit;
+    ///
+    /// assert_eq!(Bit::of(2, 7.5), Some(Bit::Erased));
+    /// assert_eq!(Bit::of(4, 0.0), None);
+    /// ```
     pub fn of(byte: u8, float: f32) -> Option<Bit> {
         match byte {
             0 | 1 => Some(Bit::Sure(byte == 1)),
@@ -328,6 +574,10 @@ impl Bit {
 }
 
 /// What a check sends, where its other bits have soft values known within a range.
+///
+/// ```
+/// assert_eq!(parity::min_sum_range(&[], &[]), Ok(parity::Ranged::SureZero));
+/// ```
 #[derive(Clone, Copy, PartialEq, Debug)]
 pub enum Ranged {
     /// There are no other bits: sure 0.
@@ -376,6 +626,13 @@ fn reply(number: u32, values: Values) -> Result<Values, Refusal> {
 }
 
 /// Loads a record, of any form, and performs its splits; writes all words.
+///
+/// ```
+/// let record = [0x1000_0102, 0x2000_0002, 0x3000_0000, 0x3000_0001, 0xF000_0000];
+/// let mut words = [0; parity::WORDS];
+/// assert_eq!(parity::load(&record, &mut words), Ok(parity::Loaded { n: 2, m: 1, k: 0 }));
+/// assert_eq!(words[0], 0b11);
+/// ```
 pub fn load(record: &[u32], words: &mut [u64]) -> Result<Loaded, Refusal> {
     let mut values: Values = [0; VALUES_MOST];
     // The pointers and lengths are those of live slices, and the written ones are borrowed alone; so in each call below.
@@ -394,6 +651,15 @@ pub fn load(record: &[u32], words: &mut [u64]) -> Result<Loaded, Refusal> {
 
 /// Writes a matrix as a record, of the second form where k = 0 and else of the third; answers the number of words used, and
 /// leaves the others.
+///
+/// ```
+/// // Checks {0,1,2,3}, {0,1,4,5} and {0,2,6} of 7 bits.
+/// let mut words = vec![0; parity::WORDS];
+/// (words[0], words[8], words[16]) = (0b000_1111, 0b011_0011, 0b100_0101);
+/// let mut record = [0; 20];
+/// assert_eq!(parity::write(&words, 7, 3, 0, &mut record), Ok(16));
+/// assert_eq!(record[0], 0x4000_0307);
+/// ```
 pub fn write(words: &[u64], n: usize, m: usize, k: usize, record: &mut [u32]) -> Result<usize, Refusal> {
     let mut values: Values = [0; VALUES_MOST];
     let number = unsafe {
@@ -413,6 +679,14 @@ pub fn write(words: &[u64], n: usize, m: usize, k: usize, record: &mut [u32]) ->
 }
 
 /// The number of checks that contain both bits, and the lowest and the highest of them.
+///
+/// ```
+/// // Checks {0,1,2,3}, {0,1,4,5} and {0,2,6} of 7 bits.
+/// let mut words = vec![0; parity::WORDS];
+/// (words[0], words[8], words[16]) = (0b000_1111, 0b011_0011, 0b100_0101);
+/// let held = Some(parity::Held { lowest: 0, highest: 1 });
+/// assert_eq!(parity::share(&words, 7, 3, 0, 0, 1), Ok(parity::Shared { share: 2, held }));
+/// ```
 pub fn share(words: &[u64], n: usize, m: usize, k: usize, u: usize, v: usize) -> Result<Shared, Refusal> {
     let mut values: Values = [0; VALUES_MOST];
     let number =
@@ -421,6 +695,13 @@ pub fn share(words: &[u64], n: usize, m: usize, k: usize, u: usize, v: usize) ->
 }
 
 /// The number of four-cycles.
+///
+/// ```
+/// // Checks {0,1,2,3}, {0,1,4,5} and {0,2,6} of 7 bits.
+/// let mut words = vec![0; parity::WORDS];
+/// (words[0], words[8], words[16]) = (0b000_1111, 0b011_0011, 0b100_0101);
+/// assert_eq!(parity::count(&words, 7, 3, 0), Ok(2));
+/// ```
 pub fn count(words: &[u64], n: usize, m: usize, k: usize) -> Result<u64, Refusal> {
     let mut values: Values = [0; VALUES_MOST];
     let number = unsafe { ffi::parity_count(words.as_ptr(), words.len(), n, m, k, values.as_mut_ptr(), values.len()) };
@@ -428,6 +709,14 @@ pub fn count(words: &[u64], n: usize, m: usize, k: usize) -> Result<u64, Refusal
 }
 
 /// Splits a pair of bits with share two or more.
+///
+/// ```
+/// // Checks {0,1,2,3}, {0,1,4,5} and {0,2,6} of 7 bits.
+/// let mut words = vec![0; parity::WORDS];
+/// (words[0], words[8], words[16]) = (0b000_1111, 0b011_0011, 0b100_0101);
+/// assert_eq!(parity::split(&mut words, 7, 3, 0, 0, 1).map(|split| split.k), Ok(1));
+/// assert_eq!(parity::split(&mut words, 7, 3, 1, 0, 3), Err(parity::Refusal::Share { share: 0 }));
+/// ```
 pub fn split(words: &mut [u64], n: usize, m: usize, k: usize, u: usize, v: usize) -> Result<Split, Refusal> {
     let mut values: Values = [0; VALUES_MOST];
     let number =
@@ -437,6 +726,16 @@ pub fn split(words: &mut [u64], n: usize, m: usize, k: usize, u: usize, v: usize
 
 /// Takes back the newest split: removes the newest added bit and its check, and in every other check that contains the bit
 /// puts the two lower bits of its own check in its place. After a split that was made, words and k are as before it.
+///
+/// ```
+/// // Checks {0,1,2,3}, {0,1,4,5} and {0,2,6} of 7 bits.
+/// let mut words = vec![0; parity::WORDS];
+/// (words[0], words[8], words[16]) = (0b000_1111, 0b011_0011, 0b100_0101);
+/// parity::split(&mut words, 7, 3, 0, 0, 1)?;
+/// assert_eq!(parity::take_back(&mut words, 7, 3, 1), Ok(parity::TakenBack { share: 2, k: 0 }));
+/// assert_eq!(words[0], 0b000_1111);
+/// # Ok::<(), parity::Refusal>(())
+/// ```
 pub fn take_back(words: &mut [u64], n: usize, m: usize, k: usize) -> Result<TakenBack, Refusal> {
     let mut values: Values = [0; VALUES_MOST];
     let number =
@@ -445,6 +744,15 @@ pub fn take_back(words: &mut [u64], n: usize, m: usize, k: usize) -> Result<Take
 }
 
 /// Splits until no pair has share two or more, or is refused with [`Refusal::FullAfter`].
+///
+/// ```
+/// // Checks {0,1,2,3}, {0,1,4,5} and {0,2,6} of 7 bits.
+/// let mut words = vec![0; parity::WORDS];
+/// (words[0], words[8], words[16]) = (0b000_1111, 0b011_0011, 0b100_0101);
+/// let made = parity::orthogonalise(&mut words, 7, 3, 0)?;
+/// assert_eq!((made.splits, made.sum, made.k), (1, 1, 1));
+/// # Ok::<(), parity::Refusal>(())
+/// ```
 pub fn orthogonalise(words: &mut [u64], n: usize, m: usize, k: usize) -> Result<Orthogonalised, Refusal> {
     let mut values: Values = [0; VALUES_MOST];
     let number = unsafe {
@@ -461,6 +769,13 @@ pub fn orthogonalise(words: &mut [u64], n: usize, m: usize, k: usize) -> Result<
 }
 
 /// Whether the word of n+k bytes is a codeword.
+///
+/// ```
+/// // Checks {0,1,2,3}, {0,1,4,5} and {0,2,6} of 7 bits.
+/// let mut words = vec![0; parity::WORDS];
+/// (words[0], words[8], words[16]) = (0b000_1111, 0b011_0011, 0b100_0101);
+/// assert_eq!(parity::verify(&words, 7, 3, 0, &[0, 0, 1, 1, 1, 1, 1]), Ok(true));
+/// ```
 pub fn verify(words: &[u64], n: usize, m: usize, k: usize, word: &[u8]) -> Result<bool, Refusal> {
     let mut values: Values = [0; VALUES_MOST];
     let number = unsafe {
@@ -480,6 +795,17 @@ pub fn verify(words: &[u64], n: usize, m: usize, k: usize, word: &[u8]) -> Resul
 }
 
 /// Writes the n sent bits and then the k added ones into the word of n+k bytes.
+///
+/// ```
+/// // Checks {0,1,2,3}, {0,1,4,5} and {0,2,6} of 7 bits.
+/// let mut words = vec![0; parity::WORDS];
+/// (words[0], words[8], words[16]) = (0b000_1111, 0b011_0011, 0b100_0101);
+/// let k = parity::orthogonalise(&mut words, 7, 3, 0)?.k;
+/// let mut word = [0; 8];
+/// parity::extend(&words, 7, 3, k, &[1, 0, 0, 0, 0, 0, 0], &mut word)?;
+/// assert_eq!(word, [1, 0, 0, 0, 0, 0, 0, 1]);
+/// # Ok::<(), parity::Refusal>(())
+/// ```
 pub fn extend(words: &[u64], n: usize, m: usize, k: usize, sent: &[u8], word: &mut [u8]) -> Result<(), Refusal> {
     let mut values: Values = [0; VALUES_MOST];
     let number = unsafe {
@@ -501,6 +827,13 @@ pub fn extend(words: &[u64], n: usize, m: usize, k: usize, sent: &[u8], word: &m
 }
 
 /// Whether no check contains exactly one bit of the set, given as n+k bytes.
+///
+/// ```
+/// // Checks {0,1,2,3}, {0,1,4,5} and {0,2,6} of 7 bits.
+/// let mut words = vec![0; parity::WORDS];
+/// (words[0], words[8], words[16]) = (0b000_1111, 0b011_0011, 0b100_0101);
+/// assert_eq!(parity::is_stopping(&words, 7, 3, 0, &[1, 1, 1, 0, 0, 0, 0]), Ok(true));
+/// ```
 pub fn is_stopping(words: &[u64], n: usize, m: usize, k: usize, set: &[u8]) -> Result<bool, Refusal> {
     let mut values: Values = [0; VALUES_MOST];
     let number = unsafe {
@@ -520,6 +853,15 @@ pub fn is_stopping(words: &[u64], n: usize, m: usize, k: usize, set: &[u8]) -> R
 }
 
 /// Recovers the erased bits (2) of the word of n+k bytes, as far as checks with one erased bit reach.
+///
+/// ```
+/// // Checks {0,1,2,3}, {0,1,4,5} and {0,2,6} of 7 bits.
+/// let mut words = vec![0; parity::WORDS];
+/// (words[0], words[8], words[16]) = (0b000_1111, 0b011_0011, 0b100_0101);
+/// let mut word = [2, 0, 1, 1, 1, 1, 1];
+/// assert_eq!(parity::peel(&words, 7, 3, 0, &mut word).map(|peeled| peeled.recovered_sent), Ok(1));
+/// assert_eq!(word[0], 0);
+/// ```
 pub fn peel(words: &[u64], n: usize, m: usize, k: usize, word: &mut [u8]) -> Result<Peeled, Refusal> {
     let mut values: Values = [0; VALUES_MOST];
     let number = unsafe {
@@ -545,6 +887,15 @@ pub fn peel(words: &[u64], n: usize, m: usize, k: usize, word: &mut [u8]) -> Res
 
 /// Writes each erased bit (2) of the word of n+k bytes at which all codewords that agree with it have one value. Refused with
 /// [`Refusal::Contradiction`] exactly when no codeword agrees.
+///
+/// ```
+/// // Checks {0,1,2,3}, {0,1,4,5} and {0,2,6} of 7 bits.
+/// let mut words = vec![0; parity::WORDS];
+/// (words[0], words[8], words[16]) = (0b000_1111, 0b011_0011, 0b100_0101);
+/// let mut word = [2, 2, 2, 1, 1, 1, 1];
+/// assert_eq!(parity::determine(&words, 7, 3, 0, &mut word).map(|found| found.left_sent), Ok(0));
+/// assert_eq!(word, [0, 0, 1, 1, 1, 1, 1]);
+/// ```
 pub fn determine(words: &[u64], n: usize, m: usize, k: usize, word: &mut [u8]) -> Result<Determined, Refusal> {
     let mut values: Values = [0; VALUES_MOST];
     let number = unsafe {
@@ -571,6 +922,17 @@ pub fn determine(words: &[u64], n: usize, m: usize, k: usize, word: &mut [u8]) -
 /// Recovers lost packets: bit b of the code is packet b, of as many words as `odd` has, and bit i of all packets is lane i, a word
 /// of its own. Does in every lane what [`determine`] does, and flags in `odd` the lanes in which that is refused with
 /// [`Refusal::Contradiction`], which stay as they were. `lost` has a byte for each packet, 1 where it is lost, before and after.
+///
+/// ```
+/// // Checks {0,1,2,3}, {0,1,4,5} and {0,2,6} of 7 bits.
+/// let mut words = vec![0; parity::WORDS];
+/// (words[0], words[8], words[16]) = (0b000_1111, 0b011_0011, 0b100_0101);
+/// // Packets 0 to 2 are lost; a packet is one word here.
+/// let (mut lost, mut packets, mut odd) = ([1, 1, 1, 0, 0, 0, 0], [9, 9, 9, 6, 6, 6, 6], [0]);
+/// parity::mend_packets(&words, 7, 3, 0, &mut lost, &mut packets, &mut odd)?;
+/// assert_eq!((lost, packets), ([0; 7], [0, 0, 6, 6, 6, 6, 6]));
+/// # Ok::<(), parity::Refusal>(())
+/// ```
 pub fn mend_packets(
     words: &[u64],
     n: usize,
@@ -610,6 +972,15 @@ pub fn mend_packets(
 /// Mends the received word of n bytes with a matrix with k = 0: writes what [`determine`] writes, by peeling, then peeling with
 /// the orthogonalised matrix, then elimination, as far as bits remain. The matrix is left as it is. Refused with
 /// [`Refusal::Contradiction`] exactly when no codeword agrees.
+///
+/// ```
+/// // Checks {0,1,2,3}, {0,1,4,5} and {0,2,6} of 7 bits.
+/// let mut words = vec![0; parity::WORDS];
+/// (words[0], words[8], words[16]) = (0b000_1111, 0b011_0011, 0b100_0101);
+/// let mut word = [2, 2, 2, 1, 1, 1, 1];
+/// assert_eq!(parity::mend_block(&words, 7, 3, 0, &mut word), Ok(parity::Mended { stage: 2, recovered: 4 }));
+/// assert_eq!(word, [0, 0, 1, 1, 1, 1, 1]);
+/// ```
 pub fn mend_block(words: &[u64], n: usize, m: usize, k: usize, word: &mut [u8]) -> Result<Mended, Refusal> {
     let mut values: Values = [0; VALUES_MOST];
     let number = unsafe {
@@ -629,6 +1000,13 @@ pub fn mend_block(words: &[u64], n: usize, m: usize, k: usize, word: &mut [u8]) 
 }
 
 /// The number of parity bits of a matrix with k = 0.
+///
+/// ```
+/// // Checks {0,1,2,3}, {0,1,4,5} and {0,2,6} of 7 bits.
+/// let mut words = vec![0; parity::WORDS];
+/// (words[0], words[8], words[16]) = (0b000_1111, 0b011_0011, 0b100_0101);
+/// assert_eq!(parity::rank(&words, 7, 3, 0), Ok(3));
+/// ```
 pub fn rank(words: &[u64], n: usize, m: usize, k: usize) -> Result<usize, Refusal> {
     let mut values: Values = [0; VALUES_MOST];
     let number = unsafe { ffi::parity_rank(words.as_ptr(), words.len(), n, m, k, values.as_mut_ptr(), values.len()) };
@@ -636,6 +1014,16 @@ pub fn rank(words: &[u64], n: usize, m: usize, k: usize) -> Result<usize, Refusa
 }
 
 /// Writes the codeword of n bytes that holds the message of n - rank bytes.
+///
+/// ```
+/// // Checks {0,1,2,3}, {0,1,4,5} and {0,2,6} of 7 bits.
+/// let mut words = vec![0; parity::WORDS];
+/// (words[0], words[8], words[16]) = (0b000_1111, 0b011_0011, 0b100_0101);
+/// let mut word = [0; 7];
+/// parity::encode(&words, 7, 3, 0, &[1, 1, 1, 1], &mut word)?;
+/// assert_eq!(parity::verify(&words, 7, 3, 0, &word), Ok(true));
+/// # Ok::<(), parity::Refusal>(())
+/// ```
 pub fn encode(words: &[u64], n: usize, m: usize, k: usize, message: &[u8], word: &mut [u8]) -> Result<(), Refusal> {
     let mut values: Values = [0; VALUES_MOST];
     let number = unsafe {
@@ -659,6 +1047,16 @@ pub fn encode(words: &[u64], n: usize, m: usize, k: usize, message: &[u8], word:
 /// Marks the n bits of a matrix with k = 0: 1 for a bit that holds the message, 0 for a parity bit. Parity bits are chosen from
 /// bit 0 upwards, so that the message need not stand first. Of a word that [`encode`] writes, the bytes at the ones are the message.
 /// This call is beyond documents 01 and 02.
+///
+/// ```
+/// // Checks {0,1,2,3}, {0,1,4,5} and {0,2,6} of 7 bits.
+/// let mut words = vec![0; parity::WORDS];
+/// (words[0], words[8], words[16]) = (0b000_1111, 0b011_0011, 0b100_0101);
+/// let mut set = [0; 7];
+/// parity::message_bits(&words, 7, 3, 0, &mut set)?;
+/// assert_eq!(set, [0, 0, 0, 1, 1, 1, 1]);
+/// # Ok::<(), parity::Refusal>(())
+/// ```
 pub fn message_bits(words: &[u64], n: usize, m: usize, k: usize, set: &mut [u8]) -> Result<(), Refusal> {
     let mut values: Values = [0; VALUES_MOST];
     let number = unsafe {
@@ -679,6 +1077,12 @@ pub fn message_bits(words: &[u64], n: usize, m: usize, k: usize, set: &mut [u8])
 
 /// Copies the house code of a name ([`HOUSE_CIRCULANT`] to [`HOUSE_HAMMING_31`], or any other number, which is refused) into
 /// `words`, all of which are written; it is a matrix with k = 0.
+///
+/// ```
+/// let mut words = vec![0; parity::WORDS];
+/// let code = parity::house_code(parity::HOUSE_HAMMING_7, &mut words);
+/// assert_eq!((code, words[0]), (Ok(parity::HouseCode { n: 7, m: 3 }), 0b101_0101));
+/// ```
 pub fn house_code(name: usize, words: &mut [u64]) -> Result<HouseCode, Refusal> {
     let mut values: Values = [0; VALUES_MOST];
     let number =
@@ -691,6 +1095,16 @@ pub fn house_code(name: usize, words: &mut [u64]) -> Result<HouseCode, Refusal> 
 ///
 /// All checks count, given and added, and no added bit is a member: with k above 0 this is not the list of the losses that defeat
 /// peeling where all added bits are erased too. A `sets` of length 0 asks how many places are needed ([`Refusal::SetsShort`]).
+///
+/// ```
+/// // Checks {0,1,2,3}, {0,1,4,5} and {0,2,6} of 7 bits.
+/// let mut words = vec![0; parity::WORDS];
+/// (words[0], words[8], words[16]) = (0b000_1111, 0b011_0011, 0b100_0101);
+/// let mut sets = [0; 100];
+/// let found = parity::stopping_sets(&words, 7, 3, 0, 2, &mut sets)?;
+/// assert_eq!(found.collect::<Vec<_>>(), [[4, 5]]);
+/// # Ok::<(), parity::Refusal>(())
+/// ```
 pub fn stopping_sets<'a>(
     words: &[u64],
     n: usize,
@@ -720,6 +1134,15 @@ pub fn stopping_sets<'a>(
 
 /// Joins two matrices with k = 0 over the same bits into `words3`, all of which are written: the first's checks, then those of
 /// the second that equal no earlier check of the result; answers the number of checks.
+///
+/// ```
+/// // Checks {0,1,2,3}, {0,1,4,5} and {0,2,6} of 7 bits.
+/// let mut words = vec![0; parity::WORDS];
+/// (words[0], words[8], words[16]) = (0b000_1111, 0b011_0011, 0b100_0101);
+/// let mut both = vec![0; parity::WORDS];
+/// assert_eq!(parity::join(&words, 7, 3, 0, &words, 7, 3, 0, &mut both), Ok(3));
+/// assert_eq!(both, words);
+/// ```
 pub fn join(
     words1: &[u64],
     n1: usize,
@@ -755,6 +1178,17 @@ pub fn join(
 
 /// Decodes a word of sure, soft and erased bits by min-sum rounds: each bit's result replaces its byte and its float. The
 /// messages need [`MESSAGES`] bytes and floats, whatever they hold; an answer leaves them zero.
+///
+/// ```
+/// // Checks {0,1,2,3}, {0,1,4,5} and {0,2,6} of 7 bits.
+/// let mut words = vec![0; parity::WORDS];
+/// (words[0], words[8], words[16]) = (0b000_1111, 0b011_0011, 0b100_0101);
+/// let (mut word, mut floats) = ([3, 0, 1, 1, 1, 1, 1], [0.25, 0.0, 0.0, 0.0, 0.0, 0.0, 0.0]);
+/// let (mut bytes, mut messages) = (vec![0; parity::MESSAGES], vec![0.0; parity::MESSAGES]);
+/// parity::min_sum(&words, 7, 3, 0, 1, &mut word, &mut floats, &mut bytes, &mut messages)?;
+/// assert_eq!((word[0], floats[0]), (0, 0.0));
+/// # Ok::<(), parity::Refusal>(())
+/// ```
 pub fn min_sum(
     words: &[u64],
     n: usize,
@@ -791,6 +1225,21 @@ pub fn min_sum(
 }
 
 /// [`min_sum`] on bits, in place.
+///
+/// ```
+/// // Checks {0,1,2,3}, {0,1,4,5} and {0,2,6} of 7 bits.
+/// let mut words = vec![0; parity::WORDS];
+/// (words[0], words[8], words[16]) = (0b000_1111, 0b011_0011, 0b100_0101);
+/// use parity::Bit;
+///
+/// let mut bits = [Bit::Sure(true); 7];
+/// bits[0] = Bit::Soft(1.5);
+/// bits[1] = Bit::Erased;
+/// let (mut bytes, mut floats) = (vec![0; parity::MESSAGES], vec![0.0; parity::MESSAGES]);
+/// parity::min_sum_bits(&words, 7, 3, 0, 2, &mut bits, &mut bytes, &mut floats)?;
+/// assert_eq!(bits[..2], [Bit::Sure(false), Bit::Sure(false)]);
+/// # Ok::<(), parity::Refusal>(())
+/// ```
 pub fn min_sum_bits(
     words: &[u64],
     n: usize,
@@ -816,6 +1265,11 @@ pub fn min_sum_bits(
 }
 
 /// The range of one check's min-sum answer over all choices inside the ranges of its other bits, from their lows and highs.
+///
+/// ```
+/// let ranged = parity::min_sum_range(&[1.0, -3.0], &[2.0, -1.5]);
+/// assert_eq!(ranged, Ok(parity::Ranged::Within { low: -2.0, high: -1.0 }));
+/// ```
 pub fn min_sum_range(lows: &[f32], highs: &[f32]) -> Result<Ranged, Refusal> {
     let mut ends = [0.0; 2];
     let mut values: Values = [0; VALUES_MOST];

@@ -3,7 +3,7 @@ _parity() {
   local word=${COMP_WORDS[COMP_CWORD]} before=${COMP_WORDS[COMP_CWORD - 1]} program=${COMP_WORDS[0]} offered help
   COMPREPLY=()
   if [ "$COMP_CWORD" -eq 1 ]; then
-    offered=$("$program" --help 2>/dev/null | sed -n 's/^ *parity \([a-z][a-z-]*\) .*/\1/p')
+    offered=$("$program" --help 2>/dev/null | sed -n 's/^ *parity \([a-z][a-z-]*\) .*/\1/p' | sort -u)
     mapfile -t COMPREPLY < <(compgen -W "$offered --help --version" -- "$word")
     return
   fi
@@ -13,8 +13,9 @@ _parity() {
       mapfile -t COMPREPLY < <(compgen -W "alist text record" -- "$word")
       ;;
     --by)
-      # its values stand in lines of their own
-      offered=$(sed -n 's/^  \([a-z][a-z-]*\)  .*/\1/p' <<<"$help")
+      # its values stand behind it, with bars between, or in lines of their own
+      offered=$(sed -n 's/.*\[--by \([a-z-]*|[a-z|-]*\)\].*/\1/p' <<<"$help" | tr '|' ' ')
+      [ -n "$offered" ] || offered=$(sed -n 's/^  \([a-z][a-z-]*\)  .*/\1/p' <<<"$help")
       mapfile -t COMPREPLY < <(compgen -W "$offered" -- "$word")
       ;;
     *)

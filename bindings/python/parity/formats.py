@@ -30,12 +30,40 @@ class FileFault(ValueError):
 
 
 def _shown(character: str) -> str:
-    if unicodedata.category(character) != "Cc":
+    if unicodedata.category(character) != "Cc" and character != "\ufeff":
         return character
     return {"\t": "\\t", "\r": "\\r", "\n": "\\n"}.get(character, f"\\u{{{ord(character):x}}}")
 
 
+def _byte_order_mark(data: bytes) -> Optional[str]:
+    """The byte order mark at the front of a text, which editors put there unseen."""
+    if data.startswith(b"\xef\xbb\xbf"):
+        return "a byte order mark (UTF-8)"
+    return "a byte order mark (UTF-16)" if data.startswith((b"\xff\xfe", b"\xfe\xff")) else None
+
+
+def _without_mark(data: bytes) -> bytes:
+    mark = _byte_order_mark(data)
+    if mark:
+        raise FileFault(f"{mark} stands before the text; save the file without it", 1)
+    return data
+
+
+def _character(piece: bytes) -> str:
+    """The first character of a piece of a line, for a message."""
+    if _byte_order_mark(piece):
+        return _quoted(piece)
+    try:
+        first = len(piece.decode()[0].encode())
+    except UnicodeDecodeError as error:
+        first = error.end if error.start == 0 else len(piece[: error.start].decode()[0].encode())
+    return _quoted(piece[:first])
+
+
 def _quoted(piece: bytes) -> str:
+    mark = _byte_order_mark(piece)
+    if mark:
+        return mark
     front = "".join(map(_shown, piece[:20].decode("utf-8", "replace")))
     return f"'{front}{'..' if len(piece) > 20 else ''}'"
 
@@ -135,7 +163,7 @@ def _differ(lines: _Lines, check: int, by_bits: List[int], by_check: List[int]) 
 
 def read_alist(data: bytes) -> Checks:
     """The checks of an alist (MacKay's format) whose two halves say the same."""
-    lines = _Lines(data)
+    lines = _Lines(_without_mark(data))
     n, m = lines.two("the number of bits and that of checks")
     if not 1 <= n <= MOST:
         lines.fault(f"{n} bits, and 1 to {MOST} can be taken")
@@ -175,7 +203,7 @@ def _digits(line: bytes, number: int) -> List[int]:
         elif byte == ord("#"):
             break
         elif byte not in b" \t,\r":
-            raise FileFault(f"{_quoted(line[place : place + 1])} at character {place + 1} is neither 0 nor 1", number)
+            raise FileFault(f"{_character(line[place:])} at character {place + 1} is neither 0 nor 1", number)
     return digits
 
 
@@ -183,7 +211,7 @@ def read_text(data: bytes) -> Checks:
     """The checks of 0/1 text: a line for each check, a digit for each bit."""
     n, first, last = 0, 0, 1
     checks: List[List[int]] = []
-    for last, line in enumerate(data.split(b"\n"), 1):
+    for last, line in enumerate(_without_mark(data).split(b"\n"), 1):
         digits = _digits(line, last)
         if not digits:
             continue

@@ -18,7 +18,7 @@ RECORD_MOST = 14914
 MESSAGES = 65536
 
 _M = TypeVar("_M", bound="Matrix")
-_EXTENSIONS = {".alist": "alist", ".txt": "text", ".rec": "record"}
+_EXTENSIONS = {".alist": "alist", ".txt": "text", ".text": "text", ".rec": "record", ".record": "record"}
 _Path = Union[str, "os.PathLike[str]"]
 
 

@@ -68,6 +68,16 @@ class Files(unittest.TestCase):
         with self.assertRaisesRegex(ValueError, "the format is none of"):
             parity.Matrix.read("matrix.dat")
 
+    def test_what_editors_put_in_unseen(self) -> None:
+        for read in (parity.Matrix.from_alist, parity.Matrix.from_text):
+            with self.assertRaises(parity.FileFault) as caught:
+                read(b"\xef\xbb\xbf111\n")
+            self.assertEqual(caught.exception.what, "a byte order mark (UTF-8) stands before the text; save the file without it")
+        for text, shown in ((b"1\xc3\xa91", "'\u00e9'"), (b"1\xff1", "'\ufffd'"), (b"1\x1b", "'\\u{1b}'"), (b"1\xe2\x82", "'\ufffd'")):
+            with self.assertRaises(parity.FileFault) as caught:
+                parity.Matrix.from_text(text)
+            self.assertEqual(caught.exception.what, f"{shown} at character 2 is neither 0 nor 1")
+
     def of_program(self, path: Path, folder: str) -> Tuple[int, bytes]:
         out = Path(folder) / "out.rec"
         done = subprocess.run([PROGRAM, "convert", str(path), str(out)], capture_output=True, check=False)

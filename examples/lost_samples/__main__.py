@@ -82,11 +82,13 @@ the last line heard from. The new one rebuilds it from the checks, or marks it u
 def ends(trials: List[Trial], packets: int, checks: float) -> None:
     first = next(one for one in trials if one.new.unknown)
     last = max(one.lost for one in trials if one.lost < first.lost)
+    low, high = 100 * last / packets, 100 * first.lost / packets
+    wrong = sum(one.new.wrong for one in trials) or "no"
     print(
-        f"""Up to {100 * last / packets:.1f} % of packets lost, everything was rebuilt; from {100 * first.lost / packets:.1f} % on, bursts leave blocks that the checks do not determine.
-{checks:.0f} % of the packets are checks: of a block that has lost more, no code of this size rebuilds all. At every loss the
-new rule charged no sample to a wrong line. So a line's true time is, within the sampler's milliseconds, what it
-shows, or more by at most the unknown."""
+        f"""Up to {low:.1f} % of packets lost, everything was rebuilt; from {high:.1f} % on, bursts leave blocks that the checks do
+not determine. {checks:.0f} % of the packets are checks: of a block that has lost more, no code of this size rebuilds all.
+Beyond that the new rule knows less than the old one claims. But at every loss it charged {wrong} samples to a wrong
+line: a line's true time is, within the sampler's milliseconds, what it shows, or more by at most the unknown."""
     )
 
 
@@ -102,14 +104,16 @@ def main() -> None:
     told(shown, times, len(samples), packets)
     profile(times, shown)
     print()
-    print(f"A block has {len(code.data)} packets of samples and {len(code.checks)} of checks, each packet in five checks drawn at random (blocks.alist).")
-    print("As losses grow:")
+    print(f"A block has {len(code.data)} packets of samples, and {len(code.checks)} of checks beside them; each packet is in five checks, drawn at")
+    print("random (blocks.alist). As losses grow:")
     print()
     losses(trials, len(samples), packets)
     print()
-    ends(trials, packets, 100 * len(code.checks) / code.matrix.n)
+    checks = 100 * len(code.checks) / code.matrix.n
+    ends(trials, packets, checks)
     if len(sys.argv) == 3 and sys.argv[1] == "--svg":
-        Path(sys.argv[2]).write_text(picture.drawn(LINES, times, shown, trials, len(samples), packets, 100 * len(code.checks) / code.matrix.n), encoding="utf-8")
+        drawn = picture.drawn(LINES, times, shown, trials, len(samples), packets, checks)
+        Path(sys.argv[2]).write_text(drawn, encoding="utf-8")
     elif len(sys.argv) > 1:
         sys.exit(f"usage: {sys.argv[0]} [--svg FILE]")
 

@@ -1,4 +1,5 @@
-"""The link from the probe to the collector. It loses packets in bursts, the more the busier it is: the pipeline writes its output over the same link."""
+"""The link from the probe to the collector. It loses packets in bursts, most of them while the pipeline writes: its
+output goes over the same link."""
 
 from __future__ import annotations
 

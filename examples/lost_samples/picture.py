@@ -32,7 +32,8 @@ def bars(lines: Sequence[Tuple[str, str]], times: List[float], shown: Any) -> Li
         for place, (seconds, colour) in enumerate(reports):
             made.append(bar(LEFT, y + 11 * place, seconds * scale, colour))
             label = f"{seconds:.1f} s"
-            made.append(text(LEFT + seconds * scale + 5, y + 11 * place + 8.5, label, f"font-size='10' fill='{colour}'"))
+            end = LEFT + seconds * scale + 5
+            made.append(text(end, y + 11 * place + 8.5, label, f"font-size='10' fill='{colour}'"))
     y = TOP + len(lines) * ROW
     unknown = shown.new.unknown / 1000
     made.append(text(24, y + 9, "unknown, and counted as lost", "font-size='12'"))
@@ -43,8 +44,8 @@ def bars(lines: Sequence[Tuple[str, str]], times: List[float], shown: Any) -> Li
 
 def legend() -> List[str]:
     made = []
-    entries = [(24, TRUE, "true time"), (120, OLD, "old rule: the last line heard from"), (352, NEW, "new rule: rebuilt, or unknown")]
-    for x, colour, words in entries:
+    rules = [(120, OLD, "old rule: the last line heard from"), (352, NEW, "new rule: rebuilt, or unknown")]
+    for x, colour, words in [(24, TRUE, "true time")] + rules:
         made.append(bar(x, TOP - 27, 12, colour))
         made.append(text(x + 17, TOP - 18.5, words, f"font-size='12' fill='{colour}'"))
     return made
@@ -62,12 +63,14 @@ def chart(trials: Sequence[Any], samples: int, packets: int, checks: float) -> L
 
     made = []
     for percent in range(0, 61, 10):
-        at = y(percent)
-        made.append(f"<line x1='{CHART_LEFT:.1f}' y1='{at:.1f}' x2='{CHART_RIGHT:.1f}' y2='{at:.1f}' stroke='#e4e4e4'/>")
-        made.append(text(CHART_LEFT - 6, at + 4, f"{percent} %", "font-size='11' text-anchor='end'"))
+        at = f"{y(percent):.1f}"
+        made.append(f"<line x1='{CHART_LEFT:.1f}' y1='{at}' x2='{CHART_RIGHT:.1f}' y2='{at}' stroke='#e4e4e4'/>")
+        made.append(text(CHART_LEFT - 6, y(percent) + 4, f"{percent} %", "font-size='11' text-anchor='end'"))
         made.append(text(x(percent), CHART_BOTTOM + 16, f"{percent} %", "font-size='11' text-anchor='middle'"))
-    made.append(f"<line x1='{x(checks):.1f}' y1='{CHART_TOP:.1f}' x2='{x(checks):.1f}' y2='{CHART_BOTTOM:.1f}' stroke='{GREY}' stroke-dasharray='4 4'/>")
-    made.append(text(x(checks), CHART_TOP - 5, f"checks: {checks:.0f} % of packets", "font-size='11' text-anchor='middle' fill='#666666'"))
+    at, dashed = f"{x(checks):.1f}", f"stroke='{GREY}' stroke-dasharray='4 4'"
+    made.append(f"<line x1='{at}' y1='{CHART_TOP:.1f}' x2='{at}' y2='{CHART_BOTTOM:.1f}' {dashed}/>")
+    note = "font-size='11' text-anchor='middle' fill='#666666'"
+    made.append(text(x(checks), CHART_TOP - 5, f"checks: {checks:.0f} % of packets", note))
     for colour, share in ((OLD, lambda one: one.old.wrong), (NEW, lambda one: one.new.unknown)):
         points = [(0.0, 0.0)] + [(100 * one.lost / packets, 100 * share(one) / samples) for one in trials]
         inside = [(a, b) for a, b in points if a <= most and b <= most]
@@ -81,14 +84,25 @@ def chart(trials: Sequence[Any], samples: int, packets: int, checks: float) -> L
     return made
 
 
-def drawn(lines: Sequence[Tuple[str, str]], times: List[float], shown: Any, trials: Sequence[Any], samples: int, packets: int, checks: float) -> str:
+def drawn(
+    lines: Sequence[Tuple[str, str]],
+    times: List[float],
+    shown: Any,
+    trials: Sequence[Any],
+    samples: int,
+    packets: int,
+    checks: float,
+) -> str:
+    """The picture for the trial shown, and the chart of all; `checks` is the share of packets that are checks."""
     lost = 100 * shown.lost / packets
     wrong, unknown = 100 * shown.old.wrong / samples, 100 * shown.new.unknown / samples
     title = "Samples lost on the way"
     about = [
-        f"{lost:.0f} % of the packets are lost in bursts, most of them while the pipeline writes. The old rule charges {wrong:.1f} % of all",
+        f"{lost:.0f} % of the packets are lost in bursts, most of them while the pipeline writes. "
+        f"The old rule charges {wrong:.1f} % of all",
         f"samples to a line that did not run; the new one leaves {unknown:.1f} % unknown, and charges none wrongly.",
     ]
+    foot = f"{samples} samples of a pipeline with known times; {checks:.0f} % of the packets are checks; python3 examples/lost_samples"
     parts = [
         f"<svg xmlns='http://www.w3.org/2000/svg' width='{WIDTH}' height='{HEIGHT}' viewBox='0 0 {WIDTH} {HEIGHT}' role='img' "
         "aria-labelledby='title desc' font-family='Helvetica, Arial, DejaVu Sans, sans-serif' fill='#222222'>",
@@ -100,7 +114,7 @@ def drawn(lines: Sequence[Tuple[str, str]], times: List[float], shown: Any, tria
         *legend(),
         *bars(lines, times, shown),
         *chart(trials, samples, packets, checks),
-        text(24, HEIGHT - 16, f"{samples} samples of a pipeline with known times; {checks:.0f} % of the packets are checks; python3 examples/lost_samples", "font-size='11' fill='#666666'"),
+        text(24, HEIGHT - 16, foot, "font-size='11' fill='#666666'"),
         "</svg>",
     ]
     return "\n".join(parts) + "\n"

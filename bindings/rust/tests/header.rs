@@ -121,6 +121,25 @@ fn header_wrapper_and_crate_agree() {
     assert_eq!(header, of_crate(&text));
 }
 
+/// The Python package declares each function by `SLICE`, `MATRIX` (a slice and three sizes) and `SIZE`, without the last slice, and
+/// has a call of its name.
+#[test]
+fn python_declares_the_same() {
+    let (declared, calls) = (read("../python/parity/_library.py"), read("../python/parity/calls.py"));
+    let header = of_header(&read("../../include/parity.h"));
+    assert_eq!(declared.matches("    \"parity_").count(), header.len());
+    for (name, parameters) in header {
+        let line = declared.lines().find(|line| line.trim_start().starts_with(&format!("\"{name}\":"))).expect(&name);
+        let (slices, matrices) = (line.matches("SLICE").count(), line.matches("MATRIX").count());
+        let pointers = parameters.iter().filter(|(_, kind)| kind.starts_with('*')).count();
+        assert_eq!(slices + matrices + 1, pointers, "{name}");
+        let sizes = parameters.iter().filter(|(name, kind)| kind == "usize" && !name.ends_with("_len")).count();
+        assert_eq!(line.matches("SIZE").count() + 3 * matrices, sizes, "{name}");
+        let call = name.strip_prefix("parity_").unwrap();
+        assert!(calls.contains(&format!("\ndef {call}(")) && calls.contains(&format!("\"{name}\",")), "{name}");
+    }
+}
+
 /// Every refusal, by its name in the header.
 const REFUSALS: [(&str, Refusal); 23] = [
     ("MATRIX_LENGTH", Refusal::MatrixLength),

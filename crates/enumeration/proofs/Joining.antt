@@ -11,7 +11,7 @@ use Rattle.parity.specs.Matrix.{Matrix}
 use Rattle.parity.specs.Words.{stopping}
 use Rattle.parity.specs.StoppingSets.{isIn}
 use Rattle.enumeration.specs.Search.{across, completing, Seen, OnceWith, SomeWith, Under, joined, ifStopping, lastOf, listed, Put, roomFor}
-use Rattle.enumeration.proofs.Members.{seen-more, under-more, under-later, completes-law}
+use Rattle.enumeration.proofs.Inside.{seen-more, under-more, under-later, completes-law}
 use Rattle.enumeration.proofs.Storing.{put-none, put-more, put-length}
 
 stopping-no : (h : Matrix) (M : ℕ) (p : List ℕ) → stopping h 128 M (isIn p) ≡ false → ifStopping h M p ≡ []

@@ -1,5 +1,5 @@
 pub mod Lone
 pub mod Storing
-pub mod Members
+pub mod Inside
 pub mod Joining
 pub mod Whole

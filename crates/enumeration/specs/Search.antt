@@ -2,7 +2,7 @@
 use mathlib.Core.Path.{_≡_}
 use mathlib.Core.Bool.{Bool, true, not, cond, _&&_, _||_}
 use mathlib.Core.List.{List, [], _∷_, _++_}
-use Prim.Native.Nat.{ℕ, zero, suc, _+_, _-_, _^_, _<_}
+use Prim.Native.Nat.{ℕ, zero, suc, _+_, _-_, _^_, _<_, _≤_}
 use lib.Bits.{bitAnd, bitOr}
 use lib.Dec.{eqb, ltb}
 use lib.ListN.{length, getD, take}
@@ -15,6 +15,14 @@ use Rattle.parity.specs.StoppingSets.{isIn}
 -- the matrix whose columns are lent, eight words for each bit
 abbrev pub across : List ℕ → Matrix
 across cols c b = lent 8 cols b c
+
+-- the columns, and the words of the members, of which the first `used` count
+pub record Sized (cols x u : List ℕ) (used : ℕ) : Type 0 where
+  pub columns : length cols ≡ 1024
+  pub once : length x ≡ 8
+  pub some : length u ≡ 8
+  pub least : 1 ≤ used
+  pub most : used ≤ 8
 
 -- Of the members a check contains exactly one (x), or some (u); d says whether it contains one more bit:
 -- whether it contains exactly one of all.

@@ -1,6 +1,6 @@
 // The stopping sets of a few sent bits.
 use columns::first_columns;
-use enumeration::list_all;
+use enumeration::listing::list_all;
 use matrix::Accepting;
 use parity::Refusal;
 use rows::words_of;

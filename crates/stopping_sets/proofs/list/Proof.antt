@@ -23,7 +23,7 @@ use Rattle.matrix.proofs.accept.Reads as accept-reads
 use Rattle.columns.proofs.first_columns.Reads as first-columns-reads
 use Rattle.stopping_sets.proofs.words_used.Reads as words-used-reads
 use Rattle.stopping_sets.proofs.is_size.Reads as is-size-reads
-use Rattle.enumeration.proofs.list_all.Reads as list-all-reads
+use Rattle.enumeration.proofs.listing.list_all.Reads as list-all-reads
 
 accept-requires : tie.Need-accept-requires
 accept-requires c κs = search needs

@@ -24,16 +24,24 @@
  *       return refused(number);
  *   n = values[0], m = values[1], k = values[2];
  *
- * 3. MEND. A received word is a byte for each bit: 0, 1 or PARITY_ERASED.
+ * A record file has these words as four bytes each, the highest first:
+ * examples/record.c reads one.
  *
- *   number = parity_mend_block(words, PARITY_WORDS, n, m, k, word, n,
- *                              values, PARITY_VALUES_MOST);
+ * 3. MEND. A received word is a byte for each bit: 0, 1 or PARITY_ERASED. It has
+ * n+k bytes; added bits, where there are any, are erased.
+ *
+ *   number = parity_determine(words, PARITY_WORDS, n, m, k, word, n + k,
+ *                             values, PARITY_VALUES_MOST);
  *
  * Afterwards each bit that the checks determine is 0 or 1, and every other one is
- * PARITY_ERASED still: nothing is guessed. values[0] is the last stage to run, a
- * PARITY_STAGE_. The matrix has k = 0: of a record that carries splits they are
- * taken back first, by parity_take_back. Where a lost packet takes the same bit of
- * many words, one call of parity_mend_packets mends them all.
+ * PARITY_ERASED still: values[2] tells how many sent bits are. If every received
+ * bit is right, every rebuilt bit is right. A false bit is refused where some check
+ * shows it; one that no check shows can make rebuilt bits false.
+ *
+ * parity_mend_block leaves the same word for a matrix with k = 0, tells by which
+ * stage, and takes 3 to 100 times as long where its second stage runs. Where a
+ * lost packet takes the same bit of many words, one call of parity_mend_packets
+ * mends them all.
  *
  * 4. LOOK AT THE NUMBER. What does not fit is refused, by a number above 0.
  *
@@ -87,7 +95,8 @@
  * EMBEDDING. A call takes no memory from the heap and makes no system call. It
  * keeps no state: what it answers depends on its arguments alone, so that any
  * number of threads may call at once, each on slices that no other call writes.
- * A call needs at most PARITY_STACK_MOST bytes of stack. Every call ends. The
+ * No call was seen to need more than PARITY_STACK_MOST bytes of stack: that is a
+ * tested figure, not a proved one. Every call ends, which is proved. The
  * archive's objects call nothing outside themselves but memset and its like.
  */
 #ifndef PARITY_H
@@ -126,7 +135,8 @@ extern "C" {
 
 /* The most values that a call carries. */
 #define PARITY_VALUES_MOST 5
-/* The most bytes of stack that a call needs. */
+/* The most bytes of stack that a call needs: tested on thousands of inputs of every
+ * kind with this library, not proved. */
 #define PARITY_STACK_MOST 65536
 
 /* Bytes of a word beside 0 and 1: an erased bit, and in parity_min_sum a soft one. */
@@ -470,9 +480,10 @@ uint32_t parity_mend_packets(const uint64_t *words, size_t words_len,
  * words: read.
  * word: n bytes of 0, 1 or 2 (erased). An answer writes the bits at which all
  *   codewords that agree have one value; the others keep 2.
- * Values of the answer, 2: the last stage to run (PARITY_STAGE_.., 1, 2 or 3),
- *   whether or not bits remain; how many bits the two peelings recovered together, at most 632, a bit
- *   that both recovered being counted twice.
+ * Values of the answer, 2: the last stage to run (PARITY_STAGE_.., 1, 2 or 3); how
+ *   many bits the two peelings recovered together, at most 632, a bit that both
+ *   recovered being counted twice. Where the stage is 1 or 2, no bit remains erased
+ *   (proved); where it is 3, bits may remain, and this call does not tell how many.
  * Refusals: 1, 2, 3, 4, 13, 10; 11 with the place in `word`; 12 exactly when no
  *   codeword agrees.
  */
@@ -493,7 +504,9 @@ uint32_t parity_rank(const uint64_t *words, size_t words_len,
                      uint64_t *values, size_t values_len);
 
 /* Encodes a message with a matrix with k = 0: the one codeword whose bits other
- * than parity bits, rising, hold the message.
+ * than parity bits, rising, hold the message. Parity bits are chosen from bit 0
+ * upwards, so that with checks [A|I] the message does not stand first: see
+ * parity_message_bits.
  *
  * words: read.
  * message: read. n-r bytes of 0 or 1, for the rank r.

@@ -1,5 +1,6 @@
 // Performing the splits of a record on the words of its checks.
-use columns::given_columns;
+use columns::fill;
+use columns::no_columns;
 use columns::shared;
 use columns::splits::part;
 use exchange::merge::merge;
@@ -54,7 +55,8 @@ pub fn perform(source: &[u32], words: &mut [u64], n: usize, m: usize, p: usize) 
     requires { ⌜ Sound (lent 8 (now words)) n m 0 ⌝ }
     ensures { λ r. ⌜ Performs (now (source .entry)) n m p (lent 8 (now (words .entry))) (lent 8 (now (words .exit))) r ⌝ }
 {
-    let mut cols = given_columns(words, m);
+    let mut cols = no_columns();
+    fill(words, &mut cols, 2, m);
     let mut k = 0;
     while p + k < source.len() {
         let Word::Split(x) = read(source[p + k]) else {

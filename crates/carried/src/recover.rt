@@ -1,6 +1,7 @@
 // Taking all splits of an accepted matrix back, on the columns of its given checks, as far as the splits made it.
+use columns::fill;
 use columns::fill_checks;
-use columns::given_columns;
+use columns::no_columns;
 use columns::splits::join;
 use columns::three::apart;
 use parity::Bit;
@@ -59,7 +60,8 @@ pub fn all_back(words: &[u64], rows: &mut [u64], n: usize, m: usize, k: usize) -
     requires { ⌜ (length (now words) ≡ 4096) × (length (now rows) ≡ 256) × Empty (lent 2 (now rows)) × Sound (lent 8 (now words)) n m k ⌝ }
     ensures { λ r. ⌜ AllBack (lent 8 (now (words .entry))) (lent 2 (now (rows .exit))) n m k r ⌝ }
 {
-    let mut cols = given_columns(words, m);
+    let mut cols = no_columns();
+    fill(words, &mut cols, 2, m);
     if !each_back(words, &mut cols, n, m, k) {
         return false;
     }

@@ -1,5 +1,6 @@
 // Rule A on the words, by columns of the given checks and a table of the pairs of lower bits.
-use columns::given_columns;
+use columns::fill;
+use columns::no_columns;
 use columns::three::apart;
 use parity::Bit;
 use parity::Check;
@@ -172,7 +173,8 @@ pub fn rule_a(words: &[u64], n: usize, m: usize, k: usize) -> bool
     if k == 0 {
         return true;
     }
-    let cols = given_columns(words, m);
+    let mut cols = no_columns();
+    fill(words, &mut cols, 2, m);
     if n + k <= 256 {
         let mut pairs = no_first_pairs();
         return all_rules(words, &cols, &mut pairs, 4, n, m, k);

@@ -3,7 +3,8 @@ use choice::bounds::Choice;
 use choice::bounds::pick;
 use choice::bounds::weights;
 use choice::bounds::widen;
-use columns::given_columns;
+use columns::fill;
+use columns::no_columns;
 use columns::splits::part;
 use exchange::merge::merge;
 use pairs::held::holders;
@@ -98,7 +99,8 @@ pub fn repeat(words: &mut [u64], n: usize, m: usize, k: usize) -> Course
     requires { ⌜ Sound (lent 8 (now words)) n m k ⌝ }
     ensures { λ r. ⌜ Ended (lent 8 (now (words .entry))) n m k (lent 8 (now (words .exit))) (r .finished) (r .splits) (r .sum) (r .k) (heldValues (r .held)) ⌝ }
 {
-    let mut cols = given_columns(words, m);
+    let mut cols = no_columns();
+    fill(words, &mut cols, 2, m);
     let mut bound = weights(&cols, n + k);
     let mut first = Bit(0);
     let mut cap: u64 = 128;

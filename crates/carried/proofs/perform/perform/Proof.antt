@@ -1,11 +1,12 @@
 -- `perform::perform` meets its contract. Assumes nothing.
 use mathlib.Core.Path.{_≡_, refl, sym, _∙_}
 use mathlib.Core.List.{[], _∷_}
-use Prim.Native.Nat.{ℕ, _+_, _-_}
+use Prim.Native.Nat.{_+_, _-_}
 use native.Mathlib.Omega.{arith}
-use lib.ListN.{length, length-replicate}
+use lib.ListN.{length}
 use borrow.Author.Tests.{not-true, not-false}
 use Rattle.parity.specs.Matrix.{lent}
+use Rattle.columns.proofs.Filling.{two-words}
 use Rattle.reading.proofs.Other.{other-kind}
 use Rattle.carried.proofs.Performing.{Going, going-start, going-ends, going-other, going-stops, going-next}
 use borrow.Author.Needs.{needs}
@@ -19,11 +20,20 @@ Inv-loop source words₀ n m p cols₀ k₀ words cols k =
 abbrev μ-loop : tie.MeasureT-loop
 μ-loop source words₀ n m p cols₀ k₀ words cols k = length source - (p + k)
 
-given-columns-requires : tie.Need-given-columns-requires Inv-loop μ-loop
-given-columns-requires c κs = let s = c .before .before .before in (s .pre .0 .0, omega (arith, s .pre .1 .m120))
+no-columns-requires : tie.Need-no-columns-requires Inv-loop μ-loop
+no-columns-requires c κs = search needs
+
+slice-aggregate-fill : tie.Need-slice-aggregate-fill Inv-loop μ-loop
+slice-aggregate-fill c = search needs
+
+fill-requires : tie.Need-fill-requires Inv-loop μ-loop
+fill-requires c κs =
+    let s = c .before .before .before .before .before in
+    let e = two-words _ (c .before .before .no-columns .ensures) in
+    ((s .pre .0 .0, e .0, omega (arith, s .pre .1 .m120), omega (arith, s .pre .1 .m120)), e .1)
 
 loop-holds : tie.Need-loop-holds Inv-loop μ-loop
-loop-holds c = let s = c .before .before .before .before in (refl, search needs, going-start _ _ _ _ _ _ (s .pre .0 .1) (s .pre .1) (c .given-columns .ensures))
+loop-holds c = let s = c .before .before .before .before .before .before .before in (refl, search needs, going-start _ _ _ _ _ _ (s .pre .0 .1) (s .pre .1) (c .before .fill .ensures))
 
 add-loop : tie.Need-add-loop Inv-loop μ-loop
 add-loop c = omega (arith, c .loop .inv .2 .inside)
@@ -57,7 +67,7 @@ slice-aggregate-perform-split c = sym (c .before .before .before .before .before
 perform-split-requires : tie.Need-perform-split-requires Inv-loop μ-loop
 perform-split-requires c κs =
     let l = c .before .before .before .before .before .before .before .before .loop in
-    let s = c .before .before .before .before .before .before .before .before .before .before .before .before .before in
+    let s = c .before .before .before .before .before .before .before .before .before .before .before .before .before .before .before .before in
     ((l .inv .0 ∙ s .pre .0 .0, l .inv .1), (l .inv .2 .sound, l .inv .2 .columns))
 
 same-length-2 : tie.Need-same-length-2 Inv-loop μ-loop
@@ -97,7 +107,9 @@ perform-spec =
     (tie.spec
     Inv-loop
     μ-loop
-    given-columns-requires
+    no-columns-requires
+    slice-aggregate-fill
+    fill-requires
     loop-holds
     add-loop
     add-read

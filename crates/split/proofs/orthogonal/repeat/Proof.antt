@@ -7,6 +7,7 @@ use lib.ListN.{length}
 use Rattle.parity.specs.Matrix.{lent}
 use Rattle.parity.specs.Causes.{heldValues}
 use Rattle.choice.specs.Bounds.{Head}
+use Rattle.columns.proofs.Filling.{two-words}
 use Rattle.split.proofs.Turns.{Stands, stands-start, head-start, stands-bound, ends-finished, ends-full, share-few, picked-ready, stands-split, head-split, given-columns, narrow-columns}
 use borrow.Author.Needs.{needs}
 use Rattle.split.proofs.orthogonal.repeat.Statement.{statement}
@@ -20,17 +21,26 @@ Inv-loop words₀ n m k cols₀ bound₀ first₀ cap₀ at₀ words cols bound 
 abbrev μ-loop : tie.MeasureT-loop
 μ-loop words₀ n m k cols₀ bound₀ first₀ cap₀ at₀ words cols bound first cap at = 392 - at .k
 
-given-columns-requires : tie.Need-given-columns-requires Inv-loop μ-loop
-given-columns-requires c κs = let s = c .before .before in (s .pre .0, omega (arith, s .pre .1 .m120))
+no-columns-requires : tie.Need-no-columns-requires Inv-loop μ-loop
+no-columns-requires c κs = search needs
+
+slice-aggregate-fill : tie.Need-slice-aggregate-fill Inv-loop μ-loop
+slice-aggregate-fill c = search needs
+
+fill-requires : tie.Need-fill-requires Inv-loop μ-loop
+fill-requires c κs =
+    let s = c .before .before .before .before in
+    let e = two-words _ (c .before .before .no-columns .ensures) in
+    ((s .pre .0, e .0, omega (arith, s .pre .1 .m120), omega (arith, s .pre .1 .m120)), e .1)
 
 slice-aggregate-weights : tie.Need-slice-aggregate-weights Inv-loop μ-loop
 slice-aggregate-weights c = search needs
 
 add-weights : tie.Need-add-weights Inv-loop μ-loop
-add-weights c = let A = c .before .before .before .before .pre .1 in omega (arith, A .n120, A .k392)
+add-weights c = let A = c .before .before .before .before .before .before .before .pre .1 in omega (arith, A .n120, A .k392)
 
 weights-requires : tie.Need-weights-requires Inv-loop μ-loop
-weights-requires c κs = let A = c .before .before .before .before .pre .1 in (search needs, omega (arith, A .n120, A .k392))
+weights-requires c κs = let A = c .before .before .before .before .before .before .before .pre .1 in (search needs, omega (arith, A .n120, A .k392))
 
 start-requires : tie.Need-start-requires Inv-loop μ-loop
 start-requires c κs = search needs
@@ -43,7 +53,7 @@ loop-holds c =
       search needs,
       search needs,
       e .0,
-      rw (e .1, e .2, e .3, e .4) (stands-start _ _ _ _ _ _ (c .before .before .before .before .before .before .pre .1) (c .before .before .before .given-columns .ensures) W),
+      rw (e .1, e .2, e .3, e .4) (stands-start _ _ _ _ _ _ (c .before .before .before .before .before .before .before .before .before .pre .1) (c .before .before .before .before .fill .ensures) W),
       rw (e .3) (head-start _ _ _ W),
     )
 
@@ -67,7 +77,7 @@ pick-requires c κs =
     let l = c .before .before .before .before .before .before .loop in
     let S = l .inv .4 in
     let A = S .sound in (
-      (l .inv .0 ∙ c .before .before .before .before .before .before .before .before .before .before .before .before .before .pre .0, l .inv .1, l .inv .2, omega (arith, A .n120, A .k392)),
+      (l .inv .0 ∙ c .before .before .before .before .before .before .before .before .before .before .before .before .before .before .before .before .pre .0, l .inv .1, l .inv .2, omega (arith, A .n120, A .k392)),
       ((given-columns _ _ _ (A .m120) (S .columns), narrow-columns _ _ _ _ _ A (S .columns)), (S .bounded, l .inv .5)),
     )
 
@@ -109,7 +119,7 @@ turn-requires c κs =
     let A = S .sound in
     let X = rw (c .before .before .before .before .before .before .low .given .1) at (c .before .before .before .before .before .before .before .before .before .pick .ensures .0) in
     let room = c .before .before .before .if1 .left in (
-      (l .inv .0 ∙ c .before .before .before .before .before .before .before .before .before .before .before .before .before .before .before .before .before .before .before .before .before .before .before .pre .0, l .inv .1, c .before .before .before .before .before .before .before .before .before .pick .kept .1 .1 .1 .0 ∙ l .inv .2, omega (arith, A .m120, A .k392), X .0 .low, X .0 .high, omega (arith, A .n120, A .k392)),
+      (l .inv .0 ∙ c .before .before .before .before .before .before .before .before .before .before .before .before .before .before .before .before .before .before .before .before .before .before .before .before .before .before .pre .0, l .inv .1, c .before .before .before .before .before .before .before .before .before .pick .kept .1 .1 .1 .0 ∙ l .inv .2, omega (arith, A .m120, A .k392), X .0 .low, X .0 .high, omega (arith, A .n120, A .k392)),
       picked-ready _ _ _ _ _ _ _ _ _ _ _ S _ _ _ (X .0),
     )
 
@@ -148,7 +158,9 @@ repeat-spec =
     (tie.spec
     Inv-loop
     μ-loop
-    given-columns-requires
+    no-columns-requires
+    slice-aggregate-fill
+    fill-requires
     slice-aggregate-weights
     add-weights
     weights-requires

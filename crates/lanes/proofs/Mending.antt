@@ -14,16 +14,16 @@ use Rattle.lanes.specs.Tiles.{arrived, Loaded, Stored, Flagged, Mended, 
 use Rattle.lanes.proofs.Running.{ran-other}
 
 -- the steps and tests in their order
-pub mends-all : (h k : Matrix) (B M : ℕ) (of at : List ℕ) (s : ℕ) (skip : ℕ → Bool) (none : List ℕ) (r L : ℕ) (rows bits : List ℕ) (t : ℕ) (x x₁ x₂ : Matrix) (f f₁ f₂ : ℕ → Bool)
-    → ((j : ℕ) → f j ≡ false) → Ran h B of at s x x₁ → Tested h B 0 M skip x₁ f f₁ → none ≡ replicate 8 0 → Tested k B r L (lent 8 none 0) x₁ f₁ f₂ → Ran k B rows bits t x₁ x₂
-    → Mends h k B M (listsOf of at s skip r L rows bits t) x x₂ f₂
+pub mends-all : (h k : Matrix) (B M : ℕ) (cs bs : List ℕ) (s : ℕ) (skip : ℕ → Bool) (none : List ℕ) (r L : ℕ) (ds ps : List ℕ) (t : ℕ) (x x₁ x₂ : Matrix) (f f₁ f₂ : ℕ → Bool)
+    → ((j : ℕ) → f j ≡ false) → Ran h B cs bs s x x₁ → Tested h B 0 M skip x₁ f f₁ → none ≡ replicate 8 0 → Tested k B r L (lent 8 none 0) x₁ f₁ f₂ → Ran k B ds ps t x₁ x₂
+    → Mends h k B M (listsOf cs bs s skip r L ds ps t) x x₂ f₂
 unfolding peeling mending contradicted
-mends-all h k B M of at s skip none r L rows bits t x x₁ x₂ f f₁ f₂ z R T e U Z = record {
+mends-all h k B M cs bs s skip none r L ds ps t x x₁ x₂ f f₁ f₂ z R T e U Z = record {
   each = λ j b. Z .each j b ∙ rw (lanes j);
   flags = λ j. U .at j ∙ rw (T .at j, z j, empty, lanes j);
 }
   where
-    lanes : (j : ℕ) → lane x₁ j ≡ ran h B of at s (lane x j)
+    lanes : (j : ℕ) → lane x₁ j ≡ ran h B cs bs s (lane x j)
     lanes j = fun-ext (R .each j)
 
     empty : lent 8 none 0 ≡ (λ c. false)
@@ -42,7 +42,7 @@ no-packet len n xs e b i k =
 -- rows of bits that no step names stay
 pub mending-other : (h k : Matrix) (B M n : ℕ) (p : Lists) → Ready n M p → (o : ℕ → Bool) (b : ℕ) → n ≤ b → mending h k B p o b ≡ o b
 unfolding mending peeling
-mending-other h k B M n p R o b l = ran-other k B (p .rows) (p .bits) (p .t) n _ (R .places) b l ∙ ran-other h B (p .of) (p .at) (p .s) n o (R .bits) b l
+mending-other h k B M n p R o b l = ran-other k B (p .rows) (p .pivots) (p .t) n _ (R .pivots) b l ∙ ran-other h B (p .checks) (p .bits) (p .s) n o (R .bits) b l
 
 module _ (h k : Matrix) (B M n : ℕ) (p : Lists) (R : Ready n M p) (lost left : ℕ → Bool) (from count : ℕ) (x x′ : Matrix) (t t₁ t₂ : Matrix) (f′ : ℕ → Bool)
     (E : Empty n t) (L : Loaded x lost from count n t t₁) (out : (b i : ℕ) → n ≤ b → x b i ≡ false) (X : Mends h k B M p t₁ t₂ f′) where
@@ -96,6 +96,6 @@ ready-wider n B M p l R = record {
   checks = R .checks;
   bits = record { low = λ i k. omega (arith, R .bits .low i k) };
   rows = R .rows;
-  places = record { low = λ i k. omega (arith, R .places .low i k) };
+  pivots = record { low = λ i k. omega (arith, R .pivots .low i k) };
   first = R .first;
 }

@@ -16,29 +16,29 @@ use Rattle.parity.proofs.Finite.Firsts.{any-none}
 use Rattle.rows.proofs.Writing.{combined-at, combined-else}
 use Rattle.lanes.specs.Lanes.{lane, either, Solved, solvedBy, ran, Ran, uneven, Checked, Tested, SumOf, Low}
 
-pub ran-none : (h : Matrix) (B : ℕ) (of at : List ℕ) (x : Matrix) → Ran h B of at 0 x x
+pub ran-none : (h : Matrix) (B : ℕ) (cs bs : List ℕ) (x : Matrix) → Ran h B cs bs 0 x x
 unfolding ran
-ran-none h B of at x = record { each = λ j b. refl }
+ran-none h B cs bs x = record { each = λ j b. refl }
 
-pub ran-next : (h : Matrix) (B : ℕ) (of at : List ℕ) (s : ℕ) (x y z : Matrix) → Ran h B of at s x y → Solved h B (getD of s 0) (getD at s 0) y z → Ran h B of at (s + 1) x z
+pub ran-next : (h : Matrix) (B : ℕ) (cs bs : List ℕ) (s : ℕ) (x y z : Matrix) → Ran h B cs bs s x y → Solved h B (getD cs s 0) (getD bs s 0) y z → Ran h B cs bs (s + 1) x z
 unfolding ran solvedBy
-ran-next h B of at s x y z R S = rw (add-one s) record { each = λ j b. step j b }
+ran-next h B cs bs s x y z R S = rw (add-one s) record { each = λ j b. step j b }
   where
-    lanes : (j : ℕ) → lane y j ≡ ran h B of at s (lane x j)
+    lanes : (j : ℕ) → lane y j ≡ ran h B cs bs s (lane x j)
     lanes j = fun-ext (R .each j)
 
-    step : (j b : ℕ) → z b j ≡ ran h B of at (suc s) (lane x j) b
-    step j b = elim (ℕ-discrete b (getD at s 0)) [
-      | yes q ↦ rw (q, eq-eqb (getD at s 0) (getD at s 0) refl) (S .here j ∙ rw (lanes j, R .each j (getD at s 0)))
-      | no d ↦ rw (ne-eqb b (getD at s 0) d, or-false) (S .else b j d ∙ R .each j b)
+    step : (j b : ℕ) → z b j ≡ ran h B cs bs (suc s) (lane x j) b
+    step j b = elim (ℕ-discrete b (getD bs s 0)) [
+      | yes q ↦ rw (q, eq-eqb (getD bs s 0) (getD bs s 0) refl) (S .here j ∙ rw (lanes j, R .each j (getD bs s 0)))
+      | no d ↦ rw (ne-eqb b (getD bs s 0) d, or-false) (S .else b j d ∙ R .each j b)
     ]
 
 -- bits that no step solves stay
-pub ran-other : (h : Matrix) (B : ℕ) (of at : List ℕ) (s n : ℕ) (o : ℕ → Bool) → Low s n at → (b : ℕ) → n ≤ b → ran h B of at s o b ≡ o b
+pub ran-other : (h : Matrix) (B : ℕ) (cs bs : List ℕ) (s n : ℕ) (o : ℕ → Bool) → Low s n bs → (b : ℕ) → n ≤ b → ran h B cs bs s o b ≡ o b
 unfolding ran solvedBy
-ran-other h B of at zero n o L b k = refl
-ran-other h B of at (suc s) n o L b k =
-    rw (ne-eqb b (getD at s 0) (λ q. omega (arith, L .low s (omega arith))), or-false) (ran-other h B of at s n o record { low = λ i l. L .low i (omega arith) } b k)
+ran-other h B cs bs zero n o L b k = refl
+ran-other h B cs bs (suc s) n o L b k =
+    rw (ne-eqb b (getD bs s 0) (λ q. omega (arith, L .low s (omega arith))), or-false) (ran-other h B cs bs s n o record { low = λ i l. L .low i (omega arith) } b k)
 
 -- tests
 pub tested-none : (h : Matrix) (B first : ℕ) (skip : ℕ → Bool) (x : Matrix) (f : ℕ → Bool) → Tested h B first first skip x f f

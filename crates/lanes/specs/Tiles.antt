@@ -3,15 +3,31 @@
 use mathlib.Core.Path.{_≡_}
 use mathlib.Core.Bool.{Bool, false, not, cond, _&&_}
 use Prim.Native.Nat.{ℕ, _+_, _*_, _≤_, _<_}
-use Rattle.parity.specs.Matrix.{Matrix}
+use Rattle.parity.specs.Matrix.{Matrix, lent}
 use mathlib.Core.List.{List}
 use lib.ListN.{getD, length}
 use Rattle.lanes.specs.Lanes.{Lists, listsOf, mending, contradicted, Low}
 use Rattle.lanes.specs.declared.Plan.{Plan}
+use Rattle.lanes.specs.declared.Part.{Part}
 
 -- the ones of lane i of the packets x that arrived, those that are not lost
 unfoldable pub arrived : Matrix → (ℕ → Bool) → ℕ → ℕ → Bool
 arrived x lost i b = not (lost b) && x b i
+
+-- packet b of the packets xs, and row b of the tile ts, have room for their part
+pub record RowFits (t : Part) (xs ts : List ℕ) (b : ℕ) : Type 0 where
+  pub packet : b * t .len + t .len ≤ length xs
+  pub part : t .from + t .count ≤ t .len
+  pub few : t .count ≤ t .lanes
+  pub row : b * t .lanes + t .lanes ≤ length ts
+
+-- and so have the first n, no more than 512
+pub record TileFits (t : Part) (n : ℕ) (xs ts : List ℕ) : Type 0 where
+  pub packets : n * t .len ≤ length xs
+  pub most : n ≤ 512
+  pub part : t .from + t .count ≤ t .len
+  pub few : t .count ≤ t .lanes
+  pub rows : n * t .lanes ≤ length ts
 
 -- r has the eight words of a list from `first` on
 pub record Eight (ws : List ℕ) (first : ℕ) (r : List ℕ) : Type 0 where
@@ -65,10 +81,10 @@ pub record Empty (n : ℕ) (t : Matrix) : Type 0 where
 
 -- the lists name checks below M and rows below L, and bits below n
 pub record Ready (n M : ℕ) (p : Lists) : Type 0 where
-  pub checks : Low (p .s) M (p .of)
-  pub bits : Low (p .s) n (p .at)
+  pub checks : Low (p .s) M (p .checks)
+  pub bits : Low (p .s) n (p .bits)
   pub rows : Low (p .t) (p .L) (p .rows)
-  pub places : Low (p .t) n (p .bits)
+  pub pivots : Low (p .t) n (p .pivots)
   pub first : p .r ≤ p .L
 
 -- The lanes of a tile are mended, and its flags put; the lanes before and behind it are as they were.
@@ -82,17 +98,33 @@ pub record TileMended (h k : Matrix) (B M : ℕ) (p : Lists) (lost left : ℕ �
 
 -- the lists of a plan, from its numbers and the machine's lists
 abbrev pub planLists : Plan → (ℕ → Bool) → List ℕ → List ℕ → List ℕ → List ℕ → Lists
-planLists p skip of at by into = listsOf of at (p .steps) skip (p .first) (p .end) by into (p .more)
+planLists p skip cs bs ds ps = listsOf cs bs (p .steps) skip (p .first) (p .end) ds ps (p .more)
 
--- the lists that a plan names have room for it
-pub record Fitting (p : Plan) (ws ss of at rs by into : List ℕ) : Type 0 where
+-- the lists that a plan names have room for it: cs and bs the checks and the bits of its steps, rs the reduced rows, ds and ps the rows and the pivots of
+-- the steps by them
+pub record Fitting (p : Plan) (ws ss cs bs rs ds ps : List ℕ) : Type 0 where
   pub words : length ws ≡ 4096
   pub used : p .used ≤ 8
   pub checks : p .checks ≤ 512
   pub skip : length ss ≡ 8
-  pub checks-of : p .steps ≤ length of
-  pub bits-at : p .steps ≤ length at
+  pub step-checks : p .steps ≤ length cs
+  pub step-bits : p .steps ≤ length bs
   pub rows : p .end * p .used ≤ length rs
   pub end : p .end ≤ 512
-  pub rows-by : p .more ≤ length by
-  pub bits-into : p .more ≤ length into
+  pub step-rows : p .more ≤ length ds
+  pub step-pivots : p .more ≤ length ps
+
+-- A plan that can be carried out: its lists fit, and are ready for its bits, which its words have room for.
+pub record Carried (p : Plan) (ws ss cs bs rs ds ps : List ℕ) : Type 0 where
+  pub fits : Fitting p ws ss cs bs rs ds ps
+  pub ready : Ready (p .bits) (p .checks) (planLists p (lent 8 ss 0) cs bs ds ps)
+  pub bits : p .bits ≤ p .used * 64
+
+-- the packets xs, with a word of ys for each of their words, and the sets es of the lost and ls of the left ones, for tiles of T words
+pub record Tiled (p : Plan) (T : ℕ) (es ls xs ys : List ℕ) : Type 0 where
+  pub lost : length es ≡ 8
+  pub left : length ls ≡ 8
+  pub packets : length xs ≡ p .bits * length ys
+  pub some : 0 < p .lanes
+  pub most : p .lanes ≤ 8
+  pub room : p .used * 64 * p .lanes ≤ T

@@ -16,3 +16,11 @@ pub struct Plan {
     pub more: usize,
     pub lanes: usize,
 }
+
+// Where a tile stands in packets of `len` words: it has their `count` words from `from` on, in rows of `lanes` words.
+pub struct Part {
+    pub len: usize,
+    pub from: usize,
+    pub count: usize,
+    pub lanes: usize,
+}

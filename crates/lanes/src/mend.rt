@@ -1,4 +1,5 @@
 // A plan carried out in the lanes of packets, tile by tile.
+use crate::Part;
 use crate::Plan;
 use crate::run::solve_in;
 use crate::run::test_in;
@@ -10,7 +11,7 @@ ghost use Prim.Native.Nat.{_+_, _*_, _≤_, _<_};
 ghost use lib.ListN.{length};
 ghost use Rattle.parity.specs.Matrix.{lent};
 ghost use Rattle.lanes.specs.Lanes.{Mends};
-ghost use Rattle.lanes.specs.Tiles.{planLists, Fitting, Ready, Empty, TileMended, Mended};
+ghost use Rattle.lanes.specs.Tiles.{planLists, Carried, Tiled, Empty, TileMended, Mended};
 
 // The plan is carried out in the lanes of a tile. The answer has the lanes in which a test fails.
 fn run(
@@ -24,8 +25,7 @@ fn run(
     p: Plan,
     tile: &mut [u64],
 ) -> [u64; 8]
-    requires { ⌜ Fitting p (now words) (now skip) (now checks) (now bits) (now reduced) (now rows) (now pivots) × Ready (p .used * 64) (p .checks) (planLists p (lent 8 (now skip) 0) (now checks) (now bits) (now rows) (now pivots)) ⌝ }
-    requires { ⌜ (p .used * 64 * p .lanes ≤ length (now tile)) × (p .lanes ≤ 8) ⌝ }
+    requires { ⌜ Carried p (now words) (now skip) (now checks) (now bits) (now reduced) (now rows) (now pivots) × (p .used * 64 * p .lanes ≤ length (now tile)) × (p .lanes ≤ 8) ⌝ }
     ensures { λ r. ⌜ (length r ≡ 8) × Mends (lent 8 (now (words .entry))) (lent (p .used) (now (reduced .entry))) (p .used * 64) (p .checks) (planLists p (lent 8 (now (skip .entry)) 0) (now (checks .entry)) (now (bits .entry)) (now (rows .entry)) (now (pivots .entry))) (lent (p .lanes) (now (tile .entry))) (lent (p .lanes) (now (tile .exit))) (lent (p .lanes) r 0) ⌝ }
 {
     let none = [0u64; 8];
@@ -66,16 +66,22 @@ fn mend_tile(
     tile: &mut [u64],
     from: usize,
 ) -> usize
-    requires { ⌜ Fitting p (now words) (now skip) (now checks) (now bits) (now reduced) (now rows) (now pivots) × Ready (p .bits) (p .checks) (planLists p (lent 8 (now skip) 0) (now checks) (now bits) (now rows) (now pivots)) ⌝ }
-    requires { ⌜ (p .bits ≤ p .used * 64) × (length (now lost) ≡ 8) × (length (now left) ≡ 8) × (length (now packets) ≡ p .bits * length (now odd)) × (0 < p .lanes) × (p .used * 64 * p .lanes ≤ length (now tile)) × (p .lanes ≤ 8) × Empty (p .bits) (lent (p .lanes) (now tile)) × (from < length (now odd)) ⌝ }
+    requires { ⌜ Carried p (now words) (now skip) (now checks) (now bits) (now reduced) (now rows) (now pivots) × Tiled p (length (now tile)) (now lost) (now left) (now packets) (now odd) ⌝ }
+    requires { ⌜ Empty (p .bits) (lent (p .lanes) (now tile)) × (from < length (now odd)) ⌝ }
     ensures { λ r. ⌜ (0 < r) × (from + r ≤ length (now (odd .entry))) × Empty (p .bits) (lent (p .lanes) (now (tile .exit))) × TileMended (lent 8 (now (words .entry))) (lent (p .used) (now (reduced .entry))) (p .used * 64) (p .checks) (planLists p (lent 8 (now (skip .entry)) 0) (now (checks .entry)) (now (bits .entry)) (now (rows .entry)) (now (pivots .entry))) (lent 8 (now (lost .entry)) 0) (lent 8 (now (left .entry)) 0) (p .bits) from r (lent (length (now (odd .entry))) (now (packets .entry))) (lent (length (now (odd .entry))) (now (packets .exit))) (lent (length (now (odd .entry))) (now (odd .entry)) 0) (lent (length (now (odd .entry))) (now (odd .exit)) 0) ⌝ }
 {
     let len = odd.len();
     let count = part(len, from, p.lanes);
-    load(packets, len, p, lost, from, count, tile);
+    let t = Part {
+        len,
+        from,
+        count,
+        lanes: p.lanes,
+    };
+    load(packets, t, p.bits, lost, tile);
     let flags = run(words, skip, checks, bits, reduced, rows, pivots, p, tile);
-    store(packets, len, p, lost, left, from, count, tile, &flags);
-    put_flags(odd, from, count, &flags, p.lanes);
+    store(packets, t, p.bits, lost, left, tile, &flags);
+    put_flags(odd, t, &flags);
     count
 }
 
@@ -94,8 +100,7 @@ pub fn mend(
     packets: &mut [u64],
     odd: &mut [u64],
 )
-    requires { ⌜ Fitting p (now words) (now skip) (now checks) (now bits) (now reduced) (now rows) (now pivots) × Ready (p .bits) (p .checks) (planLists p (lent 8 (now skip) 0) (now checks) (now bits) (now rows) (now pivots)) ⌝ }
-    requires { ⌜ (p .bits ≤ p .used * 64) × (length (now lost) ≡ 8) × (length (now left) ≡ 8) × (length (now packets) ≡ p .bits * length (now odd)) × (0 < p .lanes) × (p .used * 64 * p .lanes ≤ 2048) × (p .lanes ≤ 8) ⌝ }
+    requires { ⌜ Carried p (now words) (now skip) (now checks) (now bits) (now reduced) (now rows) (now pivots) × Tiled p 2048 (now lost) (now left) (now packets) (now odd) ⌝ }
     ensures { λ _. ⌜ Mended (lent 8 (now (words .entry))) (lent (p .used) (now (reduced .entry))) (p .used * 64) (p .checks) (planLists p (lent 8 (now (skip .entry)) 0) (now (checks .entry)) (now (bits .entry)) (now (rows .entry)) (now (pivots .entry))) (lent 8 (now (lost .entry)) 0) (lent 8 (now (left .entry)) 0) (p .bits) (length (now (odd .entry)) * 64) (lent (length (now (odd .entry))) (now (packets .entry))) (lent (length (now (odd .entry))) (now (packets .exit))) (lent (length (now (odd .entry))) (now (odd .exit)) 0) ⌝ }
 {
     let mut tile = [0u64; 2048];

@@ -6,7 +6,7 @@ ghost use mathlib.Core.Path.{_≡_};
 ghost use Prim.Native.Nat.{_+_, _*_, _≤_, _<_};
 ghost use lib.ListN.{length};
 ghost use Rattle.parity.specs.Matrix.{lent};
-ghost use Rattle.lanes.specs.Lanes.{either, Solved, Ran, Checked, Tested, Low};
+ghost use Rattle.lanes.specs.Lanes.{Meets, either, Solved, Ran, Checked, Tested, Low};
 
 // A number of a check or of a bit, from a list.
 pub fn place(x: u16) -> usize
@@ -35,7 +35,7 @@ fn solve_lanes(
     lanes: usize,
     b: usize,
 )
-    requires { ⌜ (c * width + width ≤ length (now rows)) × (used ≤ width) × (width ≤ 8) × (used * 64 * lanes ≤ length (now tile)) × (lanes ≤ 8) × (b < used * 64) ⌝ }
+    requires { ⌜ Meets width used lanes (now rows) (now tile) c × (b < used * 64) ⌝ }
     ensures { λ _. ⌜ Solved (lent width (now (rows .entry))) (used * 64) c b (lent lanes (now (tile .entry))) (lent lanes (now (tile .exit))) ⌝ }
 {
     let sum = sum_of(rows, width, used, c, tile, lanes);
@@ -52,7 +52,7 @@ fn solve(
     lanes: usize,
     b: usize,
 )
-    requires { ⌜ (c * width + width ≤ length (now rows)) × (used ≤ width) × (width ≤ 8) × (used * 64 * lanes ≤ length (now tile)) × (lanes ≤ 8) × (b < used * 64) ⌝ }
+    requires { ⌜ Meets width used lanes (now rows) (now tile) c × (b < used * 64) ⌝ }
     ensures { λ _. ⌜ Solved (lent width (now (rows .entry))) (used * 64) c b (lent lanes (now (tile .entry))) (lent lanes (now (tile .exit))) ⌝ }
 {
     if lanes == 8 {
@@ -72,7 +72,7 @@ fn test_lanes(
     lanes: usize,
     flags: &mut [u64],
 )
-    requires { ⌜ (c * width + width ≤ length (now rows)) × (used ≤ width) × (width ≤ 8) × (used * 64 * lanes ≤ length (now tile)) × (lanes ≤ 8) × (lanes ≤ length (now flags)) ⌝ }
+    requires { ⌜ Meets width used lanes (now rows) (now tile) c × (lanes ≤ length (now flags)) ⌝ }
     ensures { λ _. ⌜ Checked (lent width (now (rows .entry))) (used * 64) c (lent lanes (now (tile .entry))) (lent lanes (now (flags .entry)) 0) (lent lanes (now (flags .exit)) 0) ⌝ }
 {
     let sum = sum_of(rows, width, used, c, tile, lanes);
@@ -89,7 +89,7 @@ fn test(
     lanes: usize,
     flags: &mut [u64],
 )
-    requires { ⌜ (c * width + width ≤ length (now rows)) × (used ≤ width) × (width ≤ 8) × (used * 64 * lanes ≤ length (now tile)) × (lanes ≤ 8) × (lanes ≤ length (now flags)) ⌝ }
+    requires { ⌜ Meets width used lanes (now rows) (now tile) c × (lanes ≤ length (now flags)) ⌝ }
     ensures { λ _. ⌜ Checked (lent width (now (rows .entry))) (used * 64) c (lent lanes (now (tile .entry))) (lent lanes (now (flags .entry)) 0) (lent lanes (now (flags .exit)) 0) ⌝ }
 {
     if lanes == 8 {

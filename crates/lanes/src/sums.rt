@@ -5,7 +5,7 @@ ghost use mathlib.Core.Path.{_≡_};
 ghost use Prim.Native.Nat.{_+_, _*_, _≤_, _<_};
 ghost use lib.ListN.{length, replicate};
 ghost use Rattle.parity.specs.Matrix.{lent};
-ghost use Rattle.lanes.specs.Lanes.{WordAdded, SumOf};
+ghost use Rattle.lanes.specs.Lanes.{Meets, WordAdded, SumOf};
 
 // The rows of the tile at the ones of `x`, word `i` of a check, are added to `acc`.
 fn add_word(acc: &mut [u64], tile: &[u64], lanes: usize, i: usize, x: u64)
@@ -30,7 +30,7 @@ fn add_check(
     lanes: usize,
     acc: &mut [u64],
 )
-    requires { ⌜ (c * width + width ≤ length (now rows)) × (used ≤ width) × (width ≤ 8) × (used * 64 * lanes ≤ length (now tile)) × (lanes ≤ length (now acc)) × (now acc ≡ replicate 8 0) ⌝ }
+    requires { ⌜ Meets width used lanes (now rows) (now tile) c × (now acc ≡ replicate 8 0) ⌝ }
     ensures { λ _. ⌜ SumOf (lent width (now (rows .entry))) (used * 64) c (lent lanes (now (tile .entry))) (lent lanes (now (acc .exit)) 0) ⌝ }
 {
     for i in 0..used {
@@ -47,7 +47,7 @@ pub fn sum_of(
     tile: &[u64],
     lanes: usize,
 ) -> [u64; 8]
-    requires { ⌜ (c * width + width ≤ length (now rows)) × (used ≤ width) × (width ≤ 8) × (used * 64 * lanes ≤ length (now tile)) × (lanes ≤ 8) ⌝ }
+    requires { ⌜ Meets width used lanes (now rows) (now tile) c ⌝ }
     ensures { λ r. ⌜ (length r ≡ 8) × SumOf (lent width (now (rows .entry))) (used * 64) c (lent lanes (now (tile .entry))) (lent lanes r 0) ⌝ }
 {
     let mut acc = [0u64; 8];

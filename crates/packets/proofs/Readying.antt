@@ -26,27 +26,27 @@ use Rattle.lanes.specs.Lanes.{mending, contradicted}
 in-short : (N : ℕ) (e : ℕ → Bool) → Short N e → (b : ℕ) → e b ≡ true → b < N
 in-short N e S b q = elim (decLt b N) [ yes l ↦ l | no l ↦ absurd (true≢false (sym q ∙ S .none b (omega arith))) ]
 
-module _ (h : Matrix) (N M W : ℕ) (few : N ≤ 512) (wide : W ≤ 8) (room : N ≤ W * 64) (e : ℕ → Bool) (short : Short N e) (es of at : List ℕ) (s : ℕ) (skip : ℕ → Bool) (P : Peeled h (W * 64) M e (lent 8 es 0) of at s skip)
+module _ (h : Matrix) (N M W : ℕ) (few : N ≤ 512) (wide : W ≤ 8) (room : N ≤ W * 64) (e : ℕ → Bool) (short : Short N e) (es cs bs : List ℕ) (s : ℕ) (skip : ℕ → Bool) (P : Peeled h (W * 64) M e (lent 8 es 0) cs bs s skip)
     (g k : Matrix) (L r : ℕ) (piv : List ℕ) (G : Gathered h g (W * 64) M (lent 8 es 0) L) (R : Reduction g k (W * 64) L (lent W es 0) (W * 64) r piv)
-    (ls : List ℕ) (same : ls ≡ es) (left : ℕ → Bool) (by into : List ℕ) (t : ℕ) (T : Listed k (W * 64) (lent W es 0) piv r (lent 8 ls 0) left by into t) where
+    (ls : List ℕ) (same : ls ≡ es) (left : ℕ → Bool) (ds ps : List ℕ) (t : ℕ) (T : Listed k (W * 64) (lent W es 0) piv r (lent 8 ls 0) left ds ps t) where
   low : Low r N piv
   low = record {
     low = λ c l. in-short N e short (getD piv c 0) (P .settling .order .within (getD piv c 0)
         (sym (narrow W 8 wide es (getD piv c 0) (R .form .low c l)) ∙ R .form .among c l));
   }
 
-  pub ready-made : Ready N M (listsOf of at s skip r L by into t)
+  pub ready-made : Ready N M (listsOf cs bs s skip r L ds ps t)
   ready-made = record {
     checks = P .settling .order .checks;
-    bits = record { low = λ i l. in-short N e short (getD at i 0) (P .settling .order .lost i l) };
+    bits = record { low = λ i l. in-short N e short (getD bs i 0) (P .settling .order .lost i l) };
     rows = record { low = λ i l. omega (arith, T .rows .low i l, R .form .few) };
-    places = T .bits N low;
+    pivots = T .bits N low;
     first = R .form .few;
   }
 
-  pub plan-made : Plans h N M e left (mending h k (W * 64) (listsOf of at s skip r L by into t)) (contradicted h k (W * 64) M (listsOf of at s skip r L by into t))
+  pub plan-made : Plans h N M e left (mending h k (W * 64) (listsOf cs bs s skip r L ds ps t)) (contradicted h k (W * 64) M (listsOf cs bs s skip r L ds ps t))
   plan-made =
-      plan-works h N M W few wide room e (short .none) es (P .done) (listsOf of at s skip r L by into t) (P .settling) (P .joined) g k piv G R left
+      plan-works h N M W few wide room e (short .none) es (P .done) (listsOf cs bs s skip r L ds ps t) (P .settling) (P .joined) g k piv G R left
       (rw same at T) (λ c. refl)
 
 -- nothing is left: there are no rows
@@ -73,18 +73,18 @@ module _ (h : Matrix) (B M : ℕ) (few : B ≤ 512) (e : ℕ → Bool) (empty : 
     };
   }
 
-module _ (h : Matrix) (N M W : ℕ) (few : N ≤ 512) (wide : W ≤ 8) (room : N ≤ W * 64) (e : ℕ → Bool) (short : Short N e) (es of at : List ℕ) (s : ℕ) (skip : ℕ → Bool) (P : Peeled h (W * 64) M e (lent 8 es 0) of at s skip)
-    (empty : count 512 (lent 8 es 0) ≡ 0) (k : Matrix) (first end more : ℕ) (f : first ≡ 0) (z : end ≡ 0) (m : more ≡ 0) (by into : List ℕ) where
-  pub ready-peeled : Ready N M (listsOf of at s skip first end by into more)
+module _ (h : Matrix) (N M W : ℕ) (few : N ≤ 512) (wide : W ≤ 8) (room : N ≤ W * 64) (e : ℕ → Bool) (short : Short N e) (es cs bs : List ℕ) (s : ℕ) (skip : ℕ → Bool) (P : Peeled h (W * 64) M e (lent 8 es 0) cs bs s skip)
+    (empty : count 512 (lent 8 es 0) ≡ 0) (k : Matrix) (first end more : ℕ) (f : first ≡ 0) (z : end ≡ 0) (m : more ≡ 0) (ds ps : List ℕ) where
+  pub ready-peeled : Ready N M (listsOf cs bs s skip first end ds ps more)
   ready-peeled =
-      rw (f, z, m) (ready-made h N M W few wide room e short es of at s skip P k k 0 0 [] (gathered-empty h (W * 64) M (omega arith) (lent 8 es 0) empty k (lent W es 0))
-      (reduction-empty h (W * 64) M (omega arith) (lent 8 es 0) empty k (lent W es 0) []) es refl (lent 8 es 0) by into 0 (listed-none k (W * 64) (lent W es 0) [] (lent 8 es 0) by into))
+      rw (f, z, m) (ready-made h N M W few wide room e short es cs bs s skip P k k 0 0 [] (gathered-empty h (W * 64) M (omega arith) (lent 8 es 0) empty k (lent W es 0))
+      (reduction-empty h (W * 64) M (omega arith) (lent 8 es 0) empty k (lent W es 0) []) es refl (lent 8 es 0) ds ps 0 (listed-none k (W * 64) (lent W es 0) [] (lent 8 es 0) ds ps))
 
-  pub plan-peeled : Plans h N M e (lent 8 es 0) (mending h k (W * 64) (listsOf of at s skip first end by into more)) (contradicted h k (W * 64) M (listsOf of at s skip first end by into more))
+  pub plan-peeled : Plans h N M e (lent 8 es 0) (mending h k (W * 64) (listsOf cs bs s skip first end ds ps more)) (contradicted h k (W * 64) M (listsOf cs bs s skip first end ds ps more))
   plan-peeled =
-      rw (f, z, m) (plan-made h N M W few wide room e short es of at s skip P k k 0 0 [] (gathered-empty h (W * 64) M (omega arith) (lent 8 es 0) empty k (lent W es 0))
-      (reduction-empty h (W * 64) M (omega arith) (lent 8 es 0) empty k (lent W es 0) []) es refl (lent 8 es 0) by into 0 (listed-none k (W * 64) (lent W es 0) [] (lent 8 es 0) by into))
+      rw (f, z, m) (plan-made h N M W few wide room e short es cs bs s skip P k k 0 0 [] (gathered-empty h (W * 64) M (omega arith) (lent 8 es 0) empty k (lent W es 0))
+      (reduction-empty h (W * 64) M (omega arith) (lent 8 es 0) empty k (lent W es 0) []) es refl (lent 8 es 0) ds ps 0 (listed-none k (W * 64) (lent W es 0) [] (lent 8 es 0) ds ps))
 
 -- so many steps as there are lost bits at most
-pub few-steps : (h : Matrix) (B M : ℕ) (e e′ : ℕ → Bool) (of at : List ℕ) (s : ℕ) (skip : ℕ → Bool) → B ≤ 512 → Peeled h B M e e′ of at s skip → s ≤ 512
-few-steps h B M e e′ of at s skip l P = omega (arith, P .settling .order .fewer, count-bound B e)
+pub few-steps : (h : Matrix) (B M : ℕ) (e e′ : ℕ → Bool) (cs bs : List ℕ) (s : ℕ) (skip : ℕ → Bool) → B ≤ 512 → Peeled h B M e e′ cs bs s skip → s ≤ 512
+few-steps h B M e e′ cs bs s skip l P = omega (arith, P .settling .order .fewer, count-bound B e)

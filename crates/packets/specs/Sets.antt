@@ -30,8 +30,8 @@ pub record Rooms (p : Plan) (ws es rs ss cs bs xs ys : List ℕ) : Type 0 where
   pub lost : length es ≡ 8
   pub left : length rs ≡ 8
   pub skip : length ss ≡ 8
-  pub checks-of : length cs ≡ 512
-  pub bits-at : length bs ≡ 512
+  pub step-checks : length cs ≡ 512
+  pub step-bits : length bs ≡ 512
   pub packets : length xs ≡ p .bits * length ys
   pub some : 0 < p .lanes
   pub most : p .lanes ≤ 8

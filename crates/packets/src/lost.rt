@@ -98,7 +98,7 @@ fn finish_peeled(
     );
 }
 
-// What peeling leaves is reduced, and the whole plan is carried out in every lane.
+// What peeling leaves is reduced, and the whole plan is carried out in every lane: also the steps by the reduced rows of `by`, each of which determines its bit of `own`.
 fn finish(
     words: &[u64],
     p: Plan,
@@ -117,11 +117,11 @@ fn finish(
 {
     let mut rows = [0u64; 4096];
     let mut pivots = [0usize; 512];
-    let mut lone = [0u16; 512];
-    let mut at = [0u16; 512];
+    let mut by = [0u16; 512];
+    let mut own = [0u16; 512];
     let end = gather(words, p.used, p.checks, residue, &mut rows);
     let r = reduce_in(&mut rows, p.used, end, residue, &mut pivots);
-    let more = list_alone(&rows, p.used, &pivots, r, residue, left, &mut lone, &mut at);
+    let more = list_alone(&rows, p.used, &pivots, r, residue, left, &mut by, &mut own);
     let q = with_rows(p, r, end, more);
     mend(
         words,
@@ -129,8 +129,8 @@ fn finish(
         checks,
         bits,
         &rows,
-        &lone,
-        &at,
+        &by,
+        &own,
         q,
         lost,
         left,

@@ -25,12 +25,12 @@ use Rattle.lanes.specs.Lanes.{ran, solvedBy}
 use Rattle.plan.specs.Order.{Free, Even, Ordered, Joined}
 
 -- only the first s numbers of the lists count
-pub ran-same : (h : Matrix) (B : ℕ) (of at of′ at′ : List ℕ) (s : ℕ) (o : ℕ → Bool) → ((i : ℕ) → i < s → getD of′ i 0 ≡ getD of i 0)
-    → ((i : ℕ) → i < s → getD at′ i 0 ≡ getD at i 0) → ran h B of′ at′ s o ≡ ran h B of at s o
+pub ran-same : (h : Matrix) (B : ℕ) (cs bs cs′ bs′ : List ℕ) (s : ℕ) (o : ℕ → Bool) → ((i : ℕ) → i < s → getD cs′ i 0 ≡ getD cs i 0)
+    → ((i : ℕ) → i < s → getD bs′ i 0 ≡ getD bs i 0) → ran h B cs′ bs′ s o ≡ ran h B cs bs s o
 unfolding ran
-ran-same h B of at of′ at′ zero o f g = refl
-ran-same h B of at of′ at′ (suc s) o f g =
-    rw (f s (omega arith), g s (omega arith), ran-same h B of at of′ at′ s o (λ i l. f i (omega arith)) (λ i l. g i (omega arith)))
+ran-same h B cs bs cs′ bs′ zero o f g = refl
+ran-same h B cs bs cs′ bs′ (suc s) o f g =
+    rw (f s (omega arith), g s (omega arith), ran-same h B cs bs cs′ bs′ s o (λ i l. f i (omega arith)) (λ i l. g i (omega arith)))
 
 -- a set that gains bit b at most, which was not in it
 inside-gain : (h : Matrix) (B c b : ℕ) (o : ℕ → Bool) (x : Bool) → b < B → h c b ≡ true → o b ≡ false → inside h B c (λ a. o a || (eqb a b && x)) ≡ inside h B c o + one x
@@ -55,9 +55,9 @@ even-odd : (s : ℕ) → odd (s + one (odd s)) ≡ false
 unfolding odd
 even-odd s = let q = odd-added s in ne-eqb ((s + one (odd s)) % 2) 1 (λ z. omega (arith, q))
 
-pub ordered-none : (h : Matrix) (B M : ℕ) (e : ℕ → Bool) (of at : List ℕ) (done : Matrix) → Empty done → Ordered h B M e e of at 0 (done 0)
+pub ordered-none : (h : Matrix) (B M : ℕ) (e : ℕ → Bool) (cs bs : List ℕ) (done : Matrix) → Empty done → Ordered h B M e e cs bs 0 (done 0)
 unfolding ran
-ordered-none h B M e of at done E = record {
+ordered-none h B M e cs bs done E = record {
   checks = record { low = λ i l. absurd (omega arith) };
   bits = record { low = λ i l. absurd (omega arith) };
   fewer = omega arith;
@@ -68,50 +68,50 @@ ordered-none h B M e of at done E = record {
   even = λ d q. absurd (false≢true (sym (E .at 0 d) ∙ q));
 }
 
-module _ (h : Matrix) (B M : ℕ) (e e₁ : ℕ → Bool) (of at : List ℕ) (s : ℕ) (done : ℕ → Bool) (O : Ordered h B M e e₁ of at s done) (c b : ℕ) (L : Lone h B M e₁ c b)
-    (e₂ : ℕ → Bool) (gone : (a : ℕ) → e₂ a ≡ (e₁ a && not (eqb a b))) (of′ at′ : List ℕ) (fc : getD of′ s 0 ≡ c) (fb : getD at′ s 0 ≡ b)
-    (sc : (i : ℕ) → i < s → getD of′ i 0 ≡ getD of i 0) (sb : (i : ℕ) → i < s → getD at′ i 0 ≡ getD at i 0) where
+module _ (h : Matrix) (B M : ℕ) (e e₁ : ℕ → Bool) (cs bs : List ℕ) (s : ℕ) (done : ℕ → Bool) (O : Ordered h B M e e₁ cs bs s done) (c b : ℕ) (L : Lone h B M e₁ c b)
+    (e₂ : ℕ → Bool) (gone : (a : ℕ) → e₂ a ≡ (e₁ a && not (eqb a b))) (cs′ bs′ : List ℕ) (fc : getD cs′ s 0 ≡ c) (fb : getD bs′ s 0 ≡ b)
+    (sc : (i : ℕ) → i < s → getD cs′ i 0 ≡ getD cs i 0) (sb : (i : ℕ) → i < s → getD bs′ i 0 ≡ getD bs i 0) where
   -- the set after the step
-  step : (o : ℕ → Bool) (a : ℕ) → ran h B of′ at′ (suc s) o a ≡ (ran h B of at s o a || (eqb a b && odd (inside h B c (ran h B of at s o))))
+  step : (o : ℕ → Bool) (a : ℕ) → ran h B cs′ bs′ (suc s) o a ≡ (ran h B cs bs s o a || (eqb a b && odd (inside h B c (ran h B cs bs s o))))
   unfolding ran solvedBy
-  step o a = rw (ran-same h B of at of′ at′ s o sc sb, fc, fb)
+  step o a = rw (ran-same h B cs bs cs′ bs′ s o sc sb, fc, fb)
 
-  solves : (o : ℕ → Bool) → Solved h B c b e₁ (ran h B of at s o) e₂ (ran h B of′ at′ (suc s) o)
+  solves : (o : ℕ → Bool) → Solved h B c b e₁ (ran h B cs bs s o) e₂ (ran h B cs′ bs′ (suc s) o)
   solves o = record { gone = gone; value = step o }
 
   left : (a : ℕ) → e₂ a ≡ true → (e₁ a ≡ true) × (not (eqb a b) ≡ true)
   left a q = and-eq-true-iff (e₁ a) (not (eqb a b)) .0 (sym (gone a) ∙ q)
 
-  free₂ : (o : ℕ → Bool) → Free e o → Free e₂ (ran h B of′ at′ (suc s) o)
+  free₂ : (o : ℕ → Bool) → Free e o → Free e₂ (ran h B cs′ bs′ (suc s) o)
   free₂ o F = record {
     none = λ a q.
         let (p, r) = left a q in
         step o a ∙ rw (O .free o F .none a p) (elim (ℕ-discrete a b) [ yes t ↦ absurd (false≢true (rw (eq-eqb a b t) at r)) | no d ↦ rw (ne-eqb a b d) ]);
   }
 
-  inside-step : (o : ℕ → Bool) (d : ℕ) → inside h B d (ran h B of′ at′ (suc s) o) ≡ inside h B d (λ a. ran h B of at s o a || (eqb a b && odd (inside h B c (ran h B of at s o))))
+  inside-step : (o : ℕ → Bool) (d : ℕ) → inside h B d (ran h B cs′ bs′ (suc s) o) ≡ inside h B d (λ a. ran h B cs bs s o a || (eqb a b && odd (inside h B c (ran h B cs bs s o))))
   inside-step o d = ap (inside h B d) (fun-ext (step o))
 
-  even-own : Even h B e e₂ of′ at′ (suc s) c
+  even-own : Even h B e e₂ cs′ bs′ (suc s) c
   even-own = record {
     gone = omega (arith, L .only, inside-loss h B c b e₁ e₂ (L .bit) (L .has) (L .gone) gone);
-    even = λ o F. rw (inside-step o c, inside-gain h B c b (ran h B of at s o) (odd (inside h B c (ran h B of at s o))) (L .bit) (L .has) (O .free o F .none b (L .gone)))
-        (even-odd (inside h B c (ran h B of at s o)));
+    even = λ o F. rw (inside-step o c, inside-gain h B c b (ran h B cs bs s o) (odd (inside h B c (ran h B cs bs s o))) (L .bit) (L .has) (O .free o F .none b (L .gone)))
+        (even-odd (inside h B c (ran h B cs bs s o)));
   }
 
-  even-other : (d : ℕ) → Even h B e e₁ of at s d → Even h B e e₂ of′ at′ (suc s) d
+  even-other : (d : ℕ) → Even h B e e₁ cs bs s d → Even h B e e₂ cs′ bs′ (suc s) d
   even-other d E =
       let n : h d b ≡ false = elim (is (h d b)) [ is-false q ↦ q | is-true q ↦ absurd (true≢false (sym (L .gone) ∙ outside h B d e₁ (E .gone) b (L .bit) q)) ] in
       record {
         gone = omega (arith, E .gone, inside-le h B d e₂ e₁ (λ a k q. left a q .0));
-        even = λ o F. rw (inside-step o d, inside-else h B d b (ran h B of at s o) (odd (inside h B c (ran h B of at s o))) n) (E .even o F);
+        even = λ o F. rw (inside-step o d, inside-else h B d b (ran h B cs bs s o) (odd (inside h B c (ran h B cs bs s o))) n) (E .even o F);
       }
 
-  pub ordered-next : (done′ : ℕ → Bool) → ((d : ℕ) → (d ≡ c → ⊥) → done′ d ≡ done d) → Ordered h B M e e₂ of′ at′ (s + 1) done′
+  pub ordered-next : (done′ : ℕ → Bool) → ((d : ℕ) → (d ≡ c → ⊥) → done′ d ≡ done d) → Ordered h B M e e₂ cs′ bs′ (s + 1) done′
   ordered-next done′ p = rw (add-one s) record {
     checks = record { low = λ i l. elim (ℕ-discrete i s) [ yes q ↦ rw (q, fc) (L .check) | no d ↦ rw (sc i (omega arith)) (O .checks .low i (omega arith)) ] };
     bits = record { low = λ i l. elim (ℕ-discrete i s) [ yes q ↦ rw (q, fb) (L .bit) | no d ↦ rw (sb i (omega arith)) (O .bits .low i (omega arith)) ] };
-    fewer = omega (arith, O .fewer, fewer h B M c b e₁ (ran h B of at s (λ a. false)) e₂ (ran h B of′ at′ (suc s) (λ a. false)) L (solves (λ a. false)));
+    fewer = omega (arith, O .fewer, fewer h B M c b e₁ (ran h B cs bs s (λ a. false)) e₂ (ran h B cs′ bs′ (suc s) (λ a. false)) L (solves (λ a. false)));
     within = λ a q. O .within a (left a q .0);
     lost = λ i l. elim (ℕ-discrete i s) [ yes q ↦ rw (q, fb) (O .within b (L .gone)) | no d ↦ rw (sb i (omega arith)) (O .lost i (omega arith)) ];
     reached = λ o. next (O .reached o) c b L (solves o);
@@ -127,12 +127,12 @@ put-out b E E′ p a = ap (λ (g : Matrix). g 0 a) p ∙ (elim (ℕ-discrete a b
 ])
 
 -- a step that is noted
-pub ordered-noted : (h : Matrix) (B M : ℕ) (e : ℕ → Bool) (E E′ D D′ : Matrix) (of at of′ at′ : List ℕ) (s c b : ℕ) → Ordered h B M e (E 0) of at s (D 0) → Lone h B M (E 0) c b
-    → E′ ≡ put 0 b false E → D′ ≡ put 0 c true D → of′ ≡ set of s c → at′ ≡ set at s b → s < length of → s < length at → Ordered h B M e (E′ 0) of′ at′ (s + 1) (D′ 0)
-ordered-noted h B M e E E′ D D′ of at of′ at′ s c b O L p q u v k l =
-    ordered-next h B M e (E 0) of at s (D 0) O c b L (E′ 0) (put-out b E E′ p) of′ at′
-    (rw u (getD-set-same of s c 0 k)) (rw v (getD-set-same at s b 0 l))
-    (λ i m. rw u (getD-set-other of s i c 0 (λ e. omega arith))) (λ i m. rw v (getD-set-other at s i b 0 (λ e. omega arith)))
+pub ordered-noted : (h : Matrix) (B M : ℕ) (e : ℕ → Bool) (E E′ D D′ : Matrix) (cs bs cs′ bs′ : List ℕ) (s c b : ℕ) → Ordered h B M e (E 0) cs bs s (D 0) → Lone h B M (E 0) c b
+    → E′ ≡ put 0 b false E → D′ ≡ put 0 c true D → cs′ ≡ set cs s c → bs′ ≡ set bs s b → s < length cs → s < length bs → Ordered h B M e (E′ 0) cs′ bs′ (s + 1) (D′ 0)
+ordered-noted h B M e E E′ D D′ cs bs cs′ bs′ s c b O L p q u v k l =
+    ordered-next h B M e (E 0) cs bs s (D 0) O c b L (E′ 0) (put-out b E E′ p) cs′ bs′
+    (rw u (getD-set-same cs s c 0 k)) (rw v (getD-set-same bs s b 0 l))
+    (λ i m. rw u (getD-set-other cs s i c 0 (λ e. omega arith))) (λ i m. rw v (getD-set-other bs s i b 0 (λ e. omega arith)))
     (D′ 0) (λ d n. ap (λ (g : Matrix). g 0 d) q ∙ put-place 0 c true D 0 d n)
 
 -- and leaves less to do

@@ -53,9 +53,9 @@ pub reduced-low : (g k : Matrix) (B L r : ℕ) (e : ℕ → Bool) (at : List ℕ
 reduced-low g k B L r e at R = record { low = λ c l. R .form .low c l }
 
 module _ (h : Matrix) (N M W : ℕ) (few : N ≤ 512) (wide : W ≤ 8) (room : N ≤ W * 64) (e : ℕ → Bool) (short : (b : ℕ) → N ≤ b → e b ≡ false) (es : List ℕ) (done : ℕ → Bool) (p : Lists)
-    (S : Settling h (W * 64) M e (lent 8 es 0) (p .of) (p .at) (p .s) done) (J : Joined h (W * 64) M (lent 8 es 0) done (p .skip))
+    (S : Settling h (W * 64) M e (lent 8 es 0) (p .checks) (p .bits) (p .s) done) (J : Joined h (W * 64) M (lent 8 es 0) done (p .skip))
     (g k : Matrix) (at : List ℕ) (G : Gathered h g (W * 64) M (lent 8 es 0) (p .L)) (R : Reduction g k (W * 64) (p .L) (lent W es 0) (W * 64) (p .r) at)
-    (left : ℕ → Bool) (T : Listed k (W * 64) (lent W es 0) at (p .r) (lent 8 es 0) left (p .rows) (p .bits) (p .t)) (none : (c : ℕ) → p .none c ≡ false) where
+    (left : ℕ → Bool) (T : Listed k (W * 64) (lent W es 0) at (p .r) (lent 8 es 0) left (p .rows) (p .pivots) (p .t)) (none : (c : ℕ) → p .none c ≡ false) where
   abbrev B : ℕ
   B = W * 64
 
@@ -65,7 +65,7 @@ module _ (h : Matrix) (N M W : ℕ) (few : N ≤ 512) (wide : W ≤ 8) (room : N
   module _ (o : ℕ → Bool) (A : Apart N e o) where
     -- the ones when peeling is over
     abbrev o₁ : ℕ → Bool
-    o₁ = ran h B (p .of) (p .at) (p .s) o
+    o₁ = ran h B (p .checks) (p .bits) (p .s) o
 
     free : Free e o
     free = record { none = A .apart }
@@ -141,10 +141,10 @@ module _ (h : Matrix) (N M W : ℕ) (few : N ≤ 512) (wide : W ≤ 8) (room : N
           (uneven-rows u)
 
       -- all are even
-      some : uneven k B (p .r) (p .L) (p .none) o₁ ≡ false → Determined h N M e₁ o₁ true left (ran k B (p .rows) (p .bits) (p .t) o₁)
+      some : uneven k B (p .r) (p .L) (p .none) o₁ ≡ false → Determined h N M e₁ o₁ true left (ran k B (p .rows) (p .pivots) (p .t) o₁)
       some u =
           eliminated-some h N M e₁ o₁ few A₁ t g k B (p .L) (p .r) at (lent W es 0) o₁ room (omega arith) (narrow W 8 wide es) (λ b l. refl) (lent-out W es 0) out-o G R
-          (even-rows u) left (ran k B (p .rows) (p .bits) (p .t) o₁) (T .written o₁)
+          (even-rows u) left (ran k B (p .rows) (p .pivots) (p .t) o₁) (T .written o₁)
 
     told : not (contradicted h k B M p o) ≡ someAgrees h N M (held e o)
     unfolding contradicted peeling

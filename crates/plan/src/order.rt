@@ -1,39 +1,16 @@
 // The order in which peeling solves checks.
+use crate::note;
 use parity::Check;
-use rows::lower;
 use rows::raise;
 use sets::touches;
 use steps::scan::Single;
 use steps::scan::next_single;
 ghost use mathlib.Core.Path.{_≡_};
-ghost use mathlib.Core.Bool.{true, false};
-ghost use Prim.Native.Nat.{_*_, _<_, _≤_};
-ghost use lib.ListN.{length, set};
-ghost use Rattle.parity.specs.Matrix.{lent, put};
+ghost use Prim.Native.Nat.{_*_, _≤_};
+ghost use lib.ListN.{length};
+ghost use Rattle.parity.specs.Matrix.{lent};
 ghost use Rattle.rows.specs.Rows.{Empty};
 ghost use Rattle.plan.specs.Order.{Settling, Joined};
-
-// Step `s`, by which check `c` solves bit `b`, is noted.
-fn note(
-    erased: &mut [u64],
-    done: &mut [u64],
-    of: &mut [u16],
-    at: &mut [u16],
-    s: usize,
-    c: usize,
-    b: usize,
-)
-    requires { ⌜ (length (now erased) ≡ 8) × (length (now done) ≡ 8) × (s < length (now of)) × (s < length (now at)) × (c < 512) × (b < 512) ⌝ }
-    ensures { λ _. ⌜ lent 8 (now (erased .exit)) ≡ put 0 b false (lent 8 (now (erased .entry))) ⌝ }
-    ensures { λ _. ⌜ lent 8 (now (done .exit)) ≡ put 0 c true (lent 8 (now (done .entry))) ⌝ }
-    ensures { λ _. ⌜ now (of .exit) ≡ set (now (of .entry)) s c ⌝ }
-    ensures { λ _. ⌜ now (at .exit) ≡ set (now (at .entry)) s b ⌝ }
-{
-    lower(erased, 8, 0, b);
-    raise(done, 8, 0, c);
-    of[s] = c as u16;
-    at[s] = b as u16;
-}
 
 // Notes steps as long as one of the first `checks` checks has exactly one erased bit, in the first `used` words. The answer is their number; `done`
 // gets the checks that they solve.
@@ -43,12 +20,12 @@ pub fn settle(
     checks: usize,
     erased: &mut [u64],
     done: &mut [u64],
-    of: &mut [u16],
-    at: &mut [u16],
+    step_checks: &mut [u16],
+    step_bits: &mut [u16],
 ) -> usize
-    requires { ⌜ (length (now words) ≡ 4096) × (checks ≤ 512) × (length (now erased) ≡ 8) × (length (now done) ≡ 8) × (used ≤ 8) × (length (now of) ≡ 512) × (length (now at) ≡ 512) ⌝ }
+    requires { ⌜ (length (now words) ≡ 4096) × (checks ≤ 512) × (length (now erased) ≡ 8) × (length (now done) ≡ 8) × (used ≤ 8) × (length (now «step_checks») ≡ 512) × (length (now «step_bits») ≡ 512) ⌝ }
     requires { ⌜ Empty (lent 8 (now done)) ⌝ }
-    ensures { λ s. ⌜ Settling (lent 8 (now (words .entry))) (used * 64) checks (lent 8 (now (erased .entry)) 0) (lent 8 (now (erased .exit)) 0) (now (of .exit)) (now (at .exit)) s (lent 8 (now (done .exit)) 0) ⌝ }
+    ensures { λ s. ⌜ Settling (lent 8 (now (words .entry))) (used * 64) checks (lent 8 (now (erased .entry)) 0) (lent 8 (now (erased .exit)) 0) (now («step_checks» .exit)) (now («step_bits» .exit)) s (lent 8 (now (done .exit)) 0) ⌝ }
 {
     let mut s: usize = 0;
     let mut from = Check(0);
@@ -56,7 +33,8 @@ pub fn settle(
         let single = next_single(words, 8, used, checks, from, erased);
         match single {
             Single::Found(c, b) => {
-                note(erased, done, of, at, s, c.0, b.0);
+                note(erased, step_checks, step_bits, s, c.0, b.0);
+                raise(done, 8, 0, c.0);
                 s += 1;
                 from = Check(c.0 + 1);
             }

@@ -28,9 +28,11 @@ slice-aggregate-mend-tile c = sym (c .before .before .before .before .loop .inv 
 mend-tile-requires : tie.Need-mend-tile-requires Inv-loop μ-loop
 mend-tile-requires c κs =
     let s = c .before .before .before .before .before .before .before .before .before .before .before .before .before .before .before .before in
-    let q = s .pre .1 in
     let l = c .before .before .before .before .loop in
-    (s .pre .0, (q .0, q .1, q .2, rw (l .inv .2) (l .inv .1 ∙ q .3), q .4, omega (arith, q .5, l .inv .3), q .6, l .inv .4, c .before .before .before .loop-test .taken))
+    let T = s .pre .1 in (
+      (s .pre .0, record { lost = T .lost; left = T .left; packets = rw (l .inv .2) (l .inv .1 ∙ T .packets); some = T .some; most = T .most; room = omega (arith, T .room, l .inv .3) }),
+      (l .inv .4, c .before .before .before .loop-test .taken),
+    )
 
 add-from : tie.Need-add-from Inv-loop μ-loop
 add-from c = omega (arith, c .before .before .before .before .before .mend-tile .ensures .1, c .before .before .before .before .before .before .before .before .before .before .loop .inv .2, c .before .before .before .before .before .before .before .before .before .before .before .before .before .before .before .before .before .before .before .before .before .before .good .1 .1 .1 .1 .1 .1 .1 .1 .1 .1 .1 .0 .0)

@@ -43,8 +43,16 @@ solve-requires c κs =
     let s = c .before .before .before .before .before .before .before .before .before .before .before in
     let l = c .before .before .before .before .before .before .loop in
     let j = s .pre .1 .0 .low (l .s) (omega arith) in
-    let k = s .pre .1 .1 .low (l .s) (omega arith) in
-    (omega (arith, row-room (s .args .width) (c .before .before .before .place .result) (s .args .count) (omega (arith, c .before .before .before .place .ensures, j))), s .pre .0 .1, s .pre .0 .2, omega (arith, l .inv .1), s .pre .0 .4, omega (arith, c .place2 .ensures, k))
+    let k = s .pre .1 .1 .low (l .s) (omega arith) in (
+      record {
+        row = omega (arith, row-room (s .args .width) (c .before .before .before .place .result) (s .args .count) (omega (arith, c .before .before .before .place .ensures, j)));
+        used = s .pre .0 .1;
+        width = s .pre .0 .2;
+        tile = omega (arith, l .inv .1);
+        most = s .pre .0 .4;
+      },
+      omega (arith, c .place2 .ensures, k),
+    )
 
 add-s : tie.Need-add-s Inv-loop μ-loop
 add-s c = omega arith

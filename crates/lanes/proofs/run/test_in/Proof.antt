@@ -28,8 +28,10 @@ contains-requires c κs = (omega arith, omega arith)
 test-requires : tie.Need-test-requires Inv-loop μ-loop
 test-requires c κs =
     let s = c .before .before .before .before .before .before .before .before .before in
-    let l = c .before .before .before .before .loop in
-    (omega (arith, row-room (s .args .width) (l .c) (s .args .end) (omega arith)), s .pre .1, s .pre .2, s .pre .3, s .pre .4, omega (arith, s .pre .5, l .inv .2))
+    let l = c .before .before .before .before .loop in (
+      record { row = omega (arith, row-room (s .args .width) (l .c) (s .args .end) (omega arith)); used = s .pre .1; width = s .pre .2; tile = s .pre .3; most = s .pre .4 },
+      omega (arith, s .pre .5, l .inv .2),
+    )
 
 add-c : tie.Need-add-c Inv-loop μ-loop
 add-c c = omega arith

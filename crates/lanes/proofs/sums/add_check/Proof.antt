@@ -1,6 +1,6 @@
 -- `sums::add_check` meets its contract. Assumes nothing.
 use native.Mathlib.Nat.{mul-le-mul-right}
-use mathlib.Core.Path.{_≡_, refl, _∙_}
+use mathlib.Core.Path.{_≡_, refl, ap, _∙_}
 use Prim.Native.Nat.{_≤_, _+_, _-_, _*_}
 use lib.ListN.{length}
 use Rattle.parity.specs.Matrix.{lent}
@@ -18,7 +18,7 @@ abbrev μ-loop : tie.MeasureT-loop
 μ-loop rows width used c tile lanes acc₀ i₀ acc i = used - i
 
 loop-holds : tie.Need-loop-holds Inv-loop μ-loop
-loop-holds c = (omega arith, refl, sum-none _ _ _ _ _ (c .before .before .before .pre .5))
+loop-holds c = (omega arith, refl, sum-none _ _ _ _ _ (c .before .before .before .pre .1))
 
 mul-add-word : tie.Need-mul-add-word Inv-loop μ-loop
 mul-add-word c = omega arith
@@ -37,7 +37,7 @@ add-word-requires c κs =
     let l = c .before .before .before in
     let s = c .before .before .before .before .before .before .before in
     let k : (l .loop .i * 64 + 64) ≤ s .args .used * 64 = omega arith in
-    (omega (arith, l .loop .inv .1), omega arith, omega (arith, mul-le-mul-right (s .args .lanes) k))
+    (omega (arith, l .loop .inv .1, ap length (s .pre .1)), omega arith, omega (arith, mul-le-mul-right (s .args .lanes) k))
 
 add-i : tie.Need-add-i Inv-loop μ-loop
 add-i c = omega arith

@@ -13,31 +13,36 @@ use Rattle.lanes.proofs.tiles.load.Statement.{statement}
 use Rattle.lanes.proofs.tiles.load.Tie as tie
 
 abbrev Inv-loop : tie.InvT-loop
-Inv-loop packets len p lost from count tile₀ b₀ b-end tile b = (b-end ≡ p .bits) × (b ≤ b-end) × (length tile ≡ length tile₀) × Loaded (lent len packets) (lent 8 lost 0) from count b (lent (p .lanes) tile₀) (lent (p .lanes) tile)
+Inv-loop packets t bits lost tile₀ b₀ tile b = (b ≤ bits) × (length tile ≡ length tile₀) × Loaded (lent (t .len) packets) (lent 8 lost 0) (t .from) (t .count) b (lent (t .lanes) tile₀) (lent (t .lanes) tile)
 
 abbrev μ-loop : tie.MeasureT-loop
-μ-loop packets len p lost from count tile₀ b₀ b-end tile b = b-end - b
+μ-loop packets t bits lost tile₀ b₀ tile b = bits - b
 
 loop-holds : tie.Need-loop-holds Inv-loop μ-loop
-loop-holds c = (refl, omega arith, refl, loaded-none _ _ _ _ _)
+loop-holds c = (omega arith, refl, loaded-none _ _ _ _ _)
 
 contains-requires : tie.Need-contains-requires Inv-loop μ-loop
-contains-requires c κs = (omega arith, omega (arith, c .before .loop .inv .0))
+contains-requires c κs = (omega arith, omega arith)
 
 blank-row-requires : tie.Need-blank-row-requires Inv-loop μ-loop
 blank-row-requires c κs =
     let s = c .before .before .before .before .before .before .before .before in
     let l = c .before .before .before .before .loop in
-    omega (arith, l .inv .2, row-room (s .args .p .lanes) (l .b) (s .args .p .bits) (omega (arith, l .inv .0)))
+    omega (arith, l .inv .1, row-room (s .args .t .lanes) (l .b) (s .args .bits) (omega arith))
 
 take-requires : tie.Need-take-requires Inv-loop μ-loop
 take-requires c κs =
     let s = c .before .before .before .before .before .before .before .before in
     let l = c .before .before .before .before .loop in
-    (omega (arith, row-room (s .args .len) (l .b) (s .args .p .bits) (omega (arith, l .inv .0))), s .pre .3, s .pre .4, omega (arith, l .inv .2, row-room (s .args .p .lanes) (l .b) (s .args .p .bits) (omega (arith, l .inv .0))))
+    record {
+      packet = omega (arith, row-room (s .args .t .len) (l .b) (s .args .bits) (omega arith));
+      part = s .pre .0 .part;
+      few = s .pre .0 .few;
+      row = omega (arith, l .inv .1, row-room (s .args .t .lanes) (l .b) (s .args .bits) (omega arith));
+    }
 
 add-b : tie.Need-add-b Inv-loop μ-loop
-add-b c = omega (arith, c .before .before .before .loop .inv .0)
+add-b c = omega arith
 
 loop-less : tie.Need-loop-less Inv-loop μ-loop
 loop-less c = omega arith
@@ -47,8 +52,8 @@ loop-again c =
     let l = c .before .before .before .loop in
     let k = c .before .contains in
     ⊎-elim
-    (λ w. rw (w .5) (l .inv .0, omega arith, w .2 .kept .1 .0 ∙ l .inv .2, loaded-blank _ _ _ _ _ _ _ _ (l .inv .3) (sym (k .ensures) ∙ w .0 .taken) (w .2 .ensures)))
-    (λ w. rw (w .5) (l .inv .0, omega arith, w .2 .kept .1 .1 .1 .1 .1 .0 ∙ l .inv .2, loaded-take _ _ _ _ _ _ _ _ (l .inv .3) (sym (k .ensures) ∙ w .0 .left) (w .2 .ensures)))
+    (λ w. rw (w .5) (omega arith, w .2 .kept .1 .0 ∙ l .inv .1, loaded-blank _ _ _ _ _ _ _ _ (l .inv .2) (sym (k .ensures) ∙ w .0 .taken) (w .2 .ensures)))
+    (λ w. rw (w .5) (omega arith, w .2 .kept .1 .1 .1 .0 ∙ l .inv .1, loaded-take _ _ _ _ _ _ _ _ (l .inv .2) (sym (k .ensures) ∙ w .0 .left) (w .2 .ensures)))
     (c .if1 .came)
 
 same-length : tie.Need-same-length Inv-loop μ-loop
@@ -57,8 +62,8 @@ same-length c = search needs
 returns : tie.Need-returns Inv-loop μ-loop
 returns c =
     let l = c .before .loop in
-    let e : l .b ≡ c .before .before .before .before .before .args .p .bits = omega (arith, l .inv .0, l .inv .1) in
-    rw e at (l .inv .3)
+    let e : l .b ≡ c .before .before .before .before .before .args .bits = omega arith in
+    rw e at (l .inv .2)
 
 pub load-spec : {M : Type 1} → statement M
 load-spec =

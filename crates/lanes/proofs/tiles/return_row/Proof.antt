@@ -13,10 +13,10 @@ use Rattle.lanes.proofs.tiles.return_row.Statement.{statement}
 use Rattle.lanes.proofs.tiles.return_row.Tie as tie
 
 abbrev Inv-loop : tie.InvT-loop
-Inv-loop packets₀ len from count b tile lanes flags first row i₀ packets i = (i ≤ count) × Written packets₀ packets (b * len + from) (λ a. merged (getD packets₀ (b * len + from + a) 0) (getD tile (b * lanes + a) 0) (getD flags a 0)) i × ((a : ℕ) → a < i → getD flags a 0 < 2 ^ 64)
+Inv-loop packets₀ b tile flags first row count i₀ packets i = (i ≤ count) × Written packets₀ packets first (λ a. merged (getD packets₀ (first + a) 0) (getD tile (row + a) 0) (getD flags a 0)) i × ((a : ℕ) → a < i → getD flags a 0 < 2 ^ 64)
 
 abbrev μ-loop : tie.MeasureT-loop
-μ-loop packets₀ len from count b tile lanes flags first row i₀ packets i = count - i
+μ-loop packets₀ b tile flags first row count i₀ packets i = count - i
 
 mul-first : tie.Need-mul-first Inv-loop μ-loop
 mul-first c = omega arith
@@ -78,7 +78,7 @@ loop-less c = omega arith
 loop-again : tie.Need-loop-again Inv-loop μ-loop
 loop-again c =
     let l = c .before .before .before .before .before .loop in
-    (omega arith, written-more _ _ _ _ _ _ (l .inv .1) (omega arith) (merged-now _ _ _ _ (l .inv .1 .else _ (λ j k e. omega arith))), fits-more (c .before .before .before .before .before .before .args .flags .now) _ (l .inv .2) (c .shared-slice-known3 .given (l .i) .fits))
+    (omega arith, written-more _ _ _ _ _ _ (l .inv .1) (omega arith) (merged-now _ _ _ _ (l .inv .1 .else _ (λ j k e. omega arith))), fits-more (c .before .before .before .before .before .before .before .before .before .args .flags .now) _ (l .inv .2) (c .shared-slice-known3 .given (l .i) .fits))
 
 same-length : tie.Need-same-length Inv-loop μ-loop
 same-length c = search needs
@@ -86,9 +86,9 @@ same-length c = search needs
 returns : tie.Need-returns Inv-loop μ-loop
 returns c =
     let l = c .before .loop in
-    let s = c .before .before in
-    let e : l .i ≡ s .args .count = omega arith in
-    returned-all _ _ _ _ _ _ _ _ _ (rw e at (l .inv .2)) (s .pre .1) (s .pre .2) (rw e at (l .inv .1))
+    let s = c .before .before .before .before .before in
+    let e : l .i ≡ s .args .t .count = omega arith in
+    returned-all _ _ _ _ _ _ _ _ _ (rw e at (l .inv .2)) (s .pre .0 .part) (s .pre .0 .few) (rw e at (l .inv .1))
 
 pub return-row-spec : {M : Type 1} → statement M
 return-row-spec =

@@ -14,28 +14,35 @@ use Rattle.lanes.proofs.tiles.store.Statement.{statement}
 use Rattle.lanes.proofs.tiles.store.Tie as tie
 
 abbrev Inv-loop : tie.InvT-loop
-Inv-loop packets₀ len p lost left from count tile flags b₀ b-end packets b = (b-end ≡ p .bits) × (b ≤ b-end) × (length packets ≡ length packets₀) × Stored (lent 8 lost 0) (lent 8 left 0) from count b (lent (p .lanes) tile) (lent (p .lanes) flags 0) (lent len packets₀) (lent len packets)
+Inv-loop packets₀ t bits lost left tile flags b₀ packets b = (b ≤ bits) × (length packets ≡ length packets₀) × Stored (lent 8 lost 0) (lent 8 left 0) (t .from) (t .count) b (lent (t .lanes) tile) (lent (t .lanes) flags 0) (lent (t .len) packets₀) (lent (t .len) packets)
 
 abbrev μ-loop : tie.MeasureT-loop
-μ-loop packets₀ len p lost left from count tile flags b₀ b-end packets b = b-end - b
+μ-loop packets₀ t bits lost left tile flags b₀ packets b = bits - b
 
 loop-holds : tie.Need-loop-holds Inv-loop μ-loop
-loop-holds c = (refl, omega arith, refl, stored-none _ _ _ _ _ _ _)
+loop-holds c = (omega arith, refl, stored-none _ _ _ _ _ _ _)
 
 contains-requires : tie.Need-contains-requires Inv-loop μ-loop
-contains-requires c κs = (omega arith, omega (arith, c .before .loop .inv .0))
+contains-requires c κs = (omega arith, omega arith)
 
 contains-requires-2 : tie.Need-contains-requires-2 Inv-loop μ-loop
-contains-requires-2 c κs = (omega arith, omega (arith, c .before .before .before .loop .inv .0))
+contains-requires-2 c κs = (omega arith, omega arith)
 
 return-row-requires : tie.Need-return-row-requires Inv-loop μ-loop
 return-row-requires c κs =
     let s = c .before .before .before .before .before .before .before .before .before .before .before .before in
-    let l = c .before .before .before .before .before .before .loop in
-    (omega (arith, l .inv .2, row-room (s .args .len) (l .b) (s .args .p .bits) (omega (arith, l .inv .0))), s .pre .4, s .pre .5, omega (arith, row-room (s .args .p .lanes) (l .b) (s .args .p .bits) (omega (arith, l .inv .0))), s .pre .7)
+    let l = c .before .before .before .before .before .before .loop in (
+      record {
+        packet = omega (arith, l .inv .1, row-room (s .args .t .len) (l .b) (s .args .bits) (omega arith));
+        part = s .pre .0 .part;
+        few = s .pre .0 .few;
+        row = omega (arith, row-room (s .args .t .lanes) (l .b) (s .args .bits) (omega arith));
+      },
+      s .pre .3,
+    )
 
 add-b : tie.Need-add-b Inv-loop μ-loop
-add-b c = omega (arith, c .before .before .before .loop .inv .0)
+add-b c = omega arith
 
 loop-less : tie.Need-loop-less Inv-loop μ-loop
 loop-less c = omega arith
@@ -45,10 +52,10 @@ loop-again c =
     let l = c .before .before .before .loop in
     let k = c .before .contains in
     ⊎-elim
-    (λ w. rw (w .7) (l .inv .0, omega arith, w .4 .kept .0 ∙ l .inv .2, stored-return _ _ _ _ _ _ _ _ _ (l .inv .3) (sym (k .ensures) ∙ w .0 .taken) (sym (w .1 .ensures) ∙ not-true (w .1 .result) (w .2 .taken)) _ (w .4 .ensures)))
+    (λ w. rw (w .7) (omega arith, w .4 .kept .0 ∙ l .inv .1, stored-return _ _ _ _ _ _ _ _ _ (l .inv .2) (sym (k .ensures) ∙ w .0 .taken) (sym (w .1 .ensures) ∙ not-true (w .1 .result) (w .2 .taken)) _ (w .4 .ensures)))
     (⊎-elim
-    (λ w. rw (w .3) (l .inv .0, omega arith, l .inv .2, stored-left _ _ _ _ _ _ _ _ _ (l .inv .3) (sym (w .1 .ensures) ∙ not-false (w .1 .result) (w .2 .left))))
-    (λ w. rw (w .1) (l .inv .0, omega arith, l .inv .2, stored-kept _ _ _ _ _ _ _ _ _ (l .inv .3) (sym (k .ensures) ∙ w .0 .left))))
+    (λ w. rw (w .3) (omega arith, l .inv .1, stored-left _ _ _ _ _ _ _ _ _ (l .inv .2) (sym (w .1 .ensures) ∙ not-false (w .1 .result) (w .2 .left))))
+    (λ w. rw (w .1) (omega arith, l .inv .1, stored-kept _ _ _ _ _ _ _ _ _ (l .inv .2) (sym (k .ensures) ∙ w .0 .left))))
     (c .if1 .came)
 
 same-length : tie.Need-same-length Inv-loop μ-loop
@@ -57,8 +64,8 @@ same-length c = search needs
 returns : tie.Need-returns Inv-loop μ-loop
 returns c =
     let l = c .before .loop in
-    let e : l .b ≡ c .before .before .before .before .before .before .before .args .p .bits = omega (arith, l .inv .0, l .inv .1) in
-    rw e at (l .inv .3)
+    let e : l .b ≡ c .before .before .before .before .before .before .before .args .bits = omega arith in
+    rw e at (l .inv .2)
 
 pub store-spec : {M : Type 1} → statement M
 store-spec =

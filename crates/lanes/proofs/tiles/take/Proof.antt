@@ -4,16 +4,16 @@ use Rattle.lanes.proofs.tiles.take.Statement.{statement}
 use Rattle.lanes.proofs.tiles.take.Tie as tie
 
 take-eight-requires : tie.Need-take-eight-requires
-take-eight-requires c κs = search needs
+take-eight-requires c κs = (c .before .before .before .before .before .pre, c .before .if1 .taken)
 
 same-length : tie.Need-same-length
 same-length c = search needs
 
 returns : tie.Need-returns
-returns c = rw (c .before .before .before .before .if1 .taken) (c .before .before .take-eight .ensures)
+returns c = c .before .before .take-eight .ensures
 
 take-row-requires : tie.Need-take-row-requires
-take-row-requires c κs = search needs
+take-row-requires c κs = c .before .before .before .before .before .pre
 
 same-length-2 : tie.Need-same-length-2
 same-length-2 c = search needs

@@ -21,15 +21,15 @@ mul-copy-words : tie.Need-mul-copy-words
 mul-copy-words c = omega arith
 
 copy-words-requires : tie.Need-copy-words-requires
-copy-words-requires c κs = (omega (arith, c .before .before .eight-of .ensures .size), omega arith)
+copy-words-requires c κs = (omega (arith, c .before .before .before .eight-of .ensures .size), omega arith)
 
 same-length : tie.Need-same-length
 same-length c = search needs
 
 returns : tie.Need-returns
 returns c =
-    let s = c .before .before .before .before .before .before .before .before in
-    taken-all _ _ _ _ _ _ _ _ (s .pre .1) (s .pre .2) (eight-taken _ _ _ _ _ _ (c .before .before .before .before .before .eight-of .ensures) (c .before .before .copy-words .ensures))
+    let s = c .before .before .before .before .before .before .before .before .before .before .before in
+    rw (s .pre .1) (taken-all _ _ _ _ _ _ _ _ (omega arith) (omega arith) (eight-taken _ _ _ _ _ _ (c .before .before .before .before .before .before .eight-of .ensures) (c .before .before .copy-words .ensures)))
 
 pub take-eight-spec : {M : Type 1} → statement M
 take-eight-spec =

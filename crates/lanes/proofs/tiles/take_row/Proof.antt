@@ -21,8 +21,8 @@ same-length c = search needs
 
 returns : tie.Need-returns
 returns c =
-    let s = c .before .before .before .before .before .before in
-    taken-all _ _ _ _ _ _ _ _ (s .pre .1) (s .pre .2) (c .before .before .copy-words .ensures)
+    let s = c .before .before .before .before .before .before .before .before .before in
+    taken-all _ _ _ _ _ _ _ _ (s .pre .part) (s .pre .few) (c .before .before .copy-words .ensures)
 
 pub take-row-spec : {M : Type 1} → statement M
 take-row-spec =

@@ -83,22 +83,30 @@ mend-requires c κs =
     let b : s .args .p .bits ≤ 512 = omega (arith, R .used, R .bits) in
     let k = few-steps _ _ _ _ _ _ _ _ _ (omega (arith, R .used)) (s .pre .1 .1) in
     rw (c .before .before .before .before .before .before .with-rows .ensures) (
-      (
-        record {
+      record {
+        fits = record {
           words = R .words;
           used = R .used;
           checks = R .checks;
           skip = R .skip;
-          checks-of = omega (arith, k, R .checks-of);
-          bits-at = omega (arith, k, R .bits-at);
+          step-checks = omega (arith, k, R .step-checks);
+          step-bits = omega (arith, k, R .step-bits);
           rows = omega (arith, d .kept .0, g .kept .1 .1 .1 .1 .0, w, mul-le-mul-right (s .args .p .used) (g .ensures .few));
           end = omega (arith, g .ensures .few, R .checks);
-          rows-by = omega (arith, a .ensures .few, d .ensures .form .few, g .ensures .few, R .checks, a .kept .1 .1 .1 .1 .1 .1 .0);
-          bits-into = omega (arith, a .ensures .few, d .ensures .form .few, g .ensures .few, R .checks, a .kept .1 .1 .1 .1 .1 .1 .1 .0);
-        },
-        ready-made _ _ _ _ b (R .used) (R .bits) _ (s .pre .1 .0) _ _ _ _ _ (s .pre .1 .1) _ _ _ _ _ (g .ensures) (d .ensures) _ (s .pre .0 .1) _ _ _ _ (a .ensures),
-      ),
-      (R .bits, R .lost, a .kept .1 .1 .1 .1 .1 .0 ∙ ap length (s .pre .0 .1) ∙ R .left, R .packets, R .some, R .tile, R .most),
+          step-rows = omega (arith, a .ensures .few, d .ensures .form .few, g .ensures .few, R .checks, a .kept .1 .1 .1 .1 .1 .1 .0);
+          step-pivots = omega (arith, a .ensures .few, d .ensures .form .few, g .ensures .few, R .checks, a .kept .1 .1 .1 .1 .1 .1 .1 .0);
+        };
+        ready = ready-made _ _ _ _ b (R .used) (R .bits) _ (s .pre .1 .0) _ _ _ _ _ (s .pre .1 .1) _ _ _ _ _ (g .ensures) (d .ensures) _ (s .pre .0 .1) _ _ _ _ (a .ensures);
+        bits = R .bits;
+      },
+      record {
+        lost = R .lost;
+        left = a .kept .1 .1 .1 .1 .1 .0 ∙ ap length (s .pre .0 .1) ∙ R .left;
+        packets = R .packets;
+        some = R .some;
+        most = R .most;
+        room = R .tile;
+      },
     )
 
 same-length : tie.Need-same-length

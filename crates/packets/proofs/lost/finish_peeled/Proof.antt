@@ -27,22 +27,23 @@ mend-requires c κs =
     let b : s .args .p .bits ≤ 512 = omega (arith, R .used, R .bits) in
     let k = few-steps _ _ _ _ _ _ _ _ _ (omega (arith, R .used)) (s .pre .1 .1) in
     let e : s .args .p .end * s .args .p .used ≤ 8 = rw (s .pre .0 .3, zero-mul (s .args .p .used)) (omega arith) in (
-      (
-        record {
+      record {
+        fits = record {
           words = R .words;
           used = R .used;
           checks = R .checks;
           skip = R .skip;
-          checks-of = omega (arith, k, R .checks-of);
-          bits-at = omega (arith, k, R .bits-at);
+          step-checks = omega (arith, k, R .step-checks);
+          step-bits = omega (arith, k, R .step-bits);
           rows = e;
           end = omega (arith, s .pre .0 .3);
-          rows-by = omega (arith, s .pre .0 .4);
-          bits-into = omega (arith, s .pre .0 .4);
-        },
-        ready-peeled _ _ _ _ b (R .used) (R .bits) _ (s .pre .1 .0) _ _ _ _ _ (s .pre .1 .1) (s .pre .0 .1) (lent 8 (s .args .words .now)) _ _ _ (s .pre .0 .2) (s .pre .0 .3) (s .pre .0 .4) _ _,
-      ),
-      (R .bits, R .lost, R .left, R .packets, R .some, R .tile, R .most),
+          step-rows = omega (arith, s .pre .0 .4);
+          step-pivots = omega (arith, s .pre .0 .4);
+        };
+        ready = ready-peeled _ _ _ _ b (R .used) (R .bits) _ (s .pre .1 .0) _ _ _ _ _ (s .pre .1 .1) (s .pre .0 .1) (lent 8 (s .args .words .now)) _ _ _ (s .pre .0 .2) (s .pre .0 .3) (s .pre .0 .4) _ _;
+        bits = R .bits;
+      },
+      record { lost = R .lost; left = R .left; packets = R .packets; some = R .some; most = R .most; room = R .tile },
     )
 
 same-length : tie.Need-same-length

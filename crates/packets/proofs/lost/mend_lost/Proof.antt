@@ -65,7 +65,7 @@ finish-peeled-requires c κs =
     let t = c .before .before .before .before .before .before .before .before .before .before .before .before .before .before .before .before .before .before .before .settle in
     let j = c .before .before .before .before .before .before .before .before .before .before .before .before .join-touched in
     rw (c .before .before .before .before .before .before .before .before .before .before .with-steps .ensures) (
-      (record { words = q .0; used = q .1; bits = q .2; checks = q .3; lost = q .4; left = t .kept .1 .1 .1 .0 ∙ q .4; skip = j .kept .1 .1 .1 .1 .0 ∙ t .kept .1 .1 .1 .1 .0; checks-of = t .kept .1 .1 .1 .1 .1 .0; bits-at = t .kept .1 .1 .1 .1 .1 .1 .0; packets = q .5; some = l .0; most = l .1; tile = l .2 }, sym (c .before .before .before .before .before .before .before .before .size .ensures) ∙ c .before .before .before .before .before .before .before .if1 .taken, refl, refl, refl),
+      (record { words = q .0; used = q .1; bits = q .2; checks = q .3; lost = q .4; left = t .kept .1 .1 .1 .0 ∙ q .4; skip = j .kept .1 .1 .1 .1 .0 ∙ t .kept .1 .1 .1 .1 .0; step-checks = t .kept .1 .1 .1 .1 .1 .0; step-bits = t .kept .1 .1 .1 .1 .1 .1 .0; packets = q .5; some = l .0; most = l .1; tile = l .2 }, sym (c .before .before .before .before .before .before .before .before .size .ensures) ∙ c .before .before .before .before .before .before .before .if1 .taken, refl, refl, refl),
       (q .6, record { done = _; settling = t .ensures; joined = j .ensures }),
     )
 
@@ -102,7 +102,7 @@ finish-requires c κs =
     let l = c .before .before .before .before .before .before .before .before .before .before .before .before .before .before .before .before .before .before .before .before .before .before .before .before .before .before .before .before .pre .1 in
     let t = c .before .before .before .before .before .before .before .before .before .before .before .before .before .before .before .before .before .before .before .before .settle in
     let j = c .before .before .before .before .before .before .before .before .before .before .before .before .before .join-touched in
-    rw (c .before .before .before .before .before .before .before .before .before .before .before .with-steps .ensures) ((record { words = q .0; used = q .1; bits = q .2; checks = q .3; lost = q .4; left = t .kept .1 .1 .1 .0 ∙ q .4; skip = j .kept .1 .1 .1 .1 .0 ∙ t .kept .1 .1 .1 .1 .0; checks-of = t .kept .1 .1 .1 .1 .1 .0; bits-at = t .kept .1 .1 .1 .1 .1 .1 .0; packets = q .5; some = l .0; most = l .1; tile = l .2 }, refl), (q .6, record { done = _; settling = t .ensures; joined = j .ensures }))
+    rw (c .before .before .before .before .before .before .before .before .before .before .before .with-steps .ensures) ((record { words = q .0; used = q .1; bits = q .2; checks = q .3; lost = q .4; left = t .kept .1 .1 .1 .0 ∙ q .4; skip = j .kept .1 .1 .1 .1 .0 ∙ t .kept .1 .1 .1 .1 .0; step-checks = t .kept .1 .1 .1 .1 .1 .0; step-bits = t .kept .1 .1 .1 .1 .1 .1 .0; packets = q .5; some = l .0; most = l .1; tile = l .2 }, refl), (q .6, record { done = _; settling = t .ensures; joined = j .ensures }))
 
 same-length-3 : tie.Need-same-length-3
 same-length-3 c = c .before .before .before .before .before .finish .kept .1 .1 .1 .1 .1 .1 .1 .1 .0

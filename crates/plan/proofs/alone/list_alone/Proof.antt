@@ -13,10 +13,10 @@ use Rattle.plan.proofs.alone.list_alone.Statement.{statement}
 use Rattle.plan.proofs.alone.list_alone.Tie as tie
 
 abbrev Inv-loop : tie.InvT-loop
-Inv-loop rows width pivots r residue left₀ of₀ at₀ s₀ c₀ left of at s c = (c ≤ r) × (length left ≡ 8) × (length of ≡ 512) × (length at ≡ 512) × Listed (lent width rows) (width * 64) (lent width residue 0) pivots c (lent 8 left₀ 0) (lent 8 left 0) of at s
+Inv-loop rows width pivots r residue left₀ cs₀ bs₀ s₀ c₀ left cs bs s c = (c ≤ r) × (length left ≡ 8) × (length cs ≡ 512) × (length bs ≡ 512) × Listed (lent width rows) (width * 64) (lent width residue 0) pivots c (lent 8 left₀ 0) (lent 8 left 0) cs bs s
 
 abbrev μ-loop : tie.MeasureT-loop
-μ-loop rows width pivots r residue left₀ of₀ at₀ s₀ c₀ left of at s c = r - c
+μ-loop rows width pivots r residue left₀ cs₀ bs₀ s₀ c₀ left cs bs s c = r - c
 
 loop-holds : tie.Need-loop-holds Inv-loop μ-loop
 loop-holds c =

@@ -23,10 +23,10 @@ room : (s a b n : ℕ) → s + a ≡ b → b ≤ n → 0 < a → s < n
 room s a b n e k l = omega arith
 
 abbrev Inv-loop : tie.InvT-loop
-Inv-loop words used checks erased₀ done₀ of₀ at₀ s₀ from₀ erased done of at s from = (length erased ≡ 8) × (length done ≡ 8) × (length of ≡ 512) × (length at ≡ 512) × Ordered (lent 8 words) (used * 64) checks (lent 8 erased₀ 0) (lent 8 erased 0) of at s (lent 8 done 0)
+Inv-loop words used checks erased₀ done₀ cs₀ bs₀ s₀ from₀ erased done cs bs s from = (length erased ≡ 8) × (length done ≡ 8) × (length cs ≡ 512) × (length bs ≡ 512) × Ordered (lent 8 words) (used * 64) checks (lent 8 erased₀ 0) (lent 8 erased 0) cs bs s (lent 8 done 0)
 
 abbrev μ-loop : tie.MeasureT-loop
-μ-loop words used checks erased₀ done₀ of₀ at₀ s₀ from₀ erased done of at s from = 2 * count (used * 64) (lent 8 erased 0) + one (ltb 0 (from .0))
+μ-loop words used checks erased₀ done₀ cs₀ bs₀ s₀ from₀ erased done cs bs s from = 2 * count (used * 64) (lent 8 erased 0) + one (ltb 0 (from .0))
 
 loop-holds : tie.Need-loop-holds Inv-loop μ-loop
 loop-holds c =
@@ -41,43 +41,47 @@ next-single-requires c κs =
 enum-known-single : tie.Need-enum-known-single Inv-loop μ-loop
 enum-known-single c = search needs
 
+raise-requires : tie.Need-raise-requires Inv-loop μ-loop
+raise-requires c κs =
+    let L = rw (c .before .before .before .before .before .before .before .before .before .before .before .before .single .given .1) at (c .before .before .before .before .before .before .before .before .before .before .before .before .before .before .next-single .ensures) in
+    (omega (arith, c .before .before .before .before .before .before .before .before .before .before .before .before .before .before .before .before .loop .inv .1), omega (arith, L .check, c .before .before .before .before .before .before .before .before .before .before .before .before .before .before .before .before .before .before .before .before .before .before .pre .0 .1))
+
 note-requires : tie.Need-note-requires Inv-loop μ-loop
 note-requires c κs =
-    let s = c .before .before .before .before .before .before .before .before .before .before .before .before .before .before .before in
-    let l = c .before .before .before .before .before .before .before .before .before .loop in
-    let L = rw (c .before .before .before .before .before .single .given .1) at (c .before .before .before .before .before .before .before .next-single .ensures) in
+    let s = c .before .before .before .before .before .before .before .before .before .before .before .before .before .before in
+    let l = c .before .before .before .before .before .before .before .before .loop in
+    let L = rw (c .before .before .before .before .single .given .1) at (c .before .before .before .before .before .before .next-single .ensures) in
     let k = room _ _ _ 512 (l .inv .4 .fewer) (omega (arith, count-bound (s .args .used * 64) (lent 8 (s .args .erased .now) 0), s .pre .0 .4)) (count-pos _ _ _ (L .bit) (L .gone)) in
-    (l .inv .0, l .inv .1, omega (arith, k, l .inv .2), omega (arith, k, l .inv .3), omega (arith, L .check, s .pre .0 .1), omega (arith, L .bit, s .pre .0 .4))
+    (l .inv .0, omega (arith, k, l .inv .2), omega (arith, k, l .inv .3), omega (arith, L .check, s .pre .0 .1), omega (arith, L .bit, s .pre .0 .4))
 
 add-s : tie.Need-add-s Inv-loop μ-loop
 add-s c =
-    let s = c .before .before .before .before .before .before .before .before .before .before .before .before .before .before .before .before .before .before .before .before .before .before .before .before in
-    let l = c .before .before .before .before .before .before .before .before .before .before .before .before .before .before .before .before .before .before .loop in
-    omega (arith, l .inv .4 .fewer, count-bound (s .args .used * 64) (lent 8 (s .args .erased .now) 0), s .pre .0 .4)
+    let s = c .before .before .before .before .before .before .before .before .before .before .before .before .before .before .before .before .before .before .before .before .before .before .before .before .before in
+    omega (arith, c .before .before .before .before .before .before .before .before .before .before .before .before .before .before .before .before .before .before .before .loop .inv .4 .fewer, count-bound (s .args .used * 64) (lent 8 (s .args .erased .now) 0), s .pre .0 .4)
 
 add-t24 : tie.Need-add-t24 Inv-loop μ-loop
 add-t24 c =
-    let s = c .before .before .before .before .before .before .before .before .before .before .before .before .before .before .before .before .before .before .before .before .before .before .before .before .before in
-    let L = rw (c .before .before .before .before .before .before .before .before .before .before .before .before .before .before .before .single .given .1) at (c .before .before .before .before .before .before .before .before .before .before .before .before .before .before .before .before .before .next-single .ensures) in
-    omega (arith, L .check, s .pre .0 .1)
+    let L = rw (c .before .before .before .before .before .before .before .before .before .before .before .before .before .before .before .before .single .given .1) at (c .before .before .before .before .before .before .before .before .before .before .before .before .before .before .before .before .before .before .next-single .ensures) in
+    omega (arith, L .check, c .before .before .before .before .before .before .before .before .before .before .before .before .before .before .before .before .before .before .before .before .before .before .before .before .before .before .pre .0 .1)
 
 loop-less : tie.Need-loop-less Inv-loop μ-loop
 loop-less c =
-    let L = rw (c .before .before .before .before .before .before .before .before .before .before .before .before .before .before .before .single .given .1) at (c .before .before .before .before .before .before .before .before .before .before .before .before .before .before .before .before .before .next-single .ensures) in
-    less-work _ _ (ltb 0 (c .before .before .before .before .before .before .before .before .before .before .before .before .before .before .before .single .given .0 .0 .0 + 1)) (ltb 0 (c .before .before .before .before .before .before .before .before .before .before .before .before .before .before .before .before .before .before .before .loop .from .0)) (noted-less _ _ _ _ _ _ _ L (c .before .before .before .before .before .before .before .before .before .note .ensures .0))
+    let L = rw (c .before .before .before .before .before .before .before .before .before .before .before .before .before .before .before .before .single .given .1) at (c .before .before .before .before .before .before .before .before .before .before .before .before .before .before .before .before .before .before .next-single .ensures) in
+    less-work _ _ (ltb 0 (c .before .before .before .before .before .before .before .before .before .before .before .before .before .before .before .before .single .given .0 .0 .0 + 1)) (ltb 0 (c .before .before .before .before .before .before .before .before .before .before .before .before .before .before .before .before .before .before .before .before .loop .from .0)) (noted-less _ _ _ _ _ _ _ L (c .before .before .before .before .before .before .before .before .before .before .before .note .ensures .0))
 
 loop-again : tie.Need-loop-again Inv-loop μ-loop
 loop-again c =
-    let s = c .before .before .before .before .before .before .before .before .before .before .before .before .before .before .before .before .before .before .before .before .before .before .before .before .before in
-    let l = c .before .before .before .before .before .before .before .before .before .before .before .before .before .before .before .before .before .before .before .loop in
-    let n = c .before .before .before .before .before .before .before .before .before .note in
-    let L = rw (c .before .before .before .before .before .before .before .before .before .before .before .before .before .before .before .single .given .1) at (c .before .before .before .before .before .before .before .before .before .before .before .before .before .before .before .before .before .next-single .ensures) in
+    let s = c .before .before .before .before .before .before .before .before .before .before .before .before .before .before .before .before .before .before .before .before .before .before .before .before .before .before in
+    let l = c .before .before .before .before .before .before .before .before .before .before .before .before .before .before .before .before .before .before .before .before .loop in
+    let n = c .before .before .before .before .before .before .before .before .before .before .before .note in
+    let d = c .before .before .before .raise in
+    let L = rw (c .before .before .before .before .before .before .before .before .before .before .before .before .before .before .before .before .single .given .1) at (c .before .before .before .before .before .before .before .before .before .before .before .before .before .before .before .before .before .before .next-single .ensures) in
     let k = room _ _ _ 512 (l .inv .4 .fewer) (omega (arith, count-bound (s .args .used * 64) (lent 8 (s .args .erased .now) 0), s .pre .0 .4)) (count-pos _ _ _ (L .bit) (L .gone)) in (
       n .kept .0 ∙ l .inv .0,
-      n .kept .1 .0 ∙ l .inv .1,
-      n .kept .1 .1 .0 ∙ l .inv .2,
-      n .kept .1 .1 .1 .0 ∙ l .inv .3,
-      ordered-noted _ _ _ _ _ _ _ _ _ _ _ _ _ _ _ (l .inv .4) L (n .ensures .0) (n .ensures .1 .0) (n .ensures .1 .1 .0) (n .ensures .1 .1 .1) (omega (arith, k, l .inv .2)) (omega (arith, k, l .inv .3)),
+      d .kept .0 ∙ l .inv .1,
+      n .kept .1 .0 ∙ l .inv .2,
+      n .kept .1 .1 .0 ∙ l .inv .3,
+      ordered-noted _ _ _ _ _ _ _ _ _ _ _ _ _ _ _ (l .inv .4) L (n .ensures .0) (d .ensures) (n .ensures .1 .0) (n .ensures .1 .1) (omega (arith, k, l .inv .2)) (omega (arith, k, l .inv .3)),
     )
 
 enum-told : tie.Need-enum-told Inv-loop μ-loop
@@ -118,6 +122,7 @@ settle-spec =
     next-single-requires
     enum-known-single
     note-requires
+    raise-requires
     add-s
     add-t24
     loop-less

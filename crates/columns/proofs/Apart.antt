@@ -20,20 +20,17 @@ use Rattle.columns.specs.Columns.{Columns}
 use Rattle.columns.specs.Three.{inTwo, twoIn, two, NoneIn, Apart}
 
 bit-in-two : (x y z i : ℕ) → bitOf (inTwo x y z) i ≡ ((bitOf x i && bitOf y i) || ((bitOf x i || bitOf y i) && bitOf z i))
-unfolding inTwo
 bit-in-two x y z i = rw (bit-or (bitAnd x y) (bitAnd (bitOr x y) z) i, bit-and x y i, bit-and (bitOr x y) z i, bit-or x y i)
 
 module _ (W : ℕ) (cols : List ℕ) (x y z : ℕ) where
   -- whether check d contains two of the bits
   two-bit : (i t : ℕ) → i < W → t < 64 → bitOf (twoIn W cols x y z i) t ≡ two (λ d b. lent W cols b d) x y z (i * 64 + t)
-  unfolding twoIn
   two-bit i t k l =
       rw (lent-word W cols x i t k l, lent-word W cols y i t k l, lent-word W cols z i t k l)
       (bit-in-two (getD cols (x * W + i) 0) (getD cols (y * W + i) 0) (getD cols (z * W + i) 0) t)
 
   module _ (machine : (i : ℕ) → getD cols i 0 < 2 ^ 64) where
     two-lt : (i : ℕ) → twoIn W cols x y z i < 2 ^ 64
-    unfolding twoIn inTwo
     two-lt i =
         or-lt 64 _ _ (and-lt 64 (getD cols (x * W + i) 0) (getD cols (y * W + i) 0) (machine (x * W + i)) (machine (y * W + i)))
         (and-lt 64 (bitOr (getD cols (x * W + i) 0) (getD cols (y * W + i) 0)) (getD cols (z * W + i) 0) (or-lt 64 _ _ (machine (x * W + i)) (machine (y * W + i))) (machine (z * W + i)))

@@ -8,11 +8,11 @@ use lib.ListN.{getD}
 use Rattle.parity.specs.Matrix.{Matrix}
 
 -- the bits that are ones of at least two of three words
-unfoldable pub inTwo : ℕ → ℕ → ℕ → ℕ
+abbrev pub inTwo : ℕ → ℕ → ℕ → ℕ
 inTwo x y z = bitOr (bitAnd x y) (bitAnd (bitOr x y) z)
 
 -- the checks of column word i, of W, that contain two of the bits x, y and z
-unfoldable pub twoIn : ℕ → List ℕ → ℕ → ℕ → ℕ → ℕ → ℕ
+abbrev pub twoIn : ℕ → List ℕ → ℕ → ℕ → ℕ → ℕ → ℕ
 twoIn W cols x y z i = inTwo (getD cols (x * W + i) 0) (getD cols (y * W + i) 0) (getD cols (z * W + i) 0)
 
 -- Check d contains two of the bits x, y and z.

@@ -1,11 +1,9 @@
 -- `three::in_two` meets its contract. Assumes nothing.
 use mathlib.Core.Path.{refl}
-use Rattle.columns.specs.Three.{inTwo}
 use Rattle.columns.proofs.three.in_two.Statement.{statement}
 use Rattle.columns.proofs.three.in_two.Tie as tie
 
 returns : tie.Need-returns
-unfolding inTwo
 returns c = refl
 
 pub in-two-spec : {M : Type 1} → statement M

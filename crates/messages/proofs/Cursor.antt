@@ -161,11 +161,11 @@ module _ (h : Matrix) (N b : ℕ) (ts : List ℕ) (xs : List Float) where
     }
 
     -- a message of the row goes to its place
-    pub spread-one : start h N 512 ≤ 65024 → b < N → c < 512 → l ≤ c → h c b ≡ true → (vs : List ℕ) (zs : List Float)
-        → Written (place h N c b) (messageAt us ys (65024 + count c (column h b))) us ys vs zs → Spread h N b l (c + 1) ts xs vs zs
+    pub spread-one : start h N 512 ≤ 65024 → b < N → c < 512 → l ≤ c → h c b ≡ true → (p d : ℕ) → p ≡ place h N c b → d ≡ count c (column h b) → (vs : List ℕ) (zs : List Float)
+        → Written p (messageAt us ys (65024 + d)) us ys vs zs → Spread h N b l (c + 1) ts xs vs zs
     unfolding held
-    spread-one m kb kc lc e vs zs W =
-        let p = place h N c b in
+    spread-one m kb kc lc e p d g i vs zs X =
+        let W = rw (g, i) at X in
         let small = place-small h N c b m kc kb e in
         record {
           tags = W .tags ∙ S .tags;

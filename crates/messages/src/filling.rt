@@ -3,7 +3,6 @@ use crate::copying::enter;
 use crate::copying::lowest;
 ghost use mathlib.Core.Path.{_≡_};
 ghost use Prim.Native.Nat.{_+_, _*_, _≤_, _<_};
-ghost use lib.ListN.{length};
 ghost use Rattle.parity.specs.Matrix.{lent};
 ghost use Rattle.parity.specs.Soft.{messageAt, sentAfter};
 ghost use Rattle.messages.specs.Memory.{Laid, Inner, start, place, Filling, Holds};

@@ -1,8 +1,6 @@
 -- `bit_result` meets its contract. Assumes nothing.
 use Rattle.messages.proofs.Cursor.{row-fits, part-low, low-more, moving-end}
 use Rattle.messages.proofs.Sends.{row-result}
-use Rattle.messages.specs.Memory.{across}
-use Rattle.parity.specs.Matrix.{lent}
 use native.Mathlib.Omega.{arith}
 use mathlib.Core.Path.{_∙_}
 use borrow.Author.Needs.{needs}

@@ -8,7 +8,7 @@ use Rattle.parity.specs.Soft.{messageAt}
 use Rattle.parity.specs.Matrix.{lent}
 use native.Mathlib.Omega.{arith}
 use Prim.Native.Nat.{_≤_, _-_}
-use mathlib.Core.Path.{_≡_, sym, _∙_}
+use mathlib.Core.Path.{sym, _∙_}
 use lib.ListN.{length}
 use Rattle.messages.proofs.bit_phase.result_all.Statement.{statement}
 use Rattle.messages.proofs.bit_phase.result_all.Tie as tie

@@ -7,7 +7,7 @@ use Rattle.messages.specs.Loops.{SentAll}
 use Rattle.parity.specs.Soft.{messageAt}
 use Rattle.parity.specs.Matrix.{lent}
 use native.Mathlib.Omega.{arith}
-use Prim.Native.Nat.{_≤_, _<_, _-_}
+use Prim.Native.Nat.{_≤_, _-_}
 use mathlib.Core.Path.{_≡_, sym, _∙_}
 use lib.ListN.{length}
 use Rattle.messages.proofs.bit_phase.send_all.Statement.{statement}

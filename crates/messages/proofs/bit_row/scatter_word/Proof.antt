@@ -107,7 +107,7 @@ loop-again c =
       w .lowest .result + 1,
       H .0 .next,
       rw (H .2) (sym (count-yes _ (w .lowest .result) (H .0 .one))),
-      spread-one _ 512 (s .args .b) _ _ _ _ _ _ (H .3) (s .pre .0 .room) (s .pre .1 .0) (H .1) (H .0 .low) (H .0 .one) _ _ (rw (H .4, H .2) at (c .before .before .before .before .copy .ensures)),
+      spread-one _ 512 (s .args .b) _ _ _ _ _ _ (H .3) (s .pre .0 .room) (s .pre .1 .0) (H .1) (H .0 .low) (H .0 .one) _ _ (H .4) (H .2) _ _ (c .before .before .before .before .copy .ensures),
     )
 
 same-length : tie.Need-same-length Inv-loop μ-loop

@@ -1,7 +1,6 @@
 -- `run` meets its contract. Assumes nothing.
 use Rattle.min_sum.proofs.Course.{ready-same, round-sound, last-results}
 use Rattle.parity.specs.Matrix.{lent}
-use lib.ListN.{length}
 use native.Mathlib.Omega.{arith}
 use Prim.Native.Nat.{suc, _-_}
 use mathlib.Core.Path.{_≡_, refl, sym, _∙_}

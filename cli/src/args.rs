@@ -102,17 +102,30 @@ impl Args {
     }
 
     /// The files, in order, once all options have been taken out.
-    pub fn files<const N: usize>(mut self, names: [&str; N]) -> Result<[PathBuf; N], Fault> {
-        if let Some(option) = self.rest.iter().find(|argument| is_option(argument)) {
-            return Err(self.unknown(&option.to_string_lossy()));
-        }
-        self.rest.append(&mut self.files);
-        let number = self.rest.len();
-        let paths: Vec<PathBuf> = self.rest.into_iter().map(PathBuf::from).collect();
+    pub fn files<const N: usize>(self, names: [&str; N]) -> Result<[PathBuf; N], Fault> {
+        let paths = self.paths()?;
+        let number = paths.len();
         paths.try_into().map_err(|_| {
             let needed = if N == 0 { String::new() } else { format!(": {}", names.join(" ")) };
             Fault::usage(&format!("{number} files are named, and {N} needed{needed}; see --help"))
         })
+    }
+
+    /// One file or more, up to so many.
+    pub fn several(self, most: usize) -> Result<Vec<PathBuf>, Fault> {
+        let paths = self.paths()?;
+        if (1..=most).contains(&paths.len()) {
+            return Ok(paths);
+        }
+        Err(Fault::usage(&format!("{} files are named, and 1 to {most} needed; see --help", paths.len())))
+    }
+
+    fn paths(mut self) -> Result<Vec<PathBuf>, Fault> {
+        if let Some(option) = self.rest.iter().find(|argument| is_option(argument)) {
+            return Err(self.unknown(&option.to_string_lossy()));
+        }
+        self.rest.append(&mut self.files);
+        Ok(self.rest.into_iter().map(PathBuf::from).collect())
     }
 
     /// An argument that looks like an option and is none that the command knows.

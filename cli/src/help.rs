@@ -16,7 +16,7 @@ calls.
   parity mend FILE            mends words with erased bits
   parity explain FILE         why each erased bit is recovered or not
   parity soft FILE            min-sum rounds on words of soft bits
-  parity curve FILE --out SVG the share of bits left over the erasure rate
+  parity curve FILE.. --out SVG  what is left over the erasure rate
   parity COMMAND --help       the options of a command
   parity --version
 
@@ -222,21 +222,30 @@ wrong arguments; 4 some line is no word.
 ";
 
 pub const CURVE: &str = "\
-parity curve FILE --out SVG [--csv CSV] [--words N] [--seed S] [--from FORMAT]
+parity curve FILE.. --out SVG [--blocks] [--csv CSV] [--words N] [--errors E]
+                    [--seed S] [--from FORMAT]
 
 Draws the share of sent bits left over the erasure rate, 0.02 to 1 in steps of
 0.02, by peeling with the given matrix, by peeling with the orthogonalised one
 and by all that the checks determine, with a line at the channel's limit, one
-minus the rate of the code. Random codewords are sent, N at each rate; all cores
-are used, and the numbers do not depend on how many there are.
+minus the rate of the code. Up to 6 matrices stand in one picture, each in its
+colour. Random codewords are sent, N at each rate; all cores are used, and the
+numbers do not depend on how many there are.
 
   --out SVG  the picture
-  --csv CSV  the numbers behind it
+  --csv CSV  the numbers behind it, of bits and of words
+  --blocks   draws the share of words that are not wholly recovered
   --words N  words at each erasure rate, 1 to 100000000 (10000)
+  --errors E a rate ends early, with the hundred of words after which every way
+             has left E words, 1 to 100000000
   --seed S   other words for another number (1)
 
-SVG and CSV must be two files, and neither may be FILE.
+Bars are Wilson's intervals of 95 %. An arrow down stands at the upper end of
+one where nothing was left. Points that fewer than 10 words made are hollow, and
+their lines faint; the axis ends where nothing more is known.
 
-Exit status: 0 written; 1 FILE cannot be read or taken, or a file not written;
+SVG and CSV must be two files, and neither may be a FILE.
+
+Exit status: 0 written; 1 a FILE cannot be read or taken, or a file not written;
 2 wrong arguments.
 ";

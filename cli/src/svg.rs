@@ -1,20 +1,48 @@
-//! The picture of a measurement: three curves over the erasure rate, on a logarithmic axis.
+//! The picture of a measurement: curves of shares on a logarithmic axis, with bars of confidence.
 
+use crate::interval::Interval;
 use std::fmt::Write;
 
-/// What is drawn. A curve is a list of erasure rates and shares of bits left, by the given matrix, by the extended
-/// one and by all that the checks determine.
+/// A share at a place of the axis, and on how many words it was seen.
+#[derive(Clone, Copy)]
+pub struct Dot {
+    pub at: f64,
+    pub found: Interval,
+    pub seen: u64,
+}
+
+/// The axis below the curves.
+pub struct Axis {
+    pub name: &'static str,
+    pub low: f64,
+    pub high: f64,
+    /// The numbers that are written, and those at which a reader who does not see the picture is told the shares.
+    pub marks: Vec<f64>,
+    pub told: Vec<f64>,
+    pub decimals: usize,
+}
+
+/// The curves of a matrix, one for each way, and where the channel's limit is.
+pub struct Group {
+    pub name: String,
+    pub sizes: String,
+    pub limit: Option<f64>,
+    pub curves: Vec<Vec<Dot>>,
+}
+
 pub struct Picture {
     pub title: String,
     pub subtitle: String,
-    /// The channel's limit: no code of this rate recovers all bits at a higher erasure rate.
-    pub limit: f64,
-    pub curves: [Vec<(f64, f64)>; 3],
+    /// What the shares are, and what stands in a picture where all are 0.
+    pub what: &'static str,
+    pub nothing: &'static str,
+    pub axis: Axis,
+    pub ways: &'static [&'static str],
+    pub groups: Vec<Group>,
 }
 
 /// How a curve is drawn. The wide one lies below the others, so that curves that fall together can be told apart.
 struct Style {
-    name: &'static str,
     colour: &'static str,
     line: &'static str,
     mark: Mark,
@@ -27,78 +55,118 @@ enum Mark {
     Square,
 }
 
-const GIVEN: Style = Style { name: "given", colour: "#c04a00", line: "stroke-width='1.5'", mark: Mark::Circle };
-const EXTENDED: Style = Style {
-    name: "extended",
-    colour: "#0064a6",
-    line: "stroke-width='1.5' stroke-dasharray='7 4'",
-    mark: Mark::Square,
-};
-const DETERMINED: Style =
-    Style { name: "determined", colour: "#7fd0b5", line: "stroke-width='7' stroke-linecap='round'", mark: Mark::None };
-const STYLES: [&Style; 3] = [&GIVEN, &EXTENDED, &DETERMINED];
-const LIMIT: &str = "stroke='#222222' stroke-width='1.5' stroke-dasharray='2 4'";
+/// The colours of the ways where there is one matrix, and else those of the matrices.
+const WAYS: [&str; 3] = ["#c04a00", "#0064a6", "#7fd0b5"];
+pub const MATRICES: [&str; 6] = ["#c04a00", "#0064a6", "#2a8a5f", "#8a3fa0", "#9a7400", "#555555"];
+const LINES: [&str; 3] =
+    ["stroke-width='1.5'", "stroke-width='1.5' stroke-dasharray='7 4'", "stroke-width='7' stroke-linecap='round'"];
+const PALE: &str = "stroke-width='7' stroke-linecap='round' stroke-opacity='0.3'";
+const MARKS: [Mark; 3] = [Mark::Circle, Mark::Square, Mark::None];
+const GREY: &str = "#222222";
+const LIMIT: &str = "stroke-width='1.5' stroke-dasharray='2 4'";
 
 const FONTS: &str = "Helvetica, Arial, DejaVu Sans, sans-serif";
 const WIDTH: f64 = 800.0;
-const HEIGHT: f64 = 540.0;
 const LEFT: f64 = 84.0;
 const RIGHT: f64 = 776.0;
 const TOP: f64 = 108.0;
-const BOTTOM: f64 = 478.0;
+const DEPTH: f64 = 370.0;
+/// The height of a line of the legend, and the room below the curves.
+const LEGEND: f64 = 20.0;
+const BELOW: f64 = 62.0;
 
 /// The decades that the logarithmic axis has at least and at most.
 const DECADES_LEAST: i32 = 2;
 const DECADES_MOST: i32 = 9;
 
-/// The most characters of a title that have room.
+/// A share that was seen on fewer words is drawn faintly.
+const FEW: u64 = 10;
+
+/// The most characters of a title, and of a name in the legend, that have room.
 const TITLE_MOST: usize = 38;
+const NAME_MOST: usize = 24;
+
+/// Where things are on the paper.
+struct Frame {
+    low: f64,
+    high: f64,
+    top: f64,
+    decades: i32,
+}
+
+impl Frame {
+    fn new(picture: &Picture) -> Frame {
+        let lines = if picture.groups.len() > 1 { picture.groups.len() } else { 0 };
+        let top = TOP + LEGEND * lines as f64;
+        Frame { low: picture.axis.low, high: picture.axis.high, top, decades: decades(picture) }
+    }
+
+    fn bottom(&self) -> f64 {
+        self.top + DEPTH
+    }
+
+    fn x(&self, at: f64) -> f64 {
+        LEFT + (at - self.low) / (self.high - self.low) * (RIGHT - LEFT)
+    }
+
+    fn y(&self, share: f64) -> f64 {
+        let depth = -share.log10() / f64::from(self.decades);
+        self.top + depth.clamp(0.0, 1.0) * DEPTH
+    }
+
+    /// Whether a share has a place on the axis.
+    fn has(&self, share: f64) -> bool {
+        share >= 10f64.powi(-self.decades)
+    }
+}
+
+/// How many decades below 1 the axis needs: down to the shares that were seen often enough, and to the upper ends of
+/// the others. What lies deeper is not known well enough to be drawn.
+fn decades(picture: &Picture) -> i32 {
+    let dots = picture.groups.iter().flat_map(|group| group.curves.iter().flatten());
+    let known = dots.map(|dot| if dot.seen < FEW { dot.found.high } else { dot.found.share });
+    let least = known.fold(1.0, f64::min);
+    (-least.log10().floor() as i32).clamp(DECADES_LEAST, DECADES_MOST)
+}
 
 /// The picture as a file of its own.
 pub fn draw(picture: &Picture) -> String {
-    let decades = decades(picture);
+    let frame = Frame::new(picture);
     let mut out = String::new();
-    head(&mut out, picture);
-    grid(&mut out, decades);
-    let at = x(picture.limit);
-    put(&mut out, &format!("<line x1='{at:.1}' y1='{TOP}' x2='{at:.1}' y2='{BOTTOM}' {LIMIT}/>"));
-    for way in [2, 1, 0] {
-        curve(&mut out, STYLES[way], &picture.curves[way], decades);
+    head(&mut out, picture, &frame);
+    grid(&mut out, picture, &frame);
+    for (number, group) in picture.groups.iter().enumerate() {
+        limit(&mut out, picture, &frame, number);
+        for way in (0..group.curves.len()).rev() {
+            curve(&mut out, &style(picture, number, way), &group.curves[way], &frame);
+        }
     }
-    let (width, height) = (RIGHT - LEFT, BOTTOM - TOP);
+    let (width, top) = (RIGHT - LEFT, frame.top);
     put(
         &mut out,
-        &format!("<rect x='{LEFT}' y='{TOP}' width='{width}' height='{height}' fill='none' stroke='#444444'/>"),
+        &format!("<rect x='{LEFT}' y='{top}' width='{width}' height='{DEPTH}' fill='none' stroke='#444444'/>"),
     );
-    if picture.curves.iter().flatten().all(|&(_, share)| share == 0.0) {
-        let (middle, height) = ((LEFT + RIGHT) / 2.0, (TOP + BOTTOM) / 2.0 - 24.0);
-        put(&mut out, &text(middle, height, "middle", 15, "no bit is left at any erasure rate"));
+    if picture.groups.iter().all(|group| group.curves.iter().flatten().all(|dot| dot.seen == 0)) {
+        let (middle, height) = ((LEFT + RIGHT) / 2.0, top + DEPTH / 2.0 - 24.0);
+        put(&mut out, &text(middle, height, "middle", 15, picture.nothing));
     }
-    axes(&mut out, decades);
+    axes(&mut out, picture, &frame);
     legend(&mut out, picture);
     put(&mut out, "</svg>");
     out
 }
 
+fn style(picture: &Picture, group: usize, way: usize) -> Style {
+    let (line, mark) = (LINES[way], MARKS[way]);
+    if picture.groups.len() == 1 {
+        return Style { colour: WAYS[way], line, mark };
+    }
+    Style { colour: MATRICES[group % MATRICES.len()], line: if way == 2 { PALE } else { line }, mark }
+}
+
 fn put(out: &mut String, element: &str) {
     out.push_str(element);
     out.push('\n');
-}
-
-/// How many decades below 1 the least share that is not 0 asks for.
-fn decades(picture: &Picture) -> i32 {
-    let shares = picture.curves.iter().flatten().map(|&(_, share)| share).filter(|&share| share > 0.0);
-    let least = shares.fold(1.0, f64::min);
-    (-least.log10().floor() as i32).clamp(DECADES_LEAST, DECADES_MOST)
-}
-
-fn x(rate: f64) -> f64 {
-    LEFT + rate * (RIGHT - LEFT)
-}
-
-fn y(share: f64, decades: i32) -> f64 {
-    let depth = -share.log10() / f64::from(decades);
-    TOP + depth.clamp(0.0, 1.0) * (BOTTOM - TOP)
 }
 
 fn text(x: f64, y: f64, anchor: &str, size: u32, text: &str) -> String {
@@ -121,9 +189,9 @@ fn escaped(text: &str) -> String {
     escaped
 }
 
-/// The title, short enough for one line.
-fn short(title: &str) -> String {
-    match title.char_indices().nth(TITLE_MOST) {
+/// A title or a name, short enough for its room.
+fn short(title: &str, most: usize) -> String {
+    match title.char_indices().nth(most) {
         Some((end, _)) => format!("{}..", &title[..end]),
         None => title.to_string(),
     }
@@ -131,87 +199,109 @@ fn short(title: &str) -> String {
 
 /// What a reader who does not see the picture is told.
 fn description(picture: &Picture) -> String {
-    let mut told = format!("{}. The channel's limit is at erasure rate {:.3}.", picture.subtitle, picture.limit);
-    for rate in [0.1, 0.2, 0.3, 0.4, 0.5] {
-        let share = |way: usize| {
-            let near = |point: &&(f64, f64)| (point.0 - rate).abs() < 0.001;
-            picture.curves[way].iter().find(near).map_or(0.0, |point| point.1)
-        };
-        let (given, extended, determined) = (share(0), share(1), share(2));
-        let _ = write!(
-            told,
-            " At {rate} the given matrix leaves {given:.2e} of the sent bits, the extended one {extended:.2e}, and \
-             {determined:.2e} are not determined."
-        );
+    let mut told = format!("{}.", picture.subtitle);
+    for group in &picture.groups {
+        let _ = write!(told, " {}: {}.", group.name, group.sizes);
+        if let Some(limit) = group.limit {
+            let _ = write!(told, " The channel's limit is at {limit:.3}.");
+        }
+        for &place in &picture.axis.told {
+            let near = |dot: &&Dot| (dot.at - place).abs() < 0.001;
+            let share = |curve: &Vec<Dot>| curve.iter().find(near).map_or(0.0, |dot| dot.found.share);
+            let shares = group.curves.iter().zip(picture.ways);
+            let shares: Vec<String> = shares.map(|(curve, way)| format!("{way} {:.2e}", share(curve))).collect();
+            let _ = write!(told, " At {place}: {}.", shares.join(", "));
+        }
     }
     told
 }
 
-fn head(out: &mut String, picture: &Picture) {
-    let (title, told) = (escaped(&picture.title), escaped(&description(picture)));
+fn head(out: &mut String, picture: &Picture, frame: &Frame) {
+    let (title, told, height) = (escaped(&picture.title), escaped(&description(picture)), frame.bottom() + BELOW);
     put(
         out,
         &format!(
-            "<svg xmlns='http://www.w3.org/2000/svg' width='{WIDTH}' height='{HEIGHT}' viewBox='0 0 {WIDTH} {HEIGHT}' \
-             role='img' aria-labelledby='title desc' font-family='{FONTS}' fill='#222222'>"
+            "<svg xmlns='http://www.w3.org/2000/svg' width='{WIDTH}' height='{height}' viewBox='0 0 {WIDTH} {height}' \
+             role='img' aria-labelledby='title desc' font-family='{FONTS}' fill='{GREY}'>"
         ),
     );
-    put(out, &format!("<title id='title'>Share of sent bits left over the erasure rate: {title}</title>"));
+    let (what, over) = (picture.what, picture.axis.name);
+    put(out, &format!("<title id='title'>{what} over {over}: {title}</title>"));
     put(out, &format!("<desc id='desc'>{told}</desc>"));
-    put(out, &format!("<rect width='{WIDTH}' height='{HEIGHT}' fill='#ffffff'/>"));
-    put(out, &text(LEFT, 30.0, "start", 18, &short(&picture.title)));
+    put(out, &format!("<rect width='{WIDTH}' height='{height}' fill='#ffffff'/>"));
+    put(out, &text(LEFT, 30.0, "start", 18, &short(&picture.title, TITLE_MOST)));
     put(out, &text(LEFT, 52.0, "start", 12, &picture.subtitle));
 }
 
-/// Lines at the tenths of the erasure rate and at the decades, and fainter ones between decades.
-fn grid(out: &mut String, decades: i32) {
+/// Lines at the numbers of the axes, and fainter ones between decades.
+fn grid(out: &mut String, picture: &Picture, frame: &Frame) {
     let mut across = |share: f64, colour: &str| {
-        let at = y(share, decades);
+        let at = frame.y(share);
         put(out, &format!("<line x1='{LEFT}' y1='{at:.1}' x2='{RIGHT}' y2='{at:.1}' stroke='{colour}'/>"));
     };
-    for decade in 0..decades {
+    for decade in 0..frame.decades {
         let least = 10f64.powi(-decade - 1);
         (2..10).for_each(|times| across(f64::from(times) * least, "#f0f0f0"));
         across(10.0 * least, "#c8c8c8");
     }
-    for tenth in 1..10 {
-        let at = x(f64::from(tenth) / 10.0);
-        put(out, &format!("<line x1='{at:.1}' y1='{TOP}' x2='{at:.1}' y2='{BOTTOM}' stroke='#dcdcdc'/>"));
+    let (top, bottom) = (frame.top, frame.bottom());
+    for &mark in &picture.axis.marks {
+        let at = frame.x(mark);
+        put(out, &format!("<line x1='{at:.1}' y1='{top}' x2='{at:.1}' y2='{bottom}' stroke='#dcdcdc'/>"));
     }
 }
 
-/// The curve, apart where its share is 0, which has no place on the axis.
-fn curve(out: &mut String, style: &Style, points: &[(f64, f64)], decades: i32) {
-    let places: Vec<Option<(f64, f64)>> =
-        points.iter().map(|&(rate, share)| (share > 0.0).then(|| (x(rate), y(share, decades)))).collect();
-    let mut path = String::new();
-    for piece in places.split(Option::is_none).filter(|piece| !piece.is_empty()) {
-        for (number, (x, y)) in piece.iter().flatten().enumerate() {
-            let _ = write!(path, "{}{x:.1} {y:.1} ", if number == 0 { 'M' } else { 'L' });
-        }
-        if let [Some((x, y))] = piece {
-            let _ = write!(path, "L{x:.1} {y:.1} ");
-        }
-    }
-    stroke(out, style, path.trim_end());
-    places.into_iter().flatten().for_each(|(x, y)| mark(out, style, x, y));
+fn limit(out: &mut String, picture: &Picture, frame: &Frame, group: usize) {
+    let Some(limit) = picture.groups[group].limit else { return };
+    let colour = if picture.groups.len() == 1 { GREY } else { style(picture, group, 0).colour };
+    let (at, top, bottom) = (frame.x(limit), frame.top, frame.bottom());
+    put(out, &format!("<line x1='{at:.1}' y1='{top}' x2='{at:.1}' y2='{bottom}' stroke='{colour}' {LIMIT}/>"));
 }
 
-fn stroke(out: &mut String, style: &Style, path: &str) {
+/// The curve where it was seen, its bars, and arrows down from the upper bounds where nothing was.
+fn curve(out: &mut String, style: &Style, dots: &[Dot], frame: &Frame) {
+    let (mut sure, mut faint, mut bars, mut bounds) = (String::new(), String::new(), String::new(), String::new());
+    let drawn = |dot: &Dot| dot.seen > 0 && frame.has(dot.found.share);
+    let place = |dot: &Dot| (frame.x(dot.at), frame.y(dot.found.share));
+    for pair in dots.windows(2).filter(|pair| pair.iter().all(drawn)) {
+        let ((x1, y1), (x2, y2)) = (place(&pair[0]), place(&pair[1]));
+        let few = pair.iter().any(|dot| dot.seen < FEW);
+        let path = if few { &mut faint } else { &mut sure };
+        let end = format!("{x1:.1} {y1:.1} ");
+        let lead = if path.ends_with(&end) { String::new() } else { format!("M{end}") };
+        let _ = write!(path, "{lead}L{x2:.1} {y2:.1} ");
+    }
+    for dot in dots {
+        let (x, high, low) = (frame.x(dot.at), frame.y(dot.found.high), frame.y(dot.found.low));
+        let _ = match dot.seen {
+            0 => write!(bounds, "M{:.1} {high:.1} h5 m-2.5 0 v7 m-2 -3 l2 3 l2 -3 ", x - 2.5),
+            _ => write!(bars, "M{x:.1} {high:.1} V{low:.1} "),
+        };
+    }
+    stroke(out, style, &sure, style.line);
+    stroke(out, style, &faint, "stroke-width='1' stroke-opacity='0.5' stroke-dasharray='1 3'");
+    stroke(out, style, &bars, "stroke-width='1.2' stroke-opacity='0.8'");
+    stroke(out, style, &bounds, "stroke-width='1'");
+    dots.iter().filter(|dot| drawn(dot)).for_each(|dot| mark(out, style, place(dot), dot.seen < FEW));
+}
+
+fn stroke(out: &mut String, style: &Style, path: &str, line: &str) {
     if !path.is_empty() {
-        put(out, &format!("<path d='{path}' fill='none' stroke='{}' {}/>", style.colour, style.line));
+        put(out, &format!("<path d='{}' fill='none' stroke='{}' {line}/>", path.trim_end(), style.colour));
     }
 }
 
-fn mark(out: &mut String, style: &Style, x: f64, y: f64) {
+/// The mark of a point; one that was seen on few words is hollow and round.
+fn mark(out: &mut String, style: &Style, (x, y): (f64, f64), few: bool) {
     let colour = style.colour;
+    let hollow = format!("fill='#ffffff' stroke='{colour}' stroke-width='1.3'");
     match style.mark {
+        _ if few => put(out, &format!("<circle cx='{x:.1}' cy='{y:.1}' r='2' {hollow}/>")),
         Mark::None => {}
         Mark::Circle => put(out, &format!("<circle cx='{x:.1}' cy='{y:.1}' r='2.4' fill='{colour}'/>")),
         Mark::Square => {
             let (x, y) = (x - 3.0, y - 3.0);
-            let line = format!("fill='#ffffff' stroke='{colour}' stroke-width='1.3'");
-            put(out, &format!("<rect x='{x:.1}' y='{y:.1}' width='6' height='6' {line}/>"));
+            put(out, &format!("<rect x='{x:.1}' y='{y:.1}' width='6' height='6' {hollow}/>"));
         }
     }
 }
@@ -226,37 +316,51 @@ fn decade_name(x: f64, y: f64, decade: i32) -> String {
 }
 
 /// The numbers at the axes, and what the axes are.
-fn axes(out: &mut String, decades: i32) {
-    for tenth in 0..=10 {
-        let rate = f64::from(tenth) / 10.0;
-        put(out, &text(x(rate), BOTTOM + 20.0, "middle", 13, &format!("{rate:.1}")));
+fn axes(out: &mut String, picture: &Picture, frame: &Frame) {
+    let (axis, bottom) = (&picture.axis, frame.bottom());
+    for &mark in &axis.marks {
+        put(out, &text(frame.x(mark), bottom + 20.0, "middle", 13, &format!("{mark:.*}", axis.decimals)));
     }
-    for decade in 0..=decades {
-        let at = y(10f64.powi(-decade), decades) + 4.5;
+    for decade in 0..=frame.decades {
+        let at = frame.y(10f64.powi(-decade)) + 4.5;
         put(out, &decade_name(LEFT - 8.0, at, decade));
     }
-    put(out, &text((LEFT + RIGHT) / 2.0, BOTTOM + 46.0, "middle", 14, "erasure rate"));
-    let middle = (TOP + BOTTOM) / 2.0;
-    let name = "share of sent bits left";
+    put(out, &text((LEFT + RIGHT) / 2.0, bottom + 46.0, "middle", 14, axis.name));
+    let (middle, what) = (frame.top + DEPTH / 2.0, picture.what);
     put(
         out,
         &format!(
-            "<text transform='translate(24 {middle:.1}) rotate(-90)' text-anchor='middle' font-size='14'>{name}</text>"
+            "<text transform='translate(24 {middle:.1}) rotate(-90)' text-anchor='middle' font-size='14'>{what}</text>"
         ),
     );
 }
 
-/// The names of the lines, in a row above the plot.
+const SAMPLE: f64 = 34.0;
+
+/// The names of the ways in a row above the curves, and below it a row for each matrix where there are several.
 fn legend(out: &mut String, picture: &Picture) {
-    let (sample, at) = (34.0, 80.0);
-    for (style, left) in STYLES.into_iter().zip([LEFT, LEFT + 110.0, LEFT + 242.0]) {
-        let middle = left + sample / 2.0;
-        stroke(out, style, &format!("M{left} {at} L{} {at}", left + sample));
-        mark(out, style, middle, at);
-        put(out, &text(left + sample + 8.0, at + 4.5, "start", 13, style.name));
+    let at = 80.0;
+    let several = picture.groups.len() > 1;
+    for ((way, name), left) in picture.ways.iter().enumerate().zip([LEFT, LEFT + 110.0, LEFT + 242.0]) {
+        let mut style = style(picture, 0, way);
+        if several {
+            style.colour = GREY;
+        }
+        stroke(out, &style, &format!("M{left} {at} L{} {at}", left + SAMPLE), style.line);
+        mark(out, &style, (left + SAMPLE / 2.0, at), false);
+        put(out, &text(left + SAMPLE + 8.0, at + 4.5, "start", 13, name));
     }
-    let left = LEFT + 388.0;
-    put(out, &format!("<line x1='{left}' y1='{at}' x2='{}' y2='{at}' {LIMIT}/>", left + sample));
-    let limit = format!("limit of the channel, 1 - rate = {:.3}", picture.limit);
-    put(out, &text(left + sample + 8.0, at + 4.5, "start", 13, &limit));
+    if let Some(limit) = picture.groups[0].limit {
+        let left = LEFT + 388.0;
+        put(out, &format!("<line x1='{left}' y1='{at}' x2='{}' y2='{at}' stroke='{GREY}' {LIMIT}/>", left + SAMPLE));
+        let value = if several { String::new() } else { format!(" = {limit:.3}") };
+        let limit = format!("limit of the channel, 1 - rate{value}");
+        put(out, &text(left + SAMPLE + 8.0, at + 4.5, "start", 13, &limit));
+    }
+    for (number, group) in picture.groups.iter().enumerate().filter(|_| several) {
+        let (at, colour) = (at + LEGEND * (number + 1) as f64, style(picture, number, 0).colour);
+        put(out, &format!("<rect x='{LEFT}' y='{}' width='{SAMPLE}' height='8' fill='{colour}'/>", at - 4.0));
+        let name = format!("{}: {}", short(&group.name, NAME_MOST), group.sizes);
+        put(out, &text(LEFT + SAMPLE + 8.0, at + 4.5, "start", 13, &name));
+    }
 }

@@ -5,8 +5,11 @@ use crate::model::{erased, house, Matrix};
 use crate::random::Random;
 use crate::support::{alist, examples, folder, golden, run, runs};
 use crate::xml;
-use cli::curve::{csv, measure, picture, Draw, Plan, Point, Setup, RATES};
+use cli::curve::{csv, picture, Measured};
+use cli::erasures::{Draw, Setup, RATES};
 use cli::files::{take, Format};
+use cli::interval::Count;
+use cli::measure::{measure, Plan, Point, CHUNK};
 use cli::svg;
 use std::fs;
 use std::path::Path;
@@ -17,7 +20,12 @@ fn setup(matrix: &Matrix) -> Setup {
     Setup::new(&taken).expect("a setup")
 }
 
-/// The tables of case C and case L by the program, for a few words.
+/// The first fields of a line.
+fn front(line: &str, fields: usize) -> String {
+    line.split(',').take(fields).collect::<Vec<_>>().join(",") + "\n"
+}
+
+/// The first columns of case C and case L by the program, for a few words.
 #[test]
 fn tables() {
     let out = folder("curves");
@@ -28,7 +36,8 @@ fn tables() {
         let args = ["curve", &file, "--csv", paths[0], "--out", paths[1], "--words", words, "--seed", seed];
         assert_eq!(runs(&from, &args).text(), "");
         let due = fs::read_to_string(golden().join(format!("{name}.csv"))).expect("a table");
-        assert_eq!(fs::read_to_string(&table).expect("a table"), due);
+        let found = fs::read_to_string(&table).expect("a table");
+        assert_eq!(found.lines().map(|line| front(line, 10)).collect::<String>(), due);
         let text = fs::read_to_string(&drawn).expect("a picture");
         assert_eq!(xml::check(&text), Ok(()));
         for part in
@@ -46,12 +55,12 @@ fn tables() {
 #[test]
 fn threads() {
     let setup = setup(&house(2).expect("Hamming 7"));
-    let plan = Plan { words: 250, seed: 3 };
+    let plan = Plan { words: 250, seed: 3, errors: None };
     let one = measure(&setup, plan, 1).expect("numbers");
     for threads in [0, 2, 3, 7] {
         assert_eq!(measure(&setup, plan, threads).expect("numbers"), one);
     }
-    assert_ne!(measure(&setup, Plan { words: 250, seed: 4 }, 2).expect("numbers"), one);
+    assert_ne!(measure(&setup, Plan { seed: 4, ..plan }, 2).expect("numbers"), one);
     assert!(one.iter().all(|point| point.words == 250));
 }
 
@@ -62,7 +71,7 @@ fn against_the_model() {
     let matrices = [house(0).expect("case L"), generate::given(r, 20, 9, 250), Matrix::zero(5, 2, 0)];
     for given in matrices {
         let setup = setup(&given);
-        let points = measure(&setup, Plan { words: 12, seed: 9 }, 2).expect("numbers");
+        let points = measure(&setup, Plan { words: 12, seed: 9, errors: None }, 2).expect("numbers");
         let mut extended = given.clone();
         extended.orthogonalise();
         for (rate, point) in (1..=RATES).zip(&points) {
@@ -75,15 +84,15 @@ fn against_the_model() {
                 assert!(draw.received.iter().zip(&draw.sent).all(agrees));
                 let longer = [draw.received.clone(), vec![2; extended.k]].concat();
                 let ways = [given.peel(&draw.received), extended.peel(&longer), given.determine(&draw.received)];
-                due.erased += erased(&draw.received) as u64;
+                due.hit += erased(&draw.received) as u64;
                 for (left, word) in due.left.iter_mut().zip(ways) {
-                    *left += erased(&word.expect("a codeword agrees")[..given.n]) as u64;
+                    left.word(erased(&word.expect("a codeword agrees")[..given.n]));
                 }
             }
             assert_eq!(*point, due, "rate {rate}");
         }
         let [low, high] = [&points[9], points.last().expect("a point")];
-        assert!(low.erased < high.erased && high.erased == 12 * given.n as u64);
+        assert!(low.hit < high.hit && high.hit == 12 * given.n as u64);
     }
 }
 
@@ -94,11 +103,13 @@ fn pictures() {
     let everything = Matrix::zero(4, 0, 0);
     for (matrix, says) in [(nothing, "no bit is left at any erasure rate"), (everything, "1 - rate = 0.000")] {
         let setup = setup(&matrix);
-        let plan = Plan { words: 3, seed: 0 };
+        let plan = Plan { words: 3, seed: 0, errors: None };
         let points = measure(&setup, plan, 1).expect("numbers");
-        assert_eq!(csv(&setup, &points).lines().count(), 51);
+        let mut all = [Measured { name: String::new(), setup, points }];
+        assert_eq!(csv(&all).lines().count(), 51);
         for name in ["a & b <c> 'd' \"e\".alist", "\u{1}\u{ffff}\n", &"long".repeat(100)] {
-            let drawn = svg::draw(&picture(name, &setup, plan, &points));
+            all[0].name = name.to_string();
+            let drawn = svg::draw(&picture(&all, plan, false));
             assert_eq!(xml::check(&drawn), Ok(()), "{name}");
             assert!(drawn.contains(says), "{drawn}");
         }
@@ -110,4 +121,77 @@ fn pictures() {
     let text = fs::read_to_string(out.join("a&b.svg")).expect("a picture");
     assert_eq!(xml::check(&text), Ok(()));
     assert!(text.contains(">a&amp;b.alist<"));
+}
+
+/// The whole table of three matrices, two of them with one name, and their picture, of bits and of words.
+#[test]
+fn several() {
+    let out = folder("curves-several");
+    let (case_c, case_l) = (golden().join("case-c.alist"), examples().join("case-l.alist"));
+    fs::copy(&case_c, out.join("a,b.alist")).expect("a file");
+    let files = [case_c.to_str().expect("a path"), "a,b.alist", case_l.to_str().expect("a path")];
+    let plan = ["--words", "250", "--errors", "60", "--seed", "5", "--csv", "all.csv", "--out", "all.svg"];
+    runs(&out, &[&["curve"], &files[..], &plan].concat());
+    let found = fs::read_to_string(out.join("all.csv")).expect("a table");
+    assert_eq!(found, fs::read_to_string(golden().join("several.csv")).expect("a table"));
+    let bits = fs::read_to_string(out.join("all.svg")).expect("a picture");
+    assert_eq!(xml::check(&bits), Ok(()));
+    for part in [">share of sent bits left<", ">a,b.alist: 7 bits, 3 checks, rank 3, rate 0.571, k = 1<", ">given<"] {
+        assert!(bits.contains(part), "{part}");
+    }
+    runs(&out, &[&["curve", "--blocks"], &files[..], &plan].concat());
+    assert_eq!(fs::read_to_string(out.join("all.csv")).expect("a table"), found, "the table has both");
+    let words = fs::read_to_string(out.join("all.svg")).expect("a picture");
+    assert_eq!(xml::check(&words), Ok(()));
+    assert!(words.contains(">share of words not wholly recovered<") && words != bits);
+}
+
+/// A point ends with the first chunk after which every way has left enough, whatever the number of threads.
+#[test]
+fn enough() {
+    let setup = setup(&house(0).expect("case L"));
+    let plan = Plan { words: 900, seed: 11, errors: None };
+    let whole = measure(&setup, plan, 2).expect("numbers");
+    let some = Plan { errors: Some(40), ..plan };
+    let one = measure(&setup, some, 1).expect("numbers");
+    for threads in [0, 2, 5] {
+        assert_eq!(measure(&setup, some, threads).expect("numbers"), one);
+    }
+    for (rate, (point, whole)) in one.iter().zip(&whole).enumerate() {
+        let least = point.left.iter().map(|left| left.words).min().expect("a way");
+        assert!(if point.words < 900 { least >= 40 } else { point == whole }, "rate {rate}");
+        let shorter = measure(&setup, Plan { words: point.words - CHUNK.min(point.words), ..plan }, 1);
+        if point.words > CHUNK {
+            let before = shorter.expect("numbers")[rate].left;
+            assert!(before.iter().any(|left| left.words < 40), "rate {rate} goes on too long");
+        }
+    }
+    assert!(one[45].words == CHUNK && one[0].words == 900);
+}
+
+/// Wilson's intervals: known ones of words; of bits by as many independent ones as vary alike.
+#[test]
+fn intervals() {
+    let near = |found: f64, due: f64| assert!((found - due).abs() < 5e-7, "{found} {due}");
+    let count = |words: &[usize]| {
+        let mut count = Count::default();
+        words.iter().for_each(|&bits| count.word(bits));
+        count
+    };
+    let nothing = Count::default();
+    for found in [nothing.of_words(100), nothing.of_bits(100, 9)] {
+        assert_eq!((found.share, found.low), (0.0, 0.0));
+        near(found.high, 0.036_993_5);
+    }
+    let ten = count(&[1; 10]);
+    near(ten.of_words(100).low, 0.055_229_1);
+    near(ten.of_words(100).high, 0.174_366);
+    // Words of one bit are trials; so are words that are lost whole; bits lost one by one count once each.
+    assert_eq!(ten.of_bits(100, 1), ten.of_words(100));
+    near(count(&[7; 10]).of_bits(100, 7).high, 0.174_366);
+    let apart = count(&[1; 10]).of_bits(100, 20);
+    assert!(apart.share == 0.005 && apart.low > 0.0026 && apart.high < 0.0093, "{apart:?}");
+    let all = count(&[3; 10]).of_bits(10, 3);
+    assert_eq!((all.share, all.high), (1.0, 1.0));
+    near(all.low, 0.722_467);
 }

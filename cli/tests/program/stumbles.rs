@@ -209,7 +209,7 @@ fn remarks() {
 }
 
 /// What a user mistypes, and what the program says.
-const MISTYPED: [(&[&str], &str); 22] = [
+const MISTYPED: [(&[&str], &str); 28] = [
     (&["mned", "case-c.alist"], "'mned' is no command; did you mean mend? see parity --help"),
     (&["inspcet"], "'inspcet' is no command; did you mean inspect? see parity --help"),
     (&["conv"], "'conv' is no command; did you mean convert? see parity --help"),
@@ -231,6 +231,12 @@ const MISTYPED: [(&[&str], &str); 22] = [
     (&["curve", "case-c.alist", "--out", "--csv", "x.csv"], "--out needs a value"),
     (&["mend", "case-c.alist", "--by", "extend"], "--by takes given, extended, determine or block, and not 'extend'"),
     (&["convert", "a.txt", "b.txt", "--to", "csv"], "--to takes alist, text or record, and not 'csv'"),
+    (&["curve", "--out", "x.svg"], "0 files are named, and 1 to 6 needed; see --help"),
+    (&["curve", "case-c.alist", "--block"], "'--block' is no option here; did you mean --blocks? see --help"),
+    (&["curve", "case-c.alist", "--blocks=1"], "--blocks takes no value, and '--blocks=1' has one"),
+    (&["curve", "case-c.alist", "--error", "9"], "'--error' is no option here; did you mean --errors? see --help"),
+    (&["curve", "case-c.alist", "--errors", "0"], "--errors takes a number from 1 to 100000000, and not '0'"),
+    (&["curve", "case-c.alist", "--errors"], "--errors needs a value"),
     (&["curve", "case-c.alist", "--seed", "-1"], "--seed takes a number from 0 to 18446744073709551615, and not '-1'"),
 ];
 

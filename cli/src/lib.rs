@@ -4,9 +4,11 @@
 
 pub mod alist;
 pub mod args;
+pub mod awgn;
 pub mod certificates;
 pub mod convert;
 pub mod curve;
+pub mod dual;
 pub mod encode;
 pub mod erase;
 pub mod erasures;

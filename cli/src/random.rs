@@ -34,4 +34,10 @@ impl Random {
     pub fn part(&mut self) -> f64 {
         (self.number() >> 11) as f64 / (1u64 << 53) as f64
     }
+
+    /// A number of the normal distribution around 0 with variance 1 (Box and Muller's).
+    pub fn normal(&mut self) -> f64 {
+        let (distance, turn) = (1.0 - self.part(), self.part());
+        (-2.0 * distance.ln()).sqrt() * (std::f64::consts::TAU * turn).cos()
+    }
 }

@@ -8,7 +8,7 @@ use crate::matrix::{Matrix, EITHER};
 use crate::words::is_gap;
 use parity::{Bit, Refusal, MESSAGES, ROUNDS_MOST};
 
-const ROUNDS: usize = 50;
+pub const ROUNDS: usize = 50;
 
 /// A matrix, and room for the messages of its call.
 pub struct Decoder {

@@ -5,7 +5,9 @@ use crate::model::{erased, house, Matrix};
 use crate::random::Random;
 use crate::support::{alist, examples, folder, golden, run, runs};
 use crate::xml;
-use cli::curve::{csv, picture, Measured};
+use cli::awgn::{self, variance, Noisy, POINTS};
+use cli::curve::{csv, picture, Measured, Over};
+use cli::dual::Dual;
 use cli::erasures::{Draw, Setup, RATES};
 use cli::files::{take, Format};
 use cli::interval::Count;
@@ -104,12 +106,11 @@ fn pictures() {
     for (matrix, says) in [(nothing, "no bit is left at any erasure rate"), (everything, "1 - rate = 0.000")] {
         let setup = setup(&matrix);
         let plan = Plan { words: 3, seed: 0, errors: None };
-        let points = measure(&setup, plan, 1).expect("numbers");
-        let mut all = [Measured { name: String::new(), setup, points }];
-        assert_eq!(csv(&all).lines().count(), 51);
+        let mut all = [Measured::new("", setup, Over::Erasures, plan, 1).expect("numbers")];
+        assert_eq!(csv(Over::Erasures, &all).lines().count(), 51);
         for name in ["a & b <c> 'd' \"e\".alist", "\u{1}\u{ffff}\n", &"long".repeat(100)] {
             all[0].name = name.to_string();
-            let drawn = svg::draw(&picture(&all, plan, false));
+            let drawn = svg::draw(&picture(Over::Erasures, &all, plan, false));
             assert_eq!(xml::check(&drawn), Ok(()), "{name}");
             assert!(drawn.contains(says), "{drawn}");
         }
@@ -194,4 +195,79 @@ fn intervals() {
     let all = count(&[3; 10]).of_bits(10, 3);
     assert_eq!((all.share, all.high), (1.0, 1.0));
     near(all.low, 0.722_467);
+}
+
+/// Noise: the table and the pictures of two matrices, one of them with too large a rank for the best decision.
+#[test]
+fn noise() {
+    let out = folder("curves-noise");
+    let names = ["hamming-31", "sparse-60x120"].map(|name| examples().join(format!("{name}.alist")));
+    let files = [names[0].to_str().expect("a path"), names[1].to_str().expect("a path")];
+    let plan = ["--channel", "awgn", "--rounds", "4", "--words", "20", "--csv", "all.csv", "--out", "all.svg"];
+    runs(&out, &[&["curve"], &files[..], &plan].concat());
+    let found = fs::read_to_string(out.join("all.csv")).expect("a table");
+    assert_eq!(found, fs::read_to_string(golden().join("noise.csv")).expect("a table"));
+    let drawn = |what: &str| {
+        let text = fs::read_to_string(out.join("all.svg")).expect("a picture");
+        assert_eq!(xml::check(&text), Ok(()));
+        for part in [what, ">Eb/N0 in dB<", ">best<", ">hamming-31.alist: 31 bits, 5 checks", "20 words at each point"]
+        {
+            assert!(text.contains(part), "{part}");
+        }
+    };
+    drawn(">bit error rate<");
+    runs(&out, &[&["curve", "--blocks"], &files[..], &plan].concat());
+    drawn(">word error rate<");
+    fs::write(out.join("zero.txt"), "10\n01\n").expect("a file");
+    let refused = run(&out, &["curve", "zero.txt", "--channel", "awgn", "--out", "zero.svg"], b"");
+    let due = "parity: zero.txt: the code has rate 0, so that no Eb/N0 is its own\n";
+    assert_eq!((refused.status, refused.err.as_str()), (1, due));
+    assert!(!out.join("zero.svg").exists());
+}
+
+/// The same numbers over noise, whatever the number of threads, ended early or not.
+#[test]
+fn noise_on_threads() {
+    let setup = setup(&house(2).expect("Hamming 7"));
+    let noisy = Noisy::new(&setup, 5);
+    for errors in [None, Some(9)] {
+        let plan = Plan { words: 250, seed: 3, errors };
+        let one = measure(&noisy, plan, 1).expect("numbers");
+        assert_eq!(one.len() as u64, POINTS);
+        for threads in [0, 2, 3] {
+            assert_eq!(measure(&noisy, plan, threads).expect("numbers"), one);
+        }
+        assert_eq!(one[0].words, if errors.is_some() { 100 } else { 250 });
+    }
+}
+
+/// The noise has the variance that Eb/N0 says, and the best decision is that of all codewords' likelihoods.
+#[test]
+fn best_decisions() {
+    let given = house(2).expect("Hamming 7");
+    let setup = setup(&given);
+    let dual = Dual::new(&setup.given, setup.rank).expect("8 words");
+    let codewords: Vec<Vec<u8>> = (0..128u32).map(|word| (0..7).map(|bit| (word >> bit & 1) as u8).collect()).collect();
+    let codewords: Vec<_> = codewords.into_iter().filter(|word| given.is_codeword(word)).collect();
+    assert_eq!(codewords.len(), 16);
+    let (mut draw, wide) = (awgn::Draw::new(&setup, 1, 4, 0), variance(4, 4.0 / 7.0));
+    let mut square = 0.0;
+    for _ in 0..2000 {
+        draw.word().expect("a word");
+        assert!(codewords.contains(&draw.sent));
+        let likely = |word: &Vec<u8>| -> f64 {
+            let signed =
+                word.iter().zip(&draw.received).map(|(&bit, &value)| (0.5 - f64::from(bit)) * f64::from(value));
+            signed.sum::<f64>().exp()
+        };
+        let decided = dual.decide(&draw.received);
+        for (bit, decided) in decided.iter().enumerate() {
+            let of = |value: u8| codewords.iter().filter(|word| word[bit] == value).map(likely).sum::<f64>();
+            assert_eq!(cli::soft::hard(*decided), if of(0) > of(1) { '0' } else { '1' });
+        }
+        let noise = |(&sent, &value): (&u8, &f32)| f64::from(value) * wide / 2.0 - (1.0 - 2.0 * f64::from(sent));
+        square += draw.sent.iter().zip(&draw.received).map(noise).map(|noise| noise * noise).sum::<f64>();
+    }
+    let found = square / (2000.0 * 7.0);
+    assert!((found / wide - 1.0).abs() < 0.05, "{found} {wide}");
 }

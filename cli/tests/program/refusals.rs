@@ -186,6 +186,8 @@ fn arguments() {
         &["curve", "c.alist", "--out", "out.svg", "--words", "1000000000"],
         &["curve", "c.alist", "--out", "out.svg", "--seed", "-1"],
         &["curve", "c.alist", "--out", "out.svg", "--errors", "0"],
+        &["curve", "c.alist", "--out", "out.svg", "--channel", "bsc"],
+        &["curve", "c.alist", "--out", "out.svg", "--rounds", "3"],
         &["curve", "c.alist", "c.alist", "--out", "c.alist"],
         &["curve", "c.alist", "c.alist", "c.alist", "c.alist", "c.alist", "c.alist", "c.alist", "--out", "out.svg"],
         &["inspect", "two\nlines"],

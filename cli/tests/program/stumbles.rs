@@ -209,7 +209,7 @@ fn remarks() {
 }
 
 /// What a user mistypes, and what the program says.
-const MISTYPED: [(&[&str], &str); 28] = [
+const MISTYPED: [(&[&str], &str); 33] = [
     (&["mned", "case-c.alist"], "'mned' is no command; did you mean mend? see parity --help"),
     (&["inspcet"], "'inspcet' is no command; did you mean inspect? see parity --help"),
     (&["conv"], "'conv' is no command; did you mean convert? see parity --help"),
@@ -237,6 +237,14 @@ const MISTYPED: [(&[&str], &str); 28] = [
     (&["curve", "case-c.alist", "--error", "9"], "'--error' is no option here; did you mean --errors? see --help"),
     (&["curve", "case-c.alist", "--errors", "0"], "--errors takes a number from 1 to 100000000, and not '0'"),
     (&["curve", "case-c.alist", "--errors"], "--errors needs a value"),
+    (
+        &["curve", "case-c.alist", "--chanel", "awgn"],
+        "'--chanel' is no option here; did you mean --channel? see --help",
+    ),
+    (&["curve", "case-c.alist", "--channel", "noise"], "--channel takes erasure or awgn, and not 'noise'"),
+    (&["curve", "case-c.alist", "--channel"], "--channel needs a value"),
+    (&["curve", "case-c.alist", "--rounds", "5"], "--rounds are of min-sum, which --channel awgn needs; see --help"),
+    (&["curve", "--channel=awgn", "--rounds", "513", "c"], "--rounds takes a number from 1 to 512, and not '513'"),
     (&["curve", "case-c.alist", "--seed", "-1"], "--seed takes a number from 0 to 18446744073709551615, and not '-1'"),
 ];
 

@@ -14,9 +14,7 @@ use Rattle.parity.proofs.Matrix.Lent.{put-here, put-place}
 use Rattle.parity.proofs.Words.Steps.{Stage, step, Ended, ended}
 use Rattle.parity.proofs.Finite.Firsts.{all-cong}
 use Rattle.parity.proofs.Words.Sets.{inside-below}
-use Rattle.steps.specs.declared.scan.Single.{Single}
-use Rattle.steps.specs.declared.scan.Single.the-variants.{Found, Nothing}
-use Rattle.steps.specs.Next.{Lone, NoSingle, NextSingle}
+use Rattle.steps.specs.Next.{Lone, NoSingle}
 use Rattle.steps.specs.Steps.{held, Solved, Reached, start, next, agreeing, Short}
 
 -- the machine's two sets, after the bit leaves the one and, where the check's ones are odd, enters the other
@@ -44,7 +42,7 @@ module _ (h : Matrix) (N c b : ℕ) (E O E' O' : Matrix) (p : E' ≡ put 0 b fal
   }
 
 -- a count of one number less
-one-less : (n b : ℕ) (p q : ℕ → Bool) → b < n → ((i : ℕ) → (i ≡ b → ⊥) → q i ≡ p i) → p b ≡ true → q b ≡ false → count n p ≡ suc (count n q)
+pub one-less : (n b : ℕ) (p q : ℕ → Bool) → b < n → ((i : ℕ) → (i ≡ b → ⊥) → q i ≡ p i) → p b ≡ true → q b ≡ false → count n p ≡ suc (count n q)
 unfolding count
 one-less n b p q k f e g =
     let s = sum-point n b {f = λ i. one (p i)} {g = λ i. one (q i)} k (λ i l d. ap one (sym (f i d))) in
@@ -79,11 +77,8 @@ short-below N s f b = elim (decLt b N) [ yes k ↦ rw (lt-ltb b N k) | no k ↦ 
 pub inside-short : (h : Matrix) (B N c : ℕ) (s : ℕ → Bool) → N ≤ B → ((a : ℕ) → N ≤ a → s a ≡ false) → inside h B c s ≡ inside h N c s
 inside-short h B N c s l f = inside-below h B N c s s l (short-below N s f)
 
--- a search among the first N bits, where no erased bit is at N or above
-pub next-wider : (h : Matrix) (N B M from : ℕ) (e : ℕ → Bool) (r : Single) → N ≤ B → Short N e → NextSingle h N M from e r → NextSingle h B M from e r
-next-wider h N B M from e (Found c b) l f L =
-    record { check = L .check; bit = omega (arith, L .bit); has = L .has; gone = L .gone; only = inside-short h B N (c .0) e l (f .none) ∙ L .only }
-next-wider h N B M from e Nothing l f S = record { none = λ c i k q. S .none c i k (sym (inside-short h B N c e l (f .none)) ∙ q) }
+pub short-wider : (N B : ℕ) (s : ℕ → Bool) → N ≤ B → Short N s → Short B s
+short-wider N B s l f = record { none = λ b k. f .none b (omega arith) }
 
 -- sets of the first N bits agree by these bits
 pub agreeing-wider : (h : Matrix) (N B M : ℕ) (e o : ℕ → Bool) → N ≤ B → Short N e → Short N o → agreeing h N M e o ≡ agreeing h B M e o

@@ -2,3 +2,4 @@ pub mod Seen
 pub mod Held
 pub mod Start
 pub mod Writing
+pub mod Listing

@@ -18,7 +18,7 @@ use Rattle.parity.proofs.Matrix.Digits.{bit-zero}
 use Rattle.parity.proofs.Matrix.Ones.{Lowest}
 use Rattle.parity.proofs.Matrix.Rest.{rest-bit}
 use Rattle.parity.proofs.Words.Sets.{common, common-bit}
-use Rattle.steps.specs.Next.{NoSingle}
+use Rattle.steps.specs.Next.{Lone, NoSingle}
 
 -- bit b is an erased bit of check c
 abbrev pub hole : ℕ → List ℕ → List ℕ → ℕ → ℕ → Bool
@@ -104,7 +104,7 @@ module _ (W U : ℕ) (ws es : List ℕ) (c at i : ℕ) (k : i < U) (room : U ≤
 
 -- the whole check
 module _ (W U : ℕ) (ws es : List ℕ) (c at i : ℕ) (e : i ≡ U) (R : Row W U ws es c at i) where
-  pub row-one : at < U * 64 → inside (lent W ws) (U * 64) c (lent W es 0) ≡ 1
+  row-one : at < U * 64 → inside (lent W ws) (U * 64) c (lent W es 0) ≡ 1
   unfolding inside count
   row-one l =
       sum-cong (U * 64) {f = λ b. one (hole W ws es c b)} {g = λ b. cond (eqb b at) 1 0} (λ b k. elim (ℕ-discrete b at) [
@@ -112,7 +112,12 @@ module _ (W U : ℕ) (ws es : List ℕ) (c at i : ℕ) (e : i ≡ U) (R : Row W 
         | no d ↦ rw (ne-eqb b at d, R .none b (omega arith) d)
       ]) ∙ sum-at (U * 64) at 1 l
 
-  row-zero : (at < U * 64 → ⊥) → inside (lent W ws) (U * 64) c (lent W es 0) ≡ 0
+  pub row-lone : (M : ℕ) → c < M → at < U * 64 → Lone (lent W ws) (U * 64) M (lent W es 0) c at
+  row-lone M m l =
+      let (p, q) = and-eq-true-iff (lent W ws c at) (lent W es 0 at) .0 (R .here l) in
+      record { check = m; bit = l; has = p; gone = q; only = row-one l }
+
+  pub row-zero : (at < U * 64 → ⊥) → inside (lent W ws) (U * 64) c (lent W es 0) ≡ 0
   unfolding inside count
   row-zero n = sum-zero (U * 64) {f = λ b. one (hole W ws es c b)} (λ b k. rw (R .none b (omega arith) (λ r. n (omega arith))))
 

@@ -1,6 +1,7 @@
 // Solving checks with exactly one erased bit, on the sets of the erased bits and of the ones.
-use crate::scan::Single;
-use crate::scan::next_single;
+use crate::live::Alone;
+use crate::live::list;
+use crate::live::next_alone;
 use parity::Bit;
 use parity::Check;
 use rows::lower;
@@ -11,7 +12,7 @@ ghost use mathlib.Core.Path.{_≡_};
 ghost use Prim.Native.Nat.{_*_, _<_, _≤_};
 ghost use lib.ListN.{length};
 ghost use Rattle.parity.specs.Matrix.{lent};
-ghost use Rattle.steps.specs.Next.{NextSingle};
+ghost use Rattle.steps.specs.Live.{Live, Listed, NextAlone};
 ghost use Rattle.steps.specs.Steps.{Solved, Settled, Short};
 
 // Bit `b`, the one erased bit of check `c`, becomes the sum modulo 2 of the check's ones.
@@ -27,42 +28,64 @@ fn solve(words: &[u64], c: Check, b: Bit, erased: &mut [u64], ones: &mut [u64])
     }
 }
 
-// The next check to solve: where one, two or all words are in use, their number is known beforehand, and the search is quicker.
-fn next_in(words: &[u64], used: usize, checks: usize, from: Check, erased: &[u64]) -> Single
-    requires { ⌜ (length (now words) ≡ 4096) × (checks ≤ 512) × (length (now erased) ≡ 8) × (used ≤ 8) ⌝ }
-    ensures { λ r. ⌜ NextSingle (lent 8 (now (words .entry))) (used * 64) checks (from .0) (lent 8 (now (erased .entry)) 0) r ⌝ }
+// The next check to solve: the number of words in use, or a few more, is known beforehand, and the search is quicker.
+fn next_in(
+    words: &[u64],
+    used: usize,
+    checks: usize,
+    live: &mut [u16],
+    count: usize,
+    from: usize,
+    kept: usize,
+    erased: &[u64],
+) -> Alone
+    requires { ⌜ (length (now words) ≡ 4096) × (checks ≤ 512) × (length (now live) ≡ 512) × (count ≤ 512) × (length (now erased) ≡ 8) × (used ≤ 8) × (kept ≤ from) × (from ≤ count) ⌝ }
+    requires { ⌜ Short (used * 64) (lent 8 (now erased) 0) × Live (lent 8 (now words)) 512 checks (lent 8 (now erased) 0) (now live) kept from count ⌝ }
+    ensures { λ r. ⌜ NextAlone (lent 8 (now (words .entry))) 512 checks (lent 8 (now (erased .entry)) 0) count kept (now (live .exit)) r ⌝ }
 {
-    if used == 1 {
-        return next_single(words, 8, 1, checks, from, erased);
+    if used <= 1 {
+        return next_alone(words, 1, checks, live, count, from, kept, erased);
     }
     if used == 2 {
-        return next_single(words, 8, 2, checks, from, erased);
+        return next_alone(words, 2, checks, live, count, from, kept, erased);
     }
-    if used == 8 {
-        return next_single(words, 8, 8, checks, from, erased);
+    if used <= 4 {
+        return next_alone(words, 4, checks, live, count, from, kept, erased);
     }
-    next_single(words, 8, used, checks, from, erased)
+    next_alone(words, 8, checks, live, count, from, kept, erased)
 }
 
-// Solves checks as long as one of the first `checks` has exactly one erased bit; these are in the first `used` words. The search resumes behind the check found, and ends after
-// a whole pass that found none.
-fn solve_all(words: &[u64], used: usize, checks: usize, erased: &mut [u64], ones: &mut [u64])
-    requires { ⌜ (length (now words) ≡ 4096) × (checks ≤ 512) × (length (now erased) ≡ 8) × (length (now ones) ≡ 8) × (used ≤ 8) × Short (used * 64) (lent 8 (now erased) 0) ⌝ }
+// Solves checks as long as one of those listed, the first `checks`, has exactly one erased bit; these are in the first `used` words. The search resumes behind the check found,
+// and ends after a pass over the list that found none.
+fn solve_all(
+    words: &[u64],
+    used: usize,
+    checks: usize,
+    live: &mut [u16],
+    erased: &mut [u64],
+    ones: &mut [u64],
+)
+    requires { ⌜ (length (now words) ≡ 4096) × (checks ≤ 512) × (length (now live) ≡ 512) × (length (now erased) ≡ 8) × (length (now ones) ≡ 8) × (used ≤ 8) × Short (used * 64) (lent 8 (now erased) 0) × Listed checks (now live) ⌝ }
     ensures { λ r. ⌜ Settled (lent 8 (now (words .entry))) 512 checks (lent 8 (now (erased .entry)) 0) (lent 8 (now (ones .entry)) 0) (lent 8 (now (erased .exit)) 0) (lent 8 (now (ones .exit)) 0) ⌝ }
 {
-    let mut from = Check(0);
+    let mut count = checks;
+    let mut from: usize = 0;
+    let mut kept: usize = 0;
     loop {
-        let single = next_in(words, used, checks, from, erased);
-        match single {
-            Single::Found(c, b) => {
+        let alone = next_in(words, used, checks, live, count, from, kept, erased);
+        match alone {
+            Alone::Found(c, b, at, k) => {
                 solve(words, c, b, erased, ones);
-                from = Check(c.0 + 1);
+                from = at + 1;
+                kept = k;
             }
-            Single::Nothing => {
-                if from.0 == 0 {
+            Alone::Nothing(k) => {
+                if from == 0 {
                     break;
                 }
-                from = Check(0);
+                count = k;
+                from = 0;
+                kept = 0;
             }
         }
     }
@@ -74,6 +97,8 @@ pub fn settle(words: &[u64], used: usize, checks: usize, erased: &mut [u64], one
     ensures { λ r. ⌜ Settled (lent 8 (now (words .entry))) 512 checks (lent 8 (now (erased .entry)) 0) (lent 8 (now (ones .entry)) 0) (lent 8 (now (erased .exit)) 0) (lent 8 (now (ones .exit)) 0) ⌝ }
 {
     if touches(erased, 0, erased, 0, 8, 8) {
-        solve_all(words, used, checks, erased, ones);
+        let mut live = [0u16; 512];
+        list(checks, &mut live);
+        solve_all(words, used, checks, &mut live, erased, ones);
     }
 }

@@ -1,5 +1,4 @@
 -- `scan::next_single` meets its contract. Assumes nothing.
-use mathlib.Core.Bool.{and-eq-true-iff}
 use mathlib.Core.Path.{_≡_, refl, _∙_}
 use Prim.Native.Nat.{_+_, _*_, _-_, _≤_, _<_}
 use native.Mathlib.Omega.{arith}
@@ -9,7 +8,7 @@ use Rattle.parity.proofs.Matrix.Lent.{row-room}
 use Rattle.parity.proofs.Matrix.Ones.{trailing-lowest}
 use Rattle.parity.proofs.Matrix.Rest.{rest-less}
 use Rattle.steps.specs.Next.{NoSingle}
-use Rattle.steps.proofs.Seen.{Row, Bits, row-start, bits-start, bits-end, bits-first, bits-second, row-one, row-none, none-more, none-all}
+use Rattle.steps.proofs.Seen.{Row, Bits, row-start, bits-start, bits-end, bits-first, bits-second, row-lone, row-none, none-more, none-all}
 use Rattle.steps.proofs.scan.next_single.Statement.{statement}
 use Rattle.steps.proofs.scan.next_single.Tie as tie
 
@@ -136,10 +135,8 @@ returns c = none-all _ _ _ _ _ _ (c .if1 .taken) (c .before .scan .inv)
 returns-2 : tie.Need-returns-2 Inv-bits μ-bits Inv-row μ-row Inv-scan μ-scan
 returns-2 c = let r = c .before .before in
     let s = r .before .before .before .before .before in
-    let W = s .args .width in
     let i : r .row .i ≡ s .args .used = omega arith in
-    let (p, q) = and-eq-true-iff (lent W (s .args .words .now) (r .row .c) (r .row .at)) (lent W (s .args .erased .now) 0 (r .row .at)) .0 (r .row .inv .2 .here (c .if3 .taken)) in
-    record { check = omega arith; bit = c .if3 .taken; has = p; gone = q; only = row-one _ _ _ _ _ _ _ i (r .row .inv .2) (c .if3 .taken) }
+    row-lone _ _ _ _ _ _ _ i (r .row .inv .2) _ (omega arith) (c .if3 .taken)
 
 pub next-single-spec : {M : Type 1} → statement M
 next-single-spec =

@@ -10,6 +10,15 @@ use Rattle.steps.proofs.solving.settle.Tie as tie
 touches-requires : tie.Need-touches-requires
 touches-requires c κs = search needs
 
+slice-aggregate-list : tie.Need-slice-aggregate-list
+slice-aggregate-list c = search needs
+
+list-requires : tie.Need-list-requires
+list-requires c κs = search needs
+
+slice-aggregate-solve-all : tie.Need-slice-aggregate-solve-all
+slice-aggregate-solve-all c = search needs
+
 solve-all-requires : tie.Need-solve-all-requires
 solve-all-requires c κs = search needs
 
@@ -31,4 +40,14 @@ returns-2 c = record { reached = start; over = none-erased _ _ _ _ (eqb-true _ 0
 pub settle-spec : {M : Type 1} → statement M
 settle-spec =
     tie.close
-    (tie.spec touches-requires solve-all-requires same-length same-length-2 returns same-length-3 returns-2)
+    (tie.spec
+    touches-requires
+    slice-aggregate-list
+    list-requires
+    slice-aggregate-solve-all
+    solve-all-requires
+    same-length
+    same-length-2
+    returns
+    same-length-3
+    returns-2)

@@ -98,6 +98,12 @@ none-erased h N M e z = record {
 pub short-solved : (h : Matrix) (N B c b : ℕ) (e o e' o' : ℕ → Bool) → Short N e → Solved h B c b e o e' o' → Short N e'
 short-solved h N B c b e o e' o' f S = record { none = λ a k. S .gone a ∙ rw (f .none a k) }
 
+-- and the ones, since the bit was erased
+pub short-valued : (h : Matrix) (N B c b : ℕ) (e o e' o' : ℕ → Bool) → Short N e → e b ≡ true → Short N o → Solved h B c b e o e' o' → Short N o'
+short-valued h N B c b e o e' o' f g k S = record {
+  none = λ a l. S .value a ∙ rw (k .none a l, ne-eqb a b (λ q. true≢false (sym g ∙ rw (← q) (f .none a l))));
+}
+
 -- The sets hold a stage of peeling w₀: none of their bits is at N or above, and none is in both.
 pub record Held (h : Matrix) (N M : ℕ) (w₀ : ℕ → ℕ) (e o : ℕ → Bool) : Type 0 where
   pub apart : (a : ℕ) → e a ≡ true → o a ≡ false

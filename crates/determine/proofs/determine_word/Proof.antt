@@ -45,7 +45,8 @@ settle-requires c κs =
     let s = m .before .before .before .before .before .before in
     let E = m .make-sets .ensures .0 in
     let S = set-short 8 (s .args .word .now) 2 _ E in
-    (s .pre .0, omega (arith, s .pre .1), E .size, m .make-sets .ensures .1 .size, omega (arith, u .1, s .pre .3), record { none = λ b l. S .none b (omega (arith, u .0, s .pre .2)) })
+    let T = set-short 8 (s .args .word .now) 1 _ (m .make-sets .ensures .1) in
+    (s .pre .0, omega (arith, s .pre .1), E .size, m .make-sets .ensures .1 .size, omega (arith, u .1, s .pre .3), record { none = λ b l. S .none b (omega (arith, u .0, s .pre .2)) }, record { none = λ b l. T .none b (omega (arith, u .0, s .pre .2)) })
 
 slice-aggregate-finish : tie.Need-slice-aggregate-finish
 slice-aggregate-finish c = search needs

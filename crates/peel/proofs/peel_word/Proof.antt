@@ -45,7 +45,8 @@ settle-requires c κs =
     let s = m .before .before .before .before .before .before in
     let (E, O) = m .make-sets .ensures in
     let S = set-short 8 (s .args .word .now) 2 _ E in
-    (s .pre .0, omega (arith, s .pre .1), E .size, O .size, omega (arith, u .words-of .ensures .1, s .pre .3), record { none = λ b l. S .none b (omega (arith, u .words-of .ensures .0, s .pre .2)) })
+    let T = set-short 8 (s .args .word .now) 1 _ O in
+    (s .pre .0, omega (arith, s .pre .1), E .size, O .size, omega (arith, u .words-of .ensures .1, s .pre .3), record { none = λ b l. S .none b (omega (arith, u .words-of .ensures .0, s .pre .2)) }, record { none = λ b l. T .none b (omega (arith, u .words-of .ensures .0, s .pre .2)) })
 
 slice-aggregate-finish : tie.Need-slice-aggregate-finish
 slice-aggregate-finish c = search needs

@@ -6,8 +6,8 @@ use borrow.Author.Needs.{needs}
 use Rattle.steps.proofs.solving.solve.Statement.{statement}
 use Rattle.steps.proofs.solving.solve.Tie as tie
 
-is-odd-requires : tie.Need-is-odd-requires
-is-odd-requires c κs = search needs
+odd-in-requires : tie.Need-odd-in-requires
+odd-in-requires c κs = search needs
 
 lower-requires : tie.Need-lower-requires
 lower-requires c κs = search needs
@@ -24,7 +24,7 @@ same-length-2 c = search needs
 returns : tie.Need-returns
 returns c = let s = c .before .before .before .before .before .before .before .before .before .before .before .before .before .before in
     let l = c .before .before .before .before .before .before .before in
-    solved-odd _ _ _ _ (lent 8 (s .args .erased .now)) (lent 8 (s .args .ones .now)) (lent 8 (l .lower .last .0)) (lent 8 (c .before .before .raise .last .0)) (l .lower .ensures) (sym (l .before .before .is-odd .ensures) ∙ c .before .before .before .before .if1 .taken) (c .before .before .raise .ensures)
+    solved-odd _ _ _ _ (lent 8 (s .args .erased .now)) (lent 8 (s .args .ones .now)) (lent 8 (l .lower .last .0)) (lent 8 (c .before .before .raise .last .0)) (l .lower .ensures) (sym (l .before .before .odd-in .ensures) ∙ c .before .before .before .before .if1 .taken) (c .before .before .raise .ensures)
 
 same-length-3 : tie.Need-same-length-3
 same-length-3 c = search needs
@@ -35,13 +35,13 @@ same-length-4 c = search needs
 returns-2 : tie.Need-returns-2
 returns-2 c = let s = c .before .before .before .before .before .before .before .before .before .before in
     let l = c .before .before .before in
-    solved-even _ _ _ _ (lent 8 (s .args .erased .now)) (lent 8 (s .args .ones .now)) (lent 8 (l .lower .last .0)) (lent 8 (s .args .ones .now)) (l .lower .ensures) (sym (l .before .before .is-odd .ensures) ∙ c .if1 .left) refl
+    solved-even _ _ _ _ (lent 8 (s .args .erased .now)) (lent 8 (s .args .ones .now)) (lent 8 (l .lower .last .0)) (lent 8 (s .args .ones .now)) (l .lower .ensures) (sym (l .before .before .odd-in .ensures) ∙ c .if1 .left) refl
 
 pub solve-spec : {M : Type 1} → statement M
 solve-spec =
     tie.close
     (tie.spec
-    is-odd-requires
+    odd-in-requires
     lower-requires
     raise-requires
     same-length

@@ -12,7 +12,7 @@ use Rattle.parity.specs.Matrix.{lent}
 use Rattle.parity.proofs.Finite.Sums.{one≤1}
 use Rattle.steps.specs.Steps.{Reached, start, next, Short}
 use Rattle.steps.specs.Live.{Live}
-use Rattle.steps.proofs.Held.{fewer, short-solved}
+use Rattle.steps.proofs.Held.{fewer, short-solved, short-valued}
 use Rattle.steps.proofs.Listing.{live-listed, live-solved, live-again, live-over}
 use Rattle.steps.proofs.solving.solve_all.Statement.{statement}
 use Rattle.steps.proofs.solving.solve_all.Tie as tie
@@ -22,7 +22,7 @@ less-work a b x y e = omega (arith, one≤1 x)
 
 abbrev Inv-loop : tie.InvT-loop
 Inv-loop words used checks live₀ erased₀ ones₀ count₀ from₀ kept₀ live erased ones count from kept =
-    (length live ≡ 512) × (length erased ≡ 8) × (length ones ≡ 8) × Reached (lent 8 words) 512 checks (lent 8 erased₀ 0) (lent 8 ones₀ 0) (lent 8 erased 0) (lent 8 ones 0) × Short (used * 64) (lent 8 erased 0) × (count ≤ 512) × (kept ≤ from) × (from ≤ count) × Live (lent 8 words) 512 checks (lent 8 erased 0) live kept from count
+    (length live ≡ 512) × (length erased ≡ 8) × (length ones ≡ 8) × Reached (lent 8 words) 512 checks (lent 8 erased₀ 0) (lent 8 ones₀ 0) (lent 8 erased 0) (lent 8 ones 0) × Short (used * 64) (lent 8 erased 0) × Short (used * 64) (lent 8 ones 0) × (count ≤ 512) × (kept ≤ from) × (from ≤ count) × Live (lent 8 words) 512 checks (lent 8 erased 0) live kept from count
 
 abbrev μ-loop : tie.MeasureT-loop
 μ-loop words used checks live₀ erased₀ ones₀ count₀ from₀ kept₀ live erased ones count from kept =
@@ -31,12 +31,12 @@ abbrev μ-loop : tie.MeasureT-loop
 loop-holds : tie.Need-loop-holds Inv-loop μ-loop
 loop-holds c = let s = c .before .before .before .before in
     let p = s .pre in
-    (p .2, p .3, p .4, start, p .6, p .1, omega arith, omega arith, live-listed _ _ _ _ _ (p .7))
+    (p .2, p .3, p .4, start, p .6, p .7, p .1, omega arith, omega arith, live-listed _ _ _ _ _ (p .8))
 
 next-in-requires : tie.Need-next-in-requires Inv-loop μ-loop
 next-in-requires c κs = let l = c .before .before .loop in
     let p = c .before .before .before .before .before .before .before .pre in
-    ((p .0, p .1, l .inv .0, l .inv .5, l .inv .1, p .5, l .inv .6, l .inv .7), (l .inv .4, l .inv .8))
+    ((p .0, p .1, l .inv .0, l .inv .6, l .inv .1, p .5, l .inv .7, l .inv .8), (l .inv .4, l .inv .9))
 
 enum-known-alone : tie.Need-enum-known-alone Inv-loop μ-loop
 enum-known-alone c = search needs
@@ -47,7 +47,7 @@ solve-requires c κs = let g = c .before .before .before in
     let l = r .before .before .before in
     let s = l .before .before .before .before .before in
     let A = rw (g .alone .given .1) at (r .next-in .ensures) in
-    (s .pre .0, omega (arith, A .lone .check, s .pre .1), A .lone .bit, l .loop .inv .1, l .loop .inv .2)
+    (s .pre .0, omega (arith, A .lone .check, s .pre .1), A .lone .bit, l .loop .inv .1, l .loop .inv .2, s .pre .5, l .loop .inv .5)
 
 add-from : tie.Need-add-from Inv-loop μ-loop
 add-from c = let g = c .before .before .before .before .before .before .before .before in
@@ -55,7 +55,7 @@ add-from c = let g = c .before .before .before .before .before .before .before .
     let l = r .before .before .before in
     let s = l .before .before .before .before .before in
     let A = rw (g .alone .given .1) at (r .next-in .ensures) in
-    omega (arith, A .below, l .loop .inv .5)
+    omega (arith, A .below, l .loop .inv .6)
 
 loop-less : tie.Need-loop-less Inv-loop μ-loop
 loop-less c = let g = c .before .before .before .before .before .before .before .before in
@@ -72,7 +72,7 @@ loop-again c = let g = c .before .before .before .before .before .before .before
     let s = l .before .before .before .before .before in
     let A = rw (g .alone .given .1) at (r .next-in .ensures) in
     let v = c .before .before .before .before in
-    (r .next-in .kept .1 .1 .1 .0 ∙ l .loop .inv .0, v .solve .kept .1 .1 .1 .0 ∙ l .loop .inv .1, v .solve .kept .1 .1 .1 .1 .0 ∙ l .loop .inv .2, next (l .loop .inv .3) _ _ (A .lone) (v .solve .ensures), short-solved _ _ _ _ _ _ _ _ _ (l .loop .inv .4) (v .solve .ensures), l .loop .inv .5, omega (arith, A .ahead), omega (arith, A .below), live-solved _ _ _ _ _ _ _ _ _ (A .lone) (v .solve .ensures) _ _ _ _ (A .here) (A .live))
+    (r .next-in .kept .1 .1 .1 .0 ∙ l .loop .inv .0, v .solve .kept .1 .1 .1 .1 .0 ∙ l .loop .inv .1, v .solve .kept .1 .1 .1 .1 .1 .0 ∙ l .loop .inv .2, next (l .loop .inv .3) _ _ (A .lone) (v .solve .ensures), short-solved _ _ _ _ _ _ _ _ _ (l .loop .inv .4) (v .solve .ensures), short-valued _ _ _ _ _ _ _ _ _ (l .loop .inv .4) (A .lone .gone) (l .loop .inv .5) (v .solve .ensures), l .loop .inv .6, omega (arith, A .ahead), omega (arith, A .below), live-solved _ _ _ _ _ _ _ _ _ (A .lone) (v .solve .ensures) _ _ _ _ (A .here) (A .live))
 
 enum-known-alone-2 : tie.Need-enum-known-alone-2 Inv-loop μ-loop
 enum-known-alone-2 c = search needs
@@ -92,7 +92,7 @@ loop-again-2 c = let g = c .before .before in
     let l = r .before .before .before in
     let s = l .before .before .before .before .before in
     let A = rw (g .alone2 .given .1) at (r .next-in .ensures) in
-    (r .next-in .kept .1 .1 .1 .0 ∙ l .loop .inv .0, l .loop .inv .1, l .loop .inv .2, l .loop .inv .3, l .loop .inv .4, omega (arith, A .few, l .loop .inv .5), omega arith, omega arith, live-again _ _ _ _ _ _ _ _ A)
+    (r .next-in .kept .1 .1 .1 .0 ∙ l .loop .inv .0, l .loop .inv .1, l .loop .inv .2, l .loop .inv .3, l .loop .inv .4, l .loop .inv .5, omega (arith, A .few, l .loop .inv .6), omega arith, omega arith, live-again _ _ _ _ _ _ _ _ A)
 
 same-length : tie.Need-same-length Inv-loop μ-loop
 same-length c = let g = c .before .before in
@@ -124,7 +124,7 @@ returns c = let g = c .before .before in
     let l = r .before .before .before in
     let s = l .before .before .before .before .before in
     let A = rw (g .alone2 .given .1) at (r .next-in .ensures) in
-    record { reached = l .loop .inv .3; over = live-over _ _ _ _ _ _ _ _ A (omega (arith, l .loop .inv .6)) }
+    record { reached = l .loop .inv .3; over = live-over _ _ _ _ _ _ _ _ A (omega (arith, l .loop .inv .7)) }
 
 pub solve-all-spec : {M : Type 1} → statement M
 solve-all-spec =

@@ -12,9 +12,9 @@ _parity() {
     --from | --to)
       mapfile -t COMPREPLY < <(compgen -W "alist text record" -- "$word")
       ;;
-    --by)
+    --by | --channel)
       # its values stand behind it, with bars between, or in lines of their own
-      offered=$(sed -n 's/.*\[--by \([a-z-]*|[a-z|-]*\)\].*/\1/p' <<<"$help" | tr '|' ' ')
+      offered=$(sed -n "s/.*\[$before \([a-z-]*|[a-z|-]*\)\].*/\1/p" <<<"$help" | tr '|' ' ')
       [ -n "$offered" ] || offered=$(sed -n 's/^  \([a-z][a-z-]*\)  .*/\1/p' <<<"$help")
       mapfile -t COMPREPLY < <(compgen -W "$offered" -- "$word")
       ;;

@@ -77,8 +77,8 @@ impl Over {
             Over::Erasures => ("at each rate", String::new()),
             Over::Noise { rounds } => ("at each point", format!(", {rounds} rounds")),
         };
-        let enough = errors.map_or(String::new(), |errors| format!(" or {errors} left by each way"));
-        format!("{words} words {at}{enough}{rounds}, seed {seed}; bars of 95 %")
+        let enough = errors.map_or(String::new(), |errors| format!(" or {errors} errors"));
+        format!("{words} words {at}{enough}{rounds}, seed {seed}")
     }
 }
 

@@ -82,8 +82,9 @@ const DECADES_MOST: i32 = 9;
 /// A share that was seen on fewer words is drawn faintly.
 const FEW: u64 = 10;
 
-/// The most characters of a title, and of a name in the legend, that have room.
+/// The most characters of a title, of a line below it in its usual size, and of a name in the legend.
 const TITLE_MOST: usize = 38;
+const SUBTITLE_MOST: usize = 110;
 const NAME_MOST: usize = 24;
 
 /// Where things are on the paper.
@@ -230,7 +231,8 @@ fn head(out: &mut String, picture: &Picture, frame: &Frame) {
     put(out, &format!("<desc id='desc'>{told}</desc>"));
     put(out, &format!("<rect width='{WIDTH}' height='{height}' fill='#ffffff'/>"));
     put(out, &text(LEFT, 30.0, "start", 18, &short(&picture.title, TITLE_MOST)));
-    put(out, &text(LEFT, 52.0, "start", 12, &picture.subtitle));
+    let size = if picture.subtitle.chars().count() > SUBTITLE_MOST { 10 } else { 12 };
+    put(out, &text(LEFT, 52.0, "start", size, &picture.subtitle));
 }
 
 /// Lines at the numbers of the axes, and fainter ones between decades.
@@ -326,6 +328,7 @@ fn axes(out: &mut String, picture: &Picture, frame: &Frame) {
         put(out, &decade_name(LEFT - 8.0, at, decade));
     }
     put(out, &text((LEFT + RIGHT) / 2.0, bottom + 46.0, "middle", 14, axis.name));
+    put(out, &text(RIGHT, bottom + 46.0, "end", 11, "bars: 95 % confidence"));
     let (middle, what) = (frame.top + DEPTH / 2.0, picture.what);
     put(
         out,

@@ -151,23 +151,20 @@ fn several() {
 #[test]
 fn enough() {
     let setup = setup(&house(0).expect("case L"));
-    let plan = Plan { words: 900, seed: 11, errors: None };
-    let whole = measure(&setup, plan, 2).expect("numbers");
-    let some = Plan { errors: Some(40), ..plan };
-    let one = measure(&setup, some, 1).expect("numbers");
+    let plan = |words: u64, errors: Option<u64>| Plan { words, seed: 11, errors };
+    let whole: Vec<Vec<Point>> =
+        (1..=4).map(|chunks| measure(&setup, plan(chunks * CHUNK, None), 2).expect("numbers")).collect();
+    let one = measure(&setup, plan(4 * CHUNK, Some(40)), 1).expect("numbers");
     for threads in [0, 2, 5] {
-        assert_eq!(measure(&setup, some, threads).expect("numbers"), one);
+        assert_eq!(measure(&setup, plan(4 * CHUNK, Some(40)), threads).expect("numbers"), one);
     }
-    for (rate, (point, whole)) in one.iter().zip(&whole).enumerate() {
-        let least = point.left.iter().map(|left| left.words).min().expect("a way");
-        assert!(if point.words < 900 { least >= 40 } else { point == whole }, "rate {rate}");
-        let shorter = measure(&setup, Plan { words: point.words - CHUNK.min(point.words), ..plan }, 1);
-        if point.words > CHUNK {
-            let before = shorter.expect("numbers")[rate].left;
-            assert!(before.iter().any(|left| left.words < 40), "rate {rate} goes on too long");
-        }
+    let is_enough = |point: &Point| point.left.iter().all(|left| left.words >= 40);
+    for (rate, point) in one.iter().enumerate() {
+        let due = whole.iter().map(|points| points[rate]).find(is_enough).unwrap_or(whole[3][rate]);
+        assert_eq!(*point, due, "rate {rate}");
     }
-    assert!(one[45].words == CHUNK && one[0].words == 900);
+    assert!(one[45].words == CHUNK && one[0].words == 4 * CHUNK);
+    assert!(one.iter().any(|point| [2 * CHUNK, 3 * CHUNK].contains(&point.words)), "some end between");
 }
 
 /// Wilson's intervals: known ones of words; of bits by as many independent ones as vary alike.

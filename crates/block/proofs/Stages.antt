@@ -10,7 +10,9 @@ use lib.ListN.{getD, length, take, drop, replicate, length-replicate, replicate-
 use lib.Seq.{take-at, drop-at}
 use borrow.Author.Tests.{eq-eqb, ne-eqb, le-ltb, lt-ltb}
 use Rattle.parity.specs.Causes.{Reply, answer, refusal, refusalOf, refuse, Outcome}
-use Rattle.parity.specs.Calls.{wrongByte, acceptReply, peelOutcome, determineOutcome}
+use Rattle.parity.specs.Matrix.{lent}
+use Rattle.parity.specs.Determining.{someAgrees, determined}
+use Rattle.parity.specs.Calls.{byteOf, wrongByte, acceptReply, peelOutcome, determineReply, determineOutcome}
 use Rattle.parity.specs.Block.{bitsRecovered, bitsRemain, mended, eliminating, copyMade, copyK, copyPeeled, peelingCopy, peelingGiven, blockOutcome}
 use Rattle.parity.specs.declared.Refusal.{Refusal}
 use Rattle.parity.proofs.Causes.Refused.{refused-number, refused-same}
@@ -18,7 +20,8 @@ use Rattle.parity.proofs.Words.Peeling.{peel-answered}
 use Rattle.parity.proofs.Lists.Block.{recovered-most, mended-as-determined}
 use Rattle.word.specs.Answers.{admitReply}
 use Rattle.extended.specs.Answers.{Longer, inAll, copyReply, copyWord}
-use Rattle.determine.proofs.Ending.{outcome-refused}
+use Rattle.word.specs.Solved.{solvedReply}
+use Rattle.word.proofs.Solved.{outcome-refused}
 use Rattle.block.specs.Answers.{Kept, Ready}
 use Rattle.block.specs.declared.Peelings.{Peelings}
 use Rattle.block.specs.declared.Peelings.the-variants.{Whole, Stopped, Remaining}
@@ -40,10 +43,10 @@ module _ (n : ℕ) (w l : List ℕ) (size : length w ≡ n) (e : l ≡ w ++ repl
 
 module _ (ws : List ℕ) (n m : ℕ) (w : List ℕ) where
   -- Stage 3.
-  pub eliminated : (rs ra ls la recovered : ℕ) → answer (rs ∷ ra ∷ ls ∷ la ∷ []) ≡ determineOutcome ws n m 0 w .reply
+  pub eliminated : (numbers : List ℕ) (recovered : ℕ) → answer numbers ≡ determineOutcome ws n m 0 w .reply
       → eliminating ws n m w recovered ≡ mended 3 recovered (determineOutcome ws n m 0 w .after)
   unfolding eliminating
-  eliminated rs ra ls la recovered e = rw (eq-eqb (determineOutcome ws n m 0 w .reply .number) 0 (is-zero _ _ e))
+  eliminated numbers recovered e = rw (eq-eqb (determineOutcome ws n m 0 w .reply .number) 0 (is-zero _ _ e))
 
   pub not-eliminated : (r : Refusal) (recovered : ℕ) → refusalOf r ≡ determineOutcome ws n m 0 w .reply → eliminating ws n m w recovered ≡ determineOutcome ws n m 0 w
   unfolding eliminating
@@ -151,8 +154,10 @@ matrix-refused ws n m k r e w =
 -- and 1 to 4, 10 and 11 where it is 0, as those of determining
 pub word-refused : (ws : List ℕ) (n m : ℕ) (w : List ℕ) (r : Refusal) → refusalOf r ≡ admitReply ws n m 0 w 2
     → (refusalOf r ≡ blockOutcome ws n m 0 w .reply) × (w ≡ blockOutcome ws n m 0 w .after)
+unfolding determineOutcome determineReply solvedReply
 word-refused ws n m w r e =
-    let (f, l) = outcome-refused ws n m 0 w r e in
+    let h = lent 8 ws in
+    let (f, l) = outcome-refused n 0 w (someAgrees h (n + 0) (m + 0) (byteOf w)) (determined h (n + 0) (m + 0) (byteOf w)) ws m r e in
     let (a, b, s) = mended-as-determined ws n m w in
     (f ∙ sym (s (not-zero r _ f)), l ∙ sym a)
 

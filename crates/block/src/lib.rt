@@ -9,7 +9,6 @@ use parity::Refusal;
 use peel::Peeling;
 use peel::peel_admitted;
 use sets::bytes::copy_front;
-use word::Admission;
 use word::admit;
 ghost use mathlib.Core.Path.{_≡_};
 ghost use mathlib.Core.Bool.{false};
@@ -49,12 +48,7 @@ fn eliminate(words: &[u64], n: usize, m: usize, word: &mut [u8], recovered: u64)
 {
     match determine_admitted(words, n, m, 0, word) {
         Determining::Refused(r) => Mending::Refused(r),
-        Determining::Made {
-            recovered_sent: _,
-            recovered_added: _,
-            left_sent: _,
-            left_added: _,
-        } => Mending::Made {
+        Determining::Made(_) => Mending::Made {
             stage: 3,
             recovered,
         },
@@ -105,14 +99,9 @@ fn peel_given(words: &[u64], n: usize, m: usize, word: &mut [u8]) -> Peelings
     let mut first = longer;
     match peel_admitted(words, n, m, 0, &mut first[..n]) {
         Peeling::Refused(r) => Peelings::Stopped(r),
-        Peeling::Made {
-            recovered_sent,
-            recovered_added,
-            left_sent,
-            left_added: _,
-        } => {
-            let recovered = recovered_sent + recovered_added;
-            if left_sent != 0 {
+        Peeling::Made(l) => {
+            let recovered = l.recovered_sent + l.recovered_added;
+            if l.left_sent != 0 {
                 return peel_copy(words, n, m, word, &mut longer, recovered);
             }
             copy_front(&first[..n], word);
@@ -173,7 +162,7 @@ pub fn mend_block(words: &[u64], n: usize, m: usize, k: usize, word: &mut [u8]) 
         return refuse_added(words, n, m, k);
     }
     match admit(words, n, m, k, word, 2) {
-        Admission::Refused(r) => Mending::Refused(r),
-        Admission::Admitted => mend_admitted(words, n, m, word),
+        Accepting::Refused(r) => Mending::Refused(r),
+        Accepting::Accepted => mend_admitted(words, n, m, word),
     }
 }

@@ -1,46 +1,26 @@
 // Everything the checks determine: each bit at which all codewords that agree with a word have one value.
+use matrix::Accepting;
+use parity::Losses;
 use parity::Refusal;
 use residue::finish;
 use rows::words_of;
-use sets::losses::Sizes;
-use sets::losses::sizes_of;
+use sets::losses::losses_of;
 use sets::pairs::make_sets;
 use steps::solving::settle;
-use word::Admission;
 use word::admit;
 ghost use mathlib.Core.Path.{_≡_};
 ghost use mathlib.Core.Bool.{false};
-ghost use mathlib.Core.List.{[], _∷_};
-ghost use Prim.Native.Nat.{_+_, _-_, _≤_, _<_};
+ghost use Prim.Native.Nat.{_+_, _≤_, _<_};
 ghost use lib.ListN.{length};
 ghost use Rattle.parity.specs.Matrix.{lent, cause};
-ghost use Rattle.parity.specs.Causes.{answer};
 ghost use Rattle.parity.specs.Calls.{wrongByte, determineOutcome};
 ghost use Rattle.determine.specs.Answers.{determiningReply, wordOutcome};
 
 // What determining answers: how many sent bits and how many added bits were recovered, peeled and eliminated ones together, and how many of
 // each are left.
 pub enum Determining {
-    Made {
-        recovered_sent: u64,
-        recovered_added: u64,
-        left_sent: u64,
-        left_added: u64,
-    },
+    Made(Losses),
     Refused(Refusal),
-}
-
-// The answer, from the sizes of the set of erased bits before and after.
-fn made(before: Sizes, left: Sizes) -> Determining
-    requires { ⌜ (left .sent ≤ before .sent) × (left .added ≤ before .added) ⌝ }
-    ensures { λ r. ⌜ determiningReply r ≡ answer ((before .sent - left .sent) ∷ (before .added - left .added) ∷ left .sent ∷ left .added ∷ []) ⌝ }
-{
-    Determining::Made {
-        recovered_sent: before.sent - left.sent,
-        recovered_added: before.added - left.added,
-        left_sent: left.sent,
-        left_added: left.added,
-    }
 }
 
 // Determines a word of bytes up to 2, of `n` sent and `k` added bits: it is peeled, and what peeling leaves is solved by elimination.
@@ -53,7 +33,6 @@ fn determine_word(words: &[u64], n: usize, k: usize, checks: usize, word: &mut [
     let mut ones = [0u64; 8];
     make_sets(word, &mut lost, &mut ones);
     let mut erased = lost;
-    let before = sizes_of(&lost, n);
     let bits = n + k;
     settle(words, words_of(bits), checks, &mut erased, &mut ones);
     let residue = erased;
@@ -71,8 +50,7 @@ fn determine_word(words: &[u64], n: usize, k: usize, checks: usize, word: &mut [
     ) {
         return Determining::Refused(Refusal::Contradiction);
     }
-    let left = sizes_of(&erased, n);
-    made(before, left)
+    Determining::Made(losses_of(&lost, &erased, n))
 }
 
 // Determines a word that no cause before 12 refuses.
@@ -97,7 +75,7 @@ pub fn determine(words: &[u64], n: usize, m: usize, k: usize, word: &mut [u8]) -
 {
     let admission = admit(words, n, m, k, word, 2);
     match admission {
-        Admission::Refused(r) => Determining::Refused(r),
-        Admission::Admitted => determine_admitted(words, n, m, k, word),
+        Accepting::Refused(r) => Determining::Refused(r),
+        Accepting::Accepted => determine_admitted(words, n, m, k, word),
     }
 }

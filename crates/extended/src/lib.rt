@@ -50,14 +50,9 @@ fn peel_front(words: &[u64], n: usize, m: usize, k: usize, longer: &mut [u8]) ->
 {
     match peel_admitted(words, n, m, k, &mut longer[..n + k]) {
         Peeling::Refused(r) => CopyPeeling::Refused(r),
-        Peeling::Made {
-            recovered_sent,
-            recovered_added,
-            left_sent,
-            left_added,
-        } => CopyPeeling::Made {
-            recovered: recovered_sent + recovered_added,
-            left: left_sent + left_added,
+        Peeling::Made(l) => CopyPeeling::Made {
+            recovered: l.recovered_sent + l.recovered_added,
+            left: l.left_sent + l.left_added,
         },
     }
 }

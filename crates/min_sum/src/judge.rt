@@ -1,8 +1,8 @@
 // Causes 22, 10, 11 and 23.
+use matrix::Accepting;
 use parity::Refusal;
 use sets::bytes::first_above;
 use soft::floats::too_large;
-use word::Admission;
 ghost use mathlib.Core.Path.{_≡_};
 ghost use mathlib.Core.Bool.{_&&_};
 ghost use lib.Dec.{eqb};
@@ -10,7 +10,7 @@ ghost use lib.ListN.{length};
 ghost use Rattle.parity.specs.Finite.{least};
 ghost use Rattle.parity.specs.Floats.{tooLarge};
 ghost use Rattle.parity.specs.SoftCall.{wrongFloat, softReply};
-ghost use Rattle.word.specs.Answers.{admissionReply};
+ghost use Rattle.matrix.specs.Answers.{acceptingReply};
 
 // Whether a byte says soft and its float is too large.
 fn wrong(tag: u8, x: f32) -> bool
@@ -46,34 +46,34 @@ pub fn judge(
     floats: &[f32],
     tags: &[u8],
     values: &[f32],
-) -> Admission
-    ensures { λ r. ⌜ admissionReply r ≡ softReply bits rounds (now (word .entry)) (now (floats .entry)) (now (tags .entry)) (now (values .entry)) ⌝ }
+) -> Accepting
+    ensures { λ r. ⌜ acceptingReply r ≡ softReply bits rounds (now (word .entry)) (now (floats .entry)) (now (tags .entry)) (now (values .entry)) ⌝ }
 {
     if rounds < 1 {
-        return Admission::Refused(Refusal::WrongRounds);
+        return Accepting::Refused(Refusal::WrongRounds);
     }
     if 512 < rounds {
-        return Admission::Refused(Refusal::WrongRounds);
+        return Accepting::Refused(Refusal::WrongRounds);
     }
     if word.len() != bits {
-        return Admission::Refused(Refusal::WrongLength);
+        return Accepting::Refused(Refusal::WrongLength);
     }
     if floats.len() != bits {
-        return Admission::Refused(Refusal::WrongLength);
+        return Accepting::Refused(Refusal::WrongLength);
     }
     if tags.len() != 65536 {
-        return Admission::Refused(Refusal::WrongLength);
+        return Accepting::Refused(Refusal::WrongLength);
     }
     if values.len() != 65536 {
-        return Admission::Refused(Refusal::WrongLength);
+        return Accepting::Refused(Refusal::WrongLength);
     }
     let b = first_above(word, 3);
     if b < bits {
-        return Admission::Refused(Refusal::WrongByte { place: b });
+        return Accepting::Refused(Refusal::WrongByte { place: b });
     }
     let f = first_float(word, floats);
     if f < bits {
-        return Admission::Refused(Refusal::WrongFloat { place: f });
+        return Accepting::Refused(Refusal::WrongFloat { place: f });
     }
-    Admission::Admitted
+    Accepting::Accepted
 }

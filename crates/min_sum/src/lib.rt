@@ -10,7 +10,6 @@ use crate::rounds::run;
 use columns::fill;
 use matrix::Accepting;
 use parity::Refusal;
-use word::Admission;
 ghost use mathlib.Core.Path.{_≡_};
 ghost use Prim.Native.Nat.{_≤_};
 ghost use lib.ListN.{length, replicate};
@@ -117,7 +116,7 @@ pub fn min_sum(
         return Decoding::Refused(r);
     }
     let judged = judge(n + k, rounds, word, floats, message_bytes, message_floats);
-    if let Admission::Refused(r) = judged {
+    if let Accepting::Refused(r) = judged {
         return Decoding::Refused(r);
     }
     results(

@@ -1,6 +1,6 @@
 -- The outcome of mending packets, from the packets that are mended. Assumes nothing.
 use mathlib.Core.Path.{_≡_, refl, sym, ap, _∙_, fun-ext}
-use mathlib.Core.Bool.{Bool, true, false, not, cond, _&&_, and-false, false≢true}
+use mathlib.Core.Bool.{Bool, true, false, not, cond, _&&_, and-false}
 use mathlib.Core.List.{List, [], _∷_, _++_}
 use Prim.Native.Nat.{ℕ, _+_, _*_, _-_, _^_, _≤_, _<_}
 use native.Mathlib.Nat.{one-mul}
@@ -11,7 +11,7 @@ use lib.ListN.{getD, length, List·getD-eq-default}
 use borrow.Author.Tests.{eq-eqb, eqb-true, eqb-false, lt-ltb, le-ltb, not-true, not-false}
 use Rattle.parity.specs.Finite.{one, count, listFrom}
 use Rattle.parity.specs.Matrix.{Matrix, lent}
-use Rattle.parity.specs.Words.{losses}
+use Rattle.parity.specs.Words.{within, losses}
 use Rattle.parity.specs.Determining.{someAgrees, determined}
 use Rattle.parity.specs.Causes.{answer}
 use Rattle.parity.specs.Calls.{byteOf, wrongByte}
@@ -19,16 +19,15 @@ use Rattle.parity.specs.Packets.{laneWord, lostWord, oddLane, mendedBit, stillL
 use Rattle.parity.proofs.Finite.Sums.{is-true, is-false, is, eqb-one, eqb-two, count-cong}
 use Rattle.parity.proofs.Matrix.Accept.{Accepted, passes}
 use Rattle.parity.proofs.Matrix.Packing.{listFrom-cong}
-use Rattle.parity.proofs.Words.Agreeing.{determined-byte}
-use Rattle.parity.proofs.Words.Bytes.{right-bytes, erasable-of, erasable-bit}
+use Rattle.parity.proofs.Words.Bytes.{right-bytes, erasable-bit}
 use Rattle.parity.proofs.Words.Determining.{Taken, determine-made, determine-refused, after-at}
 use Rattle.parity.proofs.Words.Packets.{words-made, zeros-agree, lane-at, lane-size, lane-word, lost-at, lost-size, lost-word}
-use Rattle.parity.proofs.Words.Peeling.{losses-same}
+use Rattle.parity.proofs.Words.Residue.{withins}
 use Rattle.sets.specs.Sets.{SetOf}
 use Rattle.steps.specs.Steps.{held, filled}
 use Rattle.steps.proofs.Held.{erased-held, ones-held}
-use Rattle.sets.specs.Losses.{Counted}
-use Rattle.sets.proofs.Sizes.{fewer-left, losses-sizes}
+use Rattle.sets.specs.Losses.{setLosses}
+use Rattle.sets.proofs.Sizes.{losses-sets}
 use Rattle.lanes.specs.Tiles.{arrived}
 use Rattle.lanes.proofs.Mending.{no-packet}
 use Rattle.packets.specs.Sets.{SetMended}
@@ -91,6 +90,9 @@ module _ (ws : List ℕ) (n m k : ℕ) (lost packets odd packets′ odd′ gone 
   unfolding stillLost
   still-is b l = rw (after-at ws n m k (lostWord N lost) T₀ s₀ b l, zero-is, ← D .leaves b l)
 
+  pub fewer-packets : within 512 (lent 8 left 0) e ≡ true
+  fewer-packets = withins 512 (lent 8 left 0) e .1 (λ b l. D .fewer b)
+
   -- the lanes
   module _ (i : ℕ) (u : i < L * 64) where
     told : not (lent L odd′ 0 i) ≡ someAgrees h N M (byteOf (laneWord N L lost packets i))
@@ -151,7 +153,7 @@ module _ (ws : List ℕ) (n m k : ℕ) (lost packets odd packets′ odd′ gone 
           below a p q = omega arith
 
   module _ (long : length packets′ ≡ length packets) (wide : length odd′ ≡ length odd) (fit : (i : ℕ) → getD packets′ i 0 < 2 ^ 64) (fits : (i : ℕ) → getD odd′ i 0 < 2 ^ 64)
-      (bs ba ls la : ℕ) (S : Counted 512 n e bs ba) (Z : Counted 512 n (lent 8 left 0) ls la) (most : n + k ≤ 512) where
+      (most : n + k ≤ 512) where
     packets-are : packets′ ≡ wordsOf L N (mendedBit ws n m k lost packets L)
     packets-are = words-made L N (mendedBit ws n m k lost packets L) packets′ (long ∙ room) (λ i l. fit i) (λ b i l u. bit-is i u b l)
 
@@ -159,31 +161,13 @@ module _ (ws : List ℕ) (n m k : ℕ) (lost packets odd packets′ odd′ gone 
     odd-are = words-made L 1 (λ c. oddLane ws n m k lost packets L) odd′ (wide ∙ sym (one-mul L)) (λ i l. fits i) (λ c i l u. let z : c ≡ 0 = omega arith in rw z (flag-is i u))
 
     -- the four numbers
-    end : ℕ → ℕ
-    end = held (lent 8 left 0) (λ b. eqb (determined h N M (held e none) b) 1)
-
-    end-at : (b : ℕ) → b < N → determined h N M (held e none) b ≡ end b
-    unfolding end
-    end-at b l = rw (D .leaves b l) (sym (erasable-of (determined h N M (held e none) b) (determined-byte h N M (held e none) b)))
-
-    left-out : (b : ℕ) → N ≤ b → lent 8 left 0 b ≡ false
-    left-out b l = elim (is (lent 8 left 0 b)) [ is-false q ↦ q | is-true q ↦ absurd (false≢true (sym (e-out b l) ∙ D .fewer b q)) ]
-
-    pub fewer-packets : (ls ≤ bs) × (la ≤ ba)
-    unfolding end
-    fewer-packets =
-        fewer-left 512 n k (held e none) end e (lent 8 left 0) most e-out left-out (λ b l. ap (λ (s : ℕ → Bool). s b) (erased-held e none)) (λ b. ap (λ (s : ℕ → Bool). s b) (erased-held (lent 8 left 0) (λ b. eqb (determined h N M (held e none) b) 1)))
-        (λ b l q. D .fewer b q) bs ba ls la S Z
-
-    four : losses n k (held e none) (determined h N M (held e none)) ≡ (bs - ls) ∷ (ba - la) ∷ ls ∷ la ∷ []
-    unfolding end
+    four : losses n k (held e none) (determined h N M (held e none)) ≡ setLosses n (512 - n) e (lent 8 left 0)
     four =
-        losses-same n k (held e none) (determined h N M (held e none)) end end-at
-        ∙ losses-sizes 512 n k (held e none) end e (lent 8 left 0) most e-out left-out (λ b l. ap (λ (s : ℕ → Bool). s b) (erased-held e none)) (λ b. ap (λ (s : ℕ → Bool). s b) (erased-held (lent 8 left 0) (λ b. eqb (determined h N M (held e none) b) 1)))
-        (λ b l q. D .fewer b q) bs ba ls la S Z
+        losses-sets 512 n k (held e none) (determined h N M (held e none)) e (lent 8 left 0) most fewer-packets e-out (λ b l. ap (λ (s : ℕ → Bool). s b) (erased-held e none))
+        (λ b l. sym (D .leaves b l))
 
     pub outcome-is : packetsOutcome ws n m k lost packets odd ≡ record {
-      reply = answer ((bs - ls) ∷ (ba - la) ∷ ls ∷ la ∷ count (L * 64) (lent L odd′ 0) ∷ []);
+      reply = answer (setLosses n (512 - n) e (lent 8 left 0) ++ (count (L * 64) (lent L odd′ 0) ∷ []));
       lost = listFrom 0 (length lost) (filled e (lent 8 left 0) none (byteOf lost));
       packets = packets′;
       odd = odd′;

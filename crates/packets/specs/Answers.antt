@@ -1,14 +1,14 @@
 -- What mending packets answers, as the papers' number and values, and the causes before it. Assumes nothing.
 use Prim.Native.Nat.{ℕ}
-use mathlib.Core.List.{List, [], _∷_}
-use Rattle.parity.specs.Causes.{Reply, answer, refusal, refuse, refusalOf}
+use mathlib.Core.List.{List, [], _∷_, _++_}
+use Rattle.parity.specs.Causes.{Reply, answer, lossValues, refusal, refuse, refusalOf}
 use Rattle.parity.specs.Calls.{wrongByte, wrongPlace}
 use Rattle.parity.specs.Packets.{wrongLengths}
 use Rattle.packets.specs.declared.MendingPackets.{MendingPackets}
 use Rattle.packets.specs.declared.MendingPackets.the-variants.{Made, Refused}
 
 abbrev pub mendingPacketsReply : MendingPackets → Reply
-mendingPacketsReply (Made recoveredSent recoveredAdded leftSent leftAdded oddLanes) = answer (recoveredSent ∷ recoveredAdded ∷ leftSent ∷ leftAdded ∷ oddLanes ∷ [])
+mendingPacketsReply (Made l oddLanes) = answer (lossValues l ++ (oddLanes ∷ []))
 mendingPacketsReply (Refused r) = refusalOf r
 
 -- causes 10 and 11

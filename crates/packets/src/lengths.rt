@@ -1,8 +1,8 @@
 // The lists that are lent: causes 10 and 11, and the lanes that are flagged.
+use matrix::Accepting;
 use parity::Refusal;
 use rows::wide;
 use sets::bytes::first_above;
-use word::Admission;
 ghost use mathlib.Core.Path.{_≡_};
 ghost use mathlib.Core.List.{[]};
 ghost use Prim.Native.Nat.{_*_, _^_, _≤_, _<_};
@@ -12,7 +12,7 @@ ghost use lib.ListN.{length};
 ghost use Rattle.parity.specs.Finite.{count};
 ghost use Rattle.parity.specs.Matrix.{lent};
 ghost use Rattle.parity.specs.Causes.{answer};
-ghost use Rattle.word.specs.Answers.{admissionReply};
+ghost use Rattle.matrix.specs.Answers.{acceptingReply};
 ghost use Rattle.packets.specs.Answers.{listsReply};
 
 // Whether `total` is `parts` times `len`, by a quotient: the product may be too large for a number of the machine.
@@ -27,24 +27,24 @@ fn is_product(total: usize, parts: usize, len: usize) -> bool
 }
 
 // Takes the lists that are lent with a matrix of `bits` bits, or refuses them by cause 10 or 11.
-pub fn admit_lists(bits: usize, lost: &[u8], packets: &[u64], len: usize) -> Admission
+pub fn admit_lists(bits: usize, lost: &[u8], packets: &[u64], len: usize) -> Accepting
     requires { ⌜ 0 < bits ⌝ }
-    ensures { λ r. ⌜ admissionReply r ≡ listsReply bits (now (lost .entry)) (now (packets .entry)) len (answer []) ⌝ }
+    ensures { λ r. ⌜ acceptingReply r ≡ listsReply bits (now (lost .entry)) (now (packets .entry)) len (answer []) ⌝ }
 {
     if lost.len() != bits {
-        return Admission::Refused(Refusal::WrongLength);
+        return Accepting::Refused(Refusal::WrongLength);
     }
     if !is_product(packets.len(), bits, len) {
-        return Admission::Refused(Refusal::WrongLength);
+        return Accepting::Refused(Refusal::WrongLength);
     }
     if 0x200_0000_0000_0000 < len {
-        return Admission::Refused(Refusal::WrongLength);
+        return Accepting::Refused(Refusal::WrongLength);
     }
     let place = first_above(lost, 1);
     if place < lost.len() {
-        return Admission::Refused(Refusal::WrongByte { place: place });
+        return Accepting::Refused(Refusal::WrongByte { place: place });
     }
-    Admission::Admitted
+    Accepting::Accepted
 }
 
 // How many ones a word has.

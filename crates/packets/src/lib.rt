@@ -6,19 +6,16 @@ use crate::lengths::admit_lists;
 use crate::lengths::count_lanes;
 use crate::lost::mend_set;
 use matrix::Accepting;
+use parity::Losses;
 use parity::Refusal;
-use sets::losses::Sizes;
-use sets::losses::sizes_of;
+use sets::losses::losses_of;
 use sets::set_of;
 use steps::result::write;
-use word::Admission;
 ghost use mathlib.Core.Path.{_≡_};
 ghost use mathlib.Core.Bool.{false};
-ghost use mathlib.Core.List.{[], _∷_};
-ghost use Prim.Native.Nat.{_+_, _*_, _-_, _^_, _≤_};
+ghost use Prim.Native.Nat.{_+_, _*_, _^_, _≤_};
 ghost use lib.ListN.{length};
 ghost use Rattle.parity.specs.Matrix.{cause};
-ghost use Rattle.parity.specs.Causes.{answer};
 ghost use Rattle.parity.specs.Calls.{wrongByte};
 ghost use Rattle.parity.specs.Packets.{packetsOutcome};
 ghost use Rattle.packets.specs.Answers.{mendingPacketsReply};
@@ -26,28 +23,8 @@ ghost use Rattle.packets.specs.Answers.{mendingPacketsReply};
 // What mending packets answers: how many sent and how many added packets were recovered, how many of each are left, and how many lanes no codeword
 // agrees with.
 pub enum MendingPackets {
-    Made {
-        recovered_sent: u64,
-        recovered_added: u64,
-        left_sent: u64,
-        left_added: u64,
-        odd_lanes: u64,
-    },
+    Made { losses: Losses, odd_lanes: u64 },
     Refused(Refusal),
-}
-
-// The answer, from the sizes of the set of lost packets before and after, and the number of odd lanes.
-fn made(before: Sizes, left: Sizes, odd: usize) -> MendingPackets
-    requires { ⌜ (left .sent ≤ before .sent) × (left .added ≤ before .added) ⌝ }
-    ensures { λ r. ⌜ mendingPacketsReply r ≡ answer ((before .sent - left .sent) ∷ (before .added - left .added) ∷ left .sent ∷ left .added ∷ odd ∷ []) ⌝ }
-{
-    MendingPackets::Made {
-        recovered_sent: before.sent - left.sent,
-        recovered_added: before.added - left.added,
-        left_sent: left.sent,
-        left_added: left.added,
-        odd_lanes: odd as u64,
-    }
 }
 
 // Mends packets that no cause refuses.
@@ -70,9 +47,9 @@ fn mend_admitted(
     let left = mend_set(words, n + k, m + k, gone, packets, odd);
     let none = [0u64; 8];
     write(lost, &gone, &left, &none, 8);
-    let before = sizes_of(&gone, n);
-    let after = sizes_of(&left, n);
-    made(before, after, count_lanes(odd))
+    let losses = losses_of(&gone, &left, n);
+    let odd_lanes = count_lanes(odd) as u64;
+    MendingPackets::Made { losses, odd_lanes }
 }
 
 // Mends packets by a matrix that is accepted, or refuses them by cause 10 or 11.
@@ -93,8 +70,8 @@ fn mend_accepted(
 {
     let admission = admit_lists(n + k, lost, packets, odd.len());
     match admission {
-        Admission::Refused(r) => MendingPackets::Refused(r),
-        Admission::Admitted => mend_admitted(words, n, m, k, lost, packets, odd),
+        Accepting::Refused(r) => MendingPackets::Refused(r),
+        Accepting::Accepted => mend_admitted(words, n, m, k, lost, packets, odd),
     }
 }
 

@@ -6,6 +6,7 @@ use lib.Dec.{eqb}
 use Rattle.parity.specs.Matrix.{cause}
 use Rattle.parity.specs.declared.Holders.{Holders}
 use Rattle.parity.specs.declared.Holders.the-variants.{None, Both}
+use Rattle.parity.specs.declared.Losses.{Losses}
 use Rattle.parity.specs.declared.Numbered.{Numbered}
 use Rattle.parity.specs.declared.Numbered.the-variants.{Alone, One, Two, Three, Four, Five}
 use Rattle.parity.specs.declared.Refusal.{Refusal}
@@ -26,6 +27,10 @@ refusal c vs = record { number = c; values = vs }
 abbrev pub heldValues : Holders → List ℕ
 heldValues None = []
 heldValues (Both lowest highest) = lowest .0 ∷ highest .0 ∷ []
+
+-- what was recovered and what is left, as the values carried (M-100)
+abbrev pub lossValues : Losses → List ℕ
+lossValues l = l .«recovered_sent» ∷ l .«recovered_added» ∷ l .«left_sent» ∷ l .«left_added» ∷ []
 
 -- the table: the number and the values of each cause
 abbrev pub refusalOf : Refusal → Reply

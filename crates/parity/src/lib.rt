@@ -1,5 +1,5 @@
-// The types that the calls share: the numbers of bits and of checks, the checks that hold a pair, the forms of a record, channel values, ranges,
-// and the refusals, with their table of numbers and values.
+// The types that the calls share: the numbers of bits and of checks, the checks that hold a pair, the forms of a record, losses, channel values,
+// ranges, and the refusals, with their table of numbers and values.
 ghost use mathlib.Core.Path.{_≡_};
 ghost use mathlib.Core.List.{_∷_};
 ghost use Rattle.parity.specs.Causes.{refusal, heldValues, refusalOf, numberedReply};
@@ -21,6 +21,14 @@ pub enum Form {
     First,
     Second,
     Third,
+}
+
+// What was recovered and what is left, counted in sent bits and in added bits (M-100).
+pub struct Losses {
+    pub recovered_sent: u64,
+    pub recovered_added: u64,
+    pub left_sent: u64,
+    pub left_added: u64,
 }
 
 // A channel value, a message or a result (M-112): a sure bit, a soft value whose sign favours 0 when positive, or erased.

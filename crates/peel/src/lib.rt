@@ -1,45 +1,25 @@
 // Peeling: what the checks with exactly one erased bit recover of a word.
+use matrix::Accepting;
+use parity::Losses;
 use parity::Refusal;
 use rows::words_of;
-use sets::losses::Sizes;
-use sets::losses::sizes_of;
+use sets::losses::losses_of;
 use sets::pairs::make_sets;
 use steps::result::finish;
 use steps::solving::settle;
-use word::Admission;
 use word::admit;
 ghost use mathlib.Core.Path.{_≡_};
 ghost use mathlib.Core.Bool.{false};
-ghost use mathlib.Core.List.{[], _∷_};
-ghost use Prim.Native.Nat.{_+_, _-_, _≤_, _<_};
+ghost use Prim.Native.Nat.{_+_, _≤_, _<_};
 ghost use lib.ListN.{length};
 ghost use Rattle.parity.specs.Matrix.{lent, cause};
-ghost use Rattle.parity.specs.Causes.{answer};
 ghost use Rattle.parity.specs.Calls.{wrongByte, peelOutcome};
 ghost use Rattle.peel.specs.Answers.{peelingReply, wordOutcome};
 
 // What peeling answers: how many sent bits and how many added bits were recovered, and how many of each are left.
 pub enum Peeling {
-    Made {
-        recovered_sent: u64,
-        recovered_added: u64,
-        left_sent: u64,
-        left_added: u64,
-    },
+    Made(Losses),
     Refused(Refusal),
-}
-
-// The answer, from the sizes of the set of erased bits before and after.
-fn made(before: Sizes, left: Sizes) -> Peeling
-    requires { ⌜ (left .sent ≤ before .sent) × (left .added ≤ before .added) ⌝ }
-    ensures { λ r. ⌜ peelingReply r ≡ answer ((before .sent - left .sent) ∷ (before .added - left .added) ∷ left .sent ∷ left .added ∷ []) ⌝ }
-{
-    Peeling::Made {
-        recovered_sent: before.sent - left.sent,
-        recovered_added: before.added - left.added,
-        left_sent: left.sent,
-        left_added: left.added,
-    }
 }
 
 // Peels a word of bytes up to 2, of `n` sent and `k` added bits.
@@ -52,14 +32,12 @@ fn peel_word(words: &[u64], n: usize, k: usize, checks: usize, word: &mut [u8]) 
     let mut ones = [0u64; 8];
     make_sets(word, &mut lost, &mut ones);
     let mut erased = lost;
-    let before = sizes_of(&lost, n);
     let used = words_of(n + k);
     settle(words, used, checks, &mut erased, &mut ones);
     if !finish(words, used, checks, word, &lost, &erased, &ones) {
         return Peeling::Refused(Refusal::Contradiction);
     }
-    let left = sizes_of(&erased, n);
-    made(before, left)
+    Peeling::Made(losses_of(&lost, &erased, n))
 }
 
 // Peels a word that no cause before 12 refuses.
@@ -78,7 +56,7 @@ pub fn peel(words: &[u64], n: usize, m: usize, k: usize, word: &mut [u8]) -> Pee
 {
     let admission = admit(words, n, m, k, word, 2);
     match admission {
-        Admission::Refused(r) => Peeling::Refused(r),
-        Admission::Admitted => peel_admitted(words, n, m, k, word),
+        Accepting::Refused(r) => Peeling::Refused(r),
+        Accepting::Accepted => peel_admitted(words, n, m, k, word),
     }
 }

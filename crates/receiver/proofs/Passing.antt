@@ -5,14 +5,14 @@ use mathlib.Core.Bool.{Bool, true, false, cond, _&&_}
 use mathlib.Core.List.{List, [], _∷_, _++_, append-assoc}
 use native.Mathlib.Omega.{arith}
 use native.Mathlib.Decide.{ℕ-discrete, decLt}
-use borrow.Author.Tests.{ne-eqb}
+use borrow.Author.Tests.{eq-eqb, ne-eqb}
 use lib.ListN.{length, getD, take, drop, replicate, length-append, length-replicate, replicate-append-replicate, List·getD-eq-default}
 use lib.Seq.{take-at, drop-at, take-append-add}
 use Rattle.parity.specs.Finite.{anySet, listFrom}
 use Rattle.parity.specs.Matrix.{Matrix, lent, pack, cause}
 use Rattle.parity.specs.Words.{isOne, residue, erased, solves, peeled}
 use Rattle.parity.specs.Causes.{Reply, answer, refusal, refusalOf, Outcome}
-use Rattle.parity.specs.Calls.{byteOf, loadOutcome, orthogonalising, orthogonalisedReply, orthogonaliseOutcome, peelReply, peelOutcome}
+use Rattle.parity.specs.Calls.{byteOf, wrongByte, wrongPlace, loadOutcome, orthogonalising, orthogonalisedReply, orthogonaliseOutcome, peelReply, peelOutcome}
 use Rattle.parity.specs.Mend.{refusedLine, report, unlessRefused}
 use Rattle.parity.specs.declared.Refusal.{Refusal}
 use Rattle.parity.proofs.Matrix.Packing.{length-listFrom, at-listFrom}
@@ -20,7 +20,7 @@ use Rattle.parity.proofs.Matrix.Accept.{Accepted, accepts, accepting-answers, a
 use Rattle.parity.proofs.Splits.Splitting.{orthogonalises, orthogonal-accepted}
 use Rattle.parity.proofs.Record.RoundTrip.{load-accepted}
 use Rattle.parity.proofs.Causes.Refused.{refused-number}
-use Rattle.parity.specs.declared.Refusal.the-variants.{WrongLength}
+use Rattle.parity.specs.declared.Refusal.the-variants.{WrongLength, WrongByte}
 use Rattle.receiver.specs.Placed.{placed}
 use Rattle.receiver.specs.Lines.{Bytes}
 use Rattle.receiver.specs.Stages.{peelText, orthogonaliseText, loadInto, loadText}
@@ -127,6 +127,16 @@ module _ (ws : List ℕ) (n m k splits total : ℕ) (w : List ℕ) where
     pub peel-bytes : Bytes 2 (peelOutcome ws n m k w .after)
     unfolding peelOutcome
     peel-bytes = rw (← e) (listFrom-most (n + k) 2 (peeled (lent 8 ws) (n + k) (m + k) (byteOf w)) (peeled-most (lent 8 ws) (n + k) (m + k) (byteOf w)))
+
+-- a byte above 2
+wrong : (ws : List ℕ) (n m k : ℕ) (w : List ℕ) (place : ℕ) → cause ws n m k ≡ 0 → length w ≡ n + k → place ≡ wrongPlace 2 w → wrongByte 2 w ≡ true
+    → peelOutcome ws n m k w .reply ≡ refusal 11 (place ∷ [])
+unfolding peelOutcome peelReply
+wrong ws n m k w place q l p e = rw (accepting-answers ws n m k _ q, eq-eqb (length w) (n + k) l, e, p)
+
+pub peel-wrong : (ws : List ℕ) (n m k splits total : ℕ) (w : List ℕ) (place : ℕ) → cause ws n m k ≡ 0 → length w ≡ n + k → place ≡ wrongPlace 2 w → wrongByte 2 w ≡ true
+    → refusedLine 11 ≡ peelText ws n m k splits total w
+peel-wrong ws n m k splits total w place q l p e = peel-refused ws n m k splits total w (WrongByte place) (sym (wrong ws n m k w place q l p e))
 
 -- a word of another length
 pub peel-short : (ws : List ℕ) (n m k splits total : ℕ) (sent : List ℕ) → cause ws n m k ≡ 0 → (length sent ≡ n → ⊥)

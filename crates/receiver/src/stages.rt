@@ -4,11 +4,13 @@ use crate::report::put_report;
 use crate::text::put_bytes;
 use parity::Refusal;
 use peel::Peeling;
+use peel::peel_admitted;
 use record::Loading;
+use sets::bytes::first_above;
 use split::Orthogonalising;
 ghost use mathlib.Core.Path.{_≡_};
 ghost use mathlib.Core.List.{_++_};
-ghost use Prim.Native.Nat.{_≤_};
+ghost use Prim.Native.Nat.{_+_, _≤_};
 ghost use lib.ListN.{length, replicate};
 ghost use Rattle.parity.specs.Matrix.{cause};
 ghost use Rattle.receiver.specs.Placed.{Placed};
@@ -28,7 +30,7 @@ fn empty_words() -> [u64; 4096]
     [0u64; 4096]
 }
 
-// Peels a word of n + k bytes.
+// Peels a word of n + k bytes, if each is up to 2.
 fn peel_word(
     out: &mut [u8],
     words: &[u64],
@@ -40,17 +42,16 @@ fn peel_word(
     word: &mut [u8],
 ) -> usize
     requires { ⌜ length (peelText (now words) n m k splits sum (now word)) ≤ length (now out) ⌝ }
-    requires { ⌜ n ≤ length (now word) ⌝ }
+    requires { ⌜ (cause (now words) n m k ≡ 0) × (length (now word) ≡ n + k) ⌝ }
     ensures { λ r. ⌜ Placed (now (out .entry)) 0 (peelText (now (words .entry)) n m k splits sum (now (word .entry))) (now (out .exit)) r ⌝ }
 {
-    match peel::peel(words, n, m, k, word) {
+    let place = first_above(word, 2);
+    if place < word.len() {
+        return put_refused(out, Refusal::WrongByte { place });
+    }
+    match peel_admitted(words, n, m, k, word) {
         Peeling::Refused(r) => put_refused(out, r),
-        Peeling::Made {
-            recovered_sent: _,
-            recovered_added: _,
-            left_sent: _,
-            left_added: _,
-        } => put_report(out, splits, sum, word, n),
+        Peeling::Made(_) => put_report(out, splits, sum, word, n),
     }
 }
 

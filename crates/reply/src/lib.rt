@@ -11,6 +11,7 @@ use join::Joining;
 use min_sum::Decoding;
 use min_sum_range::Ranging;
 use packets::MendingPackets;
+use parity::Losses;
 use parity::Numbered;
 use parity::one_held;
 use parity::refused;
@@ -29,7 +30,7 @@ use writing::Writing;
 ghost use mathlib.Core.Path.{_≡_};
 ghost use mathlib.Core.List.{[], _∷_};
 ghost use lib.ListN.{set};
-ghost use Rattle.parity.specs.Causes.{numberedReply};
+ghost use Rattle.parity.specs.Causes.{answer, lossValues, numberedReply};
 ghost use Rattle.writing.specs.Answers.{writingReply};
 ghost use Rattle.record.specs.Answers.{loadingReply};
 ghost use Rattle.cycles.specs.Answers.{sharingReply, countingReply};
@@ -155,17 +156,25 @@ pub fn extending(answer: Extending) -> Numbered
     }
 }
 
+// What was recovered and what is left.
+fn recovered_and_left(l: Losses) -> Numbered
+    ensures { λ r. ⌜ numberedReply r ≡ answer (lossValues l) ⌝ }
+{
+    Numbered::Four(
+        0,
+        l.recovered_sent,
+        l.recovered_added,
+        l.left_sent,
+        l.left_added,
+    )
+}
+
 // What peeling answers.
 pub fn peeling(answer: Peeling) -> Numbered
     ensures { λ r. ⌜ numberedReply r ≡ peelingReply answer ⌝ }
 {
     match answer {
-        Peeling::Made {
-            recovered_sent,
-            recovered_added,
-            left_sent,
-            left_added,
-        } => Numbered::Four(0, recovered_sent, recovered_added, left_sent, left_added),
+        Peeling::Made(l) => recovered_and_left(l),
         Peeling::Refused(why) => refused(why),
     }
 }
@@ -175,12 +184,7 @@ pub fn determining(answer: Determining) -> Numbered
     ensures { λ r. ⌜ numberedReply r ≡ determiningReply answer ⌝ }
 {
     match answer {
-        Determining::Made {
-            recovered_sent: sent,
-            recovered_added: added,
-            left_sent,
-            left_added,
-        } => Numbered::Four(0, sent, added, left_sent, left_added),
+        Determining::Made(l) => recovered_and_left(l),
         Determining::Refused(why) => refused(why),
     }
 }
@@ -191,12 +195,16 @@ pub fn mending_packets(answer: MendingPackets) -> Numbered
 {
     match answer {
         MendingPackets::Made {
-            recovered_sent: sent,
-            recovered_added: added,
-            left_sent,
-            left_added,
+            losses: l,
             odd_lanes,
-        } => Numbered::Five(0, sent, added, left_sent, left_added, odd_lanes),
+        } => Numbered::Five(
+            0,
+            l.recovered_sent,
+            l.recovered_added,
+            l.left_sent,
+            l.left_added,
+            odd_lanes,
+        ),
         MendingPackets::Refused(why) => refused(why),
     }
 }

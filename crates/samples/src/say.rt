@@ -1,4 +1,5 @@
 // Answers as text on standard output.
+use parity::Losses;
 use parity::Refusal;
 
 pub fn end_line() {
@@ -26,16 +27,11 @@ pub fn refused(head: &[u8], r: Refusal) {
 }
 
 // Of the bits recovered and left, how many are sent bits and how many added.
-pub fn recovered_and_left(
-    recovered_sent: u64,
-    recovered_added: u64,
-    left_sent: u64,
-    left_added: u64,
-) {
-    field(b"recovered ", recovered_sent);
-    field(b" ", recovered_added);
-    field(b" left ", left_sent);
-    field(b" ", left_added);
+pub fn recovered_and_left(l: Losses) {
+    field(b"recovered ", l.recovered_sent);
+    field(b" ", l.recovered_added);
+    field(b" left ", l.left_sent);
+    field(b" ", l.left_added);
 }
 
 // The symbol of a byte: ? for erased, x for a byte above 2.

@@ -1,10 +1,11 @@
--- The sizes of a set of bits. Assumes nothing.
-use mathlib.Core.Path.{_≡_}
-use mathlib.Core.Bool.{Bool}
+-- Losses, on sets of bits. Assumes nothing.
+use mathlib.Core.Bool.{Bool, not, _&&_}
+use mathlib.Core.List.{List, [], _∷_}
 use Prim.Native.Nat.{ℕ, _+_}
 use Rattle.parity.specs.Finite.{count}
 
--- of N bits, the set has so many below n, and so many others
-pub record Counted (N n : ℕ) (set : ℕ → Bool) (sent added : ℕ) : Type 0 where
-  pub sent-is : sent ≡ count n set
-  pub all-are : sent + added ≡ count N set
+-- `losses` (parity, Words) of the set s of lost bits and the set t of those that are left: the first n are sent bits, the k after them added ones
+unfoldable pub setLosses : ℕ → ℕ → (ℕ → Bool) → (ℕ → Bool) → List ℕ
+setLosses n k s t =
+    count n (λ b. s b && not (t b)) ∷ count k (λ j. s (n + j) && not (t (n + j)))
+    ∷ count n t ∷ count k (λ j. t (n + j)) ∷ []

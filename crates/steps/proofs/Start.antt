@@ -1,25 +1,35 @@
--- The sets that the bytes of a word make hold it, and those that steps lead to hold a stage of peeling. Assumes nothing.
-use mathlib.Core.Path.{_≡_, refl, sym, _∙_, fun-ext}
-use mathlib.Core.Bool.{Bool, false, cond}
+-- The sets that the bytes of a word make hold it, and those that steps lead to hold a stage of peeling; the word that results. Assumes nothing.
+use mathlib.Core.Path.{_≡_, refl, sym, ap, _∙_, fun-ext}
+use mathlib.Core.Bool.{Bool, true, false, cond, and-false, false≢true}
 use mathlib.Core.List.{List}
-use Prim.Native.Nat.{ℕ, zero, suc, _*_, _≤_}
+use Prim.Native.Nat.{ℕ, zero, suc, _+_, _*_, _-_, _≤_, _<_}
 use native.Mathlib.Omega.{arith}
 use native.Mathlib.Decide.{decLt}
 use lib.Dec.{eqb}
 use lib.ListN.{length, List·getD-eq-default}
 use borrow.Author.Tests.{lt-ltb, le-ltb, eqb-true}
-use Rattle.parity.specs.Finite.{one}
+use Rattle.parity.specs.Finite.{one, listFrom}
 use Rattle.parity.specs.Matrix.{Matrix, lent}
+use Rattle.parity.specs.Words.{erased, within, losses}
 use Rattle.parity.specs.Calls.{byteOf, wrongByte}
+use Rattle.parity.proofs.Finite.Sums.{is-true, is-false, is}
+use Rattle.parity.proofs.Matrix.Packing.{listFrom-cong}
+use Rattle.parity.proofs.Words.Residue.{withins}
 use Rattle.parity.proofs.Words.Steps.{stage-start}
 use Rattle.parity.proofs.Words.Bytes.{right-bytes, erasable-of}
 use Rattle.sets.specs.Sets.{SetOf}
-use Rattle.steps.specs.Steps.{held, Settled, Short}
-use Rattle.steps.proofs.Held.{Held, held-reached}
+use Rattle.sets.specs.Losses.{setLosses}
+use Rattle.sets.proofs.Sizes.{losses-sets}
+use Rattle.steps.specs.Steps.{held, filled, Settled, Short}
+use Rattle.steps.proofs.Held.{Held, erased-held, held-reached}
 
 -- a set that bytes make has none of their number or above
 pub set-short : (W : ℕ) (w : List ℕ) (v : ℕ) (r : List ℕ) → SetOf W w v r → Short (length w) (lent W r 0)
 set-short W w v r S = record { none = λ b l. S .at b ∙ rw (le-ltb b (length w) l) }
+
+-- the set of the lost bits
+lost-is : (W : ℕ) (w es : List ℕ) → SetOf W w 2 es → (b : ℕ) → b < length w → erased (byteOf w) b ≡ lent W es 0 b
+lost-is W w es E b l = sym (E .at b ∙ rw (lt-ltb b (length w) l))
 
 module _ (W : ℕ) (h : Matrix) (M : ℕ) (w es os : List ℕ) (few : length w ≤ W * 64) (right : wrongByte 2 w ≡ false) (E : SetOf W w 2 es) (O : SetOf W w 1 os) where
   -- the sets that the bytes make hold the word
@@ -50,3 +60,31 @@ module _ (W : ℕ) (h : Matrix) (M : ℕ) (w es os : List ℕ) (few : length w �
     -- which have no bit of their number or above
     pub settled-short : (N : ℕ) → length w ≤ N → Short N e × Short N o
     settled-short N l = (record { none = λ b k. settled-held .short-e b (omega arith) }, record { none = λ b k. settled-held .short-o b (omega arith) })
+
+    -- and are erased bits of the word
+    pub settled-within : within (W * 64) e (lent W es 0) ≡ true
+    settled-within = withins (W * 64) e (lent W es 0) .1 (λ b l q. elim (decLt b (length w)) [
+      | yes m ↦ sym (lost-is W w es E b m) ∙ settled-held .stage .shrinks b m (ap (λ (f : ℕ → Bool). f b) (erased-held e o) ∙ q)
+      | no m ↦ absurd (false≢true (sym (settled-held .short-e b (omega arith)) ∙ q))
+    ])
+
+-- A word that results, of n sent and k added bits, where the sets e and o hold it and it keeps what was not lost.
+module _ (W n k : ℕ) (w es : List ℕ) (size : length w ≡ n + k) (few : length w ≤ W * 64) (E : SetOf W w 2 es) (e o : ℕ → Bool) (part : within (W * 64) e (lent W es 0) ≡ true)
+    (result : ℕ → ℕ) (is-held : (b : ℕ) → b < n + k → result b ≡ held e o b) (keeps : (b : ℕ) → b < n + k → erased (byteOf w) b ≡ false → result b ≡ byteOf w b) where
+  pub result-losses : losses n k (byteOf w) result ≡ setLosses n (W * 64 - n) (lent W es 0) e
+  result-losses =
+      losses-sets (W * 64) n k (byteOf w) result (lent W es 0) e (omega arith) part (λ b l. set-short W w 2 es E .none b (omega arith))
+      (λ b l. lost-is W w es E b (omega arith)) (λ b l. ap (λ a. eqb a 2) (is-held b l) ∙ ap (λ (f : ℕ → Bool). f b) (erased-held e o))
+
+  pub result-bytes : listFrom 0 (n + k) result ≡ listFrom 0 (length w) (filled (lent W es 0) e o (byteOf w))
+  result-bytes = rw size (listFrom-cong 0 (n + k) result (filled (lent W es 0) e o (byteOf w)) (λ j l. at (0 + j) (omega arith)))
+    where
+      at : (b : ℕ) → b < n + k → result b ≡ filled (lent W es 0) e o (byteOf w) b
+      at b l =
+          elim (is (e b)) [
+            | is-true p ↦ is-held b l ∙ rw (p, and-false) (sym (eqb-true (byteOf w b) 2 (lost-is W w es E b (omega arith) ∙ withins (W * 64) e (lent W es 0) .0 part b (omega arith) p)))
+            | is-false p ↦ elim (is (lent W es 0 b)) [
+              | is-true q ↦ is-held b l ∙ rw (p, q)
+              | is-false q ↦ rw q (keeps b l (lost-is W w es E b (omega arith) ∙ q))
+            ]
+          ]

@@ -12,12 +12,7 @@ fn peel_line(head: &[u8], words: &[u64], n: usize, m: usize, k: usize, word: &mu
     io::write_all(1, b", peeling: ");
     let answer = peel::peel(words, n, m, k, word);
     match answer {
-        Peeling::Made {
-            recovered_sent: a,
-            recovered_added: b,
-            left_sent: c,
-            left_added: d,
-        } => recovered_and_left(a, b, c, d),
+        Peeling::Made(l) => recovered_and_left(l),
         Peeling::Refused(r) => refused(b"REFUSED ", r),
     }
     show_word(word);
@@ -29,12 +24,7 @@ fn determine_line(head: &[u8], words: &[u64], n: usize, m: usize, k: usize, word
     io::write_all(1, b", determining: ");
     let answer = determine::determine(words, n, m, k, word);
     match answer {
-        Determining::Made {
-            recovered_sent: a,
-            recovered_added: b,
-            left_sent: c,
-            left_added: d,
-        } => recovered_and_left(a, b, c, d),
+        Determining::Made(l) => recovered_and_left(l),
         Determining::Refused(r) => refused(b"REFUSED ", r),
     }
     show_word(word);

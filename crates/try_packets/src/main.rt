@@ -27,14 +27,8 @@ fn mend_line(
     io::write_all(1, b": ");
     let answer = packets::mend_packets(words, n, m, k, lost, packets, odd);
     match answer {
-        MendingPackets::Made {
-            recovered_sent: a,
-            recovered_added: b,
-            left_sent: c,
-            left_added: d,
-            odd_lanes,
-        } => {
-            recovered_and_left(a, b, c, d);
+        MendingPackets::Made { losses, odd_lanes } => {
+            recovered_and_left(losses);
             field(b", odd lanes ", odd_lanes);
         }
         MendingPackets::Refused(r) => refused(b"REFUSED ", r),

@@ -14,12 +14,7 @@ fn peel_line(head: &[u8], words: &[u64], n: usize, m: usize, k: usize, word: &mu
     io::write_all(1, head);
     let answer = peel::peel(words, n, m, k, word);
     match answer {
-        Peeling::Made {
-            recovered_sent: a,
-            recovered_added: b,
-            left_sent: c,
-            left_added: d,
-        } => recovered_and_left(a, b, c, d),
+        Peeling::Made(l) => recovered_and_left(l),
         Peeling::Refused(r) => refused(b"REFUSED ", r),
     }
     show_word(word);
@@ -233,12 +228,7 @@ fn comes_back(words: &[u64], a: usize, b: usize) -> bool
     w[b] = 2;
     let answer = peel::peel(words, 23, 23, 0, &mut w);
     match answer {
-        Peeling::Made {
-            recovered_sent: _,
-            recovered_added: _,
-            left_sent: l,
-            left_added: _,
-        } => l == 0 && check::same(&w, &CODEWORD),
+        Peeling::Made(l) => l.left_sent == 0 && check::same(&w, &CODEWORD),
         Peeling::Refused(_) => false,
     }
 }

@@ -1,3 +1,4 @@
 pub mod Told
+pub mod Solved
 pub mod Lower
 pub mod Outcome

@@ -3,18 +3,12 @@ use Prim.Native.Nat.{ℕ, _+_}
 use mathlib.Core.List.{List, [], _∷_}
 use Rattle.parity.specs.Causes.{Reply, answer, accepting, refusalOf}
 use Rattle.parity.specs.Calls.{checkingBytes}
-use Rattle.word.specs.declared.Admission.{Admission}
-use Rattle.word.specs.declared.Admission.the-variants.{Admitted, Refused}
 use Rattle.word.specs.declared.Verifying.{Verifying}
 use Rattle.word.specs.declared.Verifying.the-variants as verifies
 use Rattle.word.specs.declared.Extending.{Extending}
 use Rattle.word.specs.declared.Extending.the-variants as extends
 use Rattle.word.specs.declared.Stopping.{Stopping}
 use Rattle.word.specs.declared.Stopping.the-variants as stops
-
-abbrev pub admissionReply : Admission → Reply
-admissionReply Admitted = answer []
-admissionReply (Refused r) = refusalOf r
 
 -- causes 1 to 4 of a matrix, then 10 and 11 of its n + k bytes
 unfoldable pub admitReply : List ℕ → ℕ → ℕ → ℕ → List ℕ → ℕ → Reply

@@ -16,14 +16,9 @@ ghost use lib.ListN.{length};
 ghost use Rattle.parity.specs.Matrix.{lent};
 ghost use Rattle.parity.specs.Words.{isOne, evenChecks, codeword, stopping};
 ghost use Rattle.parity.specs.Calls.{byteOf, verifyReply, extendOutcome, isStoppingReply};
-ghost use Rattle.word.specs.Answers.{admissionReply, admitReply, verifyingReply, stoppingReply};
+ghost use Rattle.matrix.specs.Answers.{acceptingReply};
+ghost use Rattle.word.specs.Answers.{admitReply, verifyingReply, stoppingReply};
 ghost use Rattle.word.specs.Answers.{extendingReply};
-
-// Whether a matrix and the bytes lent with it are taken.
-pub enum Admission {
-    Admitted,
-    Refused(Refusal),
-}
 
 // What verifying answers.
 pub enum Verifying {
@@ -46,21 +41,21 @@ pub enum Stopping {
 }
 
 // Accepts a matrix and takes its n + k bytes, none above `top`, or refuses by the first of causes 1 to 4, 10 and 11 that holds.
-pub fn admit(words: &[u64], n: usize, m: usize, k: usize, bytes: &[u8], top: u8) -> Admission
-    ensures { λ r. ⌜ admissionReply r ≡ admitReply (now (words .entry)) n m k (now (bytes .entry)) top ⌝ }
+pub fn admit(words: &[u64], n: usize, m: usize, k: usize, bytes: &[u8], top: u8) -> Accepting
+    ensures { λ r. ⌜ acceptingReply r ≡ admitReply (now (words .entry)) n m k (now (bytes .entry)) top ⌝ }
 {
     let accepted = matrix::accept(words, n, m, k);
     match accepted {
-        Accepting::Refused(r) => Admission::Refused(r),
+        Accepting::Refused(r) => Accepting::Refused(r),
         Accepting::Accepted => {
             if bytes.len() != n + k {
-                return Admission::Refused(Refusal::WrongLength);
+                return Accepting::Refused(Refusal::WrongLength);
             }
             let place = first_above(bytes, top);
             if place < bytes.len() {
-                return Admission::Refused(Refusal::WrongByte { place: place });
+                return Accepting::Refused(Refusal::WrongByte { place: place });
             }
-            Admission::Admitted
+            Accepting::Accepted
         }
     }
 }
@@ -113,8 +108,8 @@ pub fn verify(words: &[u64], n: usize, m: usize, k: usize, word: &[u8]) -> Verif
 {
     let admission = admit(words, n, m, k, word, 2);
     match admission {
-        Admission::Refused(r) => Verifying::Refused(r),
-        Admission::Admitted => {
+        Accepting::Refused(r) => Verifying::Refused(r),
+        Accepting::Accepted => {
             if is_codeword(words, m + k, word) {
                 return Verifying::Yes;
             }
@@ -187,8 +182,8 @@ pub fn is_stopping(words: &[u64], n: usize, m: usize, k: usize, set: &[u8]) -> S
 {
     let admission = admit(words, n, m, k, set, 1);
     match admission {
-        Admission::Refused(r) => Stopping::Refused(r),
-        Admission::Admitted => {
+        Accepting::Refused(r) => Stopping::Refused(r),
+        Accepting::Accepted => {
             if stops(words, m + k, set) {
                 return Stopping::Yes;
             }

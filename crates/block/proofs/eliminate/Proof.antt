@@ -34,7 +34,7 @@ returns-2 : tie.Need-returns-2
 returns-2 c =
     let D = c .before .before .before .before .determine-admitted .ensures in
     let s = c .before .before .before .before .before .before .before .before in
-    let e = eliminated (s .args .words .now) (s .args .n) (s .args .m) (s .args .word .now) _ _ _ _ (s .args .recovered) (sym (ap determiningReply (c .enum-told .given .1)) ∙ D .0) in
+    let e = eliminated (s .args .words .now) (s .args .n) (s .args .m) (s .args .word .now) _ (s .args .recovered) (sym (ap determiningReply (c .enum-told .given .1)) ∙ D .0) in
     (sym (ap (λ (o : Outcome). o .reply) e), D .1 ∙ sym (ap (λ (o : Outcome). o .after) e))
 
 pub eliminate-spec : {M : Type 1} → statement M

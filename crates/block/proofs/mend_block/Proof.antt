@@ -5,7 +5,7 @@ use Rattle.parity.specs.Causes.{Outcome}
 use Rattle.parity.proofs.Matrix.Accept.{accepts}
 use Rattle.parity.proofs.Words.Bytes.{word-right}
 use Rattle.parity.proofs.Lists.Block.{block-given}
-use Rattle.word.specs.Answers.{admissionReply}
+use Rattle.matrix.specs.Answers.{acceptingReply}
 use Rattle.word.proofs.Told.{taken}
 use Rattle.block.proofs.Stages.{word-refused}
 use borrow.Author.Needs.{needs}
@@ -38,7 +38,7 @@ mend-admitted-requires c κs =
     let ws = s .args .words .now in
     let w = s .args .word .now in
     let z : s .args .k ≡ 0 = omega arith in
-    let (A, W) = rw z at (taken ws (s .args .n) (s .args .m) (s .args .k) w 2 (sym (ap admissionReply (c .before .enum-told .given .1)) ∙ c .before .before .before .admit .ensures)) in
+    let (A, W) = rw z at (taken ws (s .args .n) (s .args .m) (s .args .k) w 2 (sym (ap acceptingReply (c .before .enum-told .given .1)) ∙ c .before .before .before .admit .ensures)) in
     (accepts ws (s .args .n) (s .args .m) 0 .1 A, omega (arith, W .size), word-right _ 2 w W)
 
 same-length : tie.Need-same-length
@@ -50,7 +50,7 @@ returns-2 c =
     let ws = s .args .words .now in
     let w = s .args .word .now in
     let z : s .args .k ≡ 0 = omega arith in
-    rw z (word-refused ws (s .args .n) (s .args .m) w (c .before .r .given .0 .0) (rw z at (sym (ap admissionReply (c .before .r .given .1)) ∙ c .before .before .before .admit .ensures)))
+    rw z (word-refused ws (s .args .n) (s .args .m) w (c .before .r .given .0 .0) (rw z at (sym (ap acceptingReply (c .before .r .given .1)) ∙ c .before .before .before .admit .ensures)))
 
 same-length-2 : tie.Need-same-length-2
 same-length-2 c = search needs
@@ -61,7 +61,7 @@ returns-3 c =
     let ws = s .args .words .now in
     let w = s .args .word .now in
     let z : s .args .k ≡ 0 = omega arith in
-    let (A, W) = rw z at (taken ws (s .args .n) (s .args .m) (s .args .k) w 2 (sym (ap admissionReply (c .before .before .before .before .enum-told .given .1)) ∙ c .before .before .before .before .before .before .admit .ensures)) in
+    let (A, W) = rw z at (taken ws (s .args .n) (s .args .m) (s .args .k) w 2 (sym (ap acceptingReply (c .before .before .before .before .enum-told .given .1)) ∙ c .before .before .before .before .before .before .admit .ensures)) in
     let E = c .before .before .mend-admitted .ensures in
     let f = block-given ws (s .args .n) (s .args .m) w record { accepted = A; word = W } in
     rw z (E .0 ∙ sym (ap (λ (o : Outcome). o .reply) f), E .1 ∙ sym (ap (λ (o : Outcome). o .after) f))

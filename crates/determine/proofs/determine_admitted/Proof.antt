@@ -2,8 +2,10 @@
 use mathlib.Core.Path.{sym, ap, _∙_}
 use native.Mathlib.Omega.{arith}
 use Rattle.parity.specs.Causes.{Outcome}
+use Rattle.parity.specs.Calls.{determineReply, determineOutcome}
 use Rattle.parity.proofs.Matrix.Accept.{accepts}
-use Rattle.determine.proofs.Ending.{outcome-word}
+use Rattle.word.specs.Solved.{solvedReply}
+use Rattle.word.proofs.Solved.{outcome-word}
 use borrow.Author.Needs.{needs}
 use Rattle.determine.proofs.determine_admitted.Statement.{statement}
 use Rattle.determine.proofs.determine_admitted.Tie as tie
@@ -24,10 +26,11 @@ same-length : tie.Need-same-length
 same-length c = search needs
 
 returns : tie.Need-returns
+unfolding determineOutcome determineReply solvedReply
 returns c =
     let p = c .before .before in
     let s = p .before .before .before .before in
-    let e = outcome-word (s .args .words .now) (s .args .n) (s .args .m) (s .args .k) (s .args .word .now) (s .pre .0) (s .pre .1) (s .pre .2) in
+    let e = outcome-word (s .args .n) (s .args .k) (s .args .word .now) _ _ (s .args .words .now) (s .args .m) (s .pre .0) (s .pre .1) (s .pre .2) in
     (p .determine-word .ensures .0 ∙ sym (ap (λ (o : Outcome). o .reply) e), p .determine-word .ensures .1 ∙ sym (ap (λ (o : Outcome). o .after) e))
 
 pub determine-admitted-spec : {M : Type 1} → statement M

@@ -3,9 +3,9 @@ use mathlib.Core.Path.{refl, sym, ap, _∙_}
 use native.Mathlib.Omega.{arith}
 use borrow.Author.Tests.{not-true, not-false}
 use Rattle.parity.specs.Matrix.{lent}
-use Rattle.parity.specs.Causes.{Outcome}
+use Rattle.parity.specs.Causes.{answer, Outcome}
 use Rattle.steps.proofs.Start.{set-short}
-use Rattle.determine.proofs.Ending.{word-apart, word-refused, word-fewer, word-made}
+use Rattle.determine.proofs.Ending.{word-apart, word-within, word-refused, word-made}
 use borrow.Author.Needs.{needs}
 use Rattle.determine.proofs.determine_word.Statement.{statement}
 use Rattle.determine.proofs.determine_word.Tie as tie
@@ -18,12 +18,6 @@ slice-aggregate-make-sets-2 c = search needs
 
 make-sets-requires : tie.Need-make-sets-requires
 make-sets-requires c κs = search needs
-
-slice-aggregate-sizes-of : tie.Need-slice-aggregate-sizes-of
-slice-aggregate-sizes-of c = search needs
-
-sizes-of-requires : tie.Need-sizes-of-requires
-sizes-of-requires c κs = search needs
 
 add-bits : tie.Need-add-bits
 add-bits c = search needs
@@ -40,13 +34,11 @@ slice-aggregate-settle-2 c = search needs
 settle-requires : tie.Need-settle-requires
 settle-requires c κs =
     let u = c .before .before .words-of .ensures in
-    let z = c .before .before .before in
-    let m = z .before .before .before .before in
-    let s = m .before .before .before .before .before .before in
-    let E = m .make-sets .ensures .0 in
+    let s = c .before .before .before .before .before .before .before .before .before .before .before in
+    let (E, O) = c .before .before .before .before .before .make-sets .ensures in
     let S = set-short 8 (s .args .word .now) 2 _ E in
-    let T = set-short 8 (s .args .word .now) 1 _ (m .make-sets .ensures .1) in
-    (s .pre .0, omega (arith, s .pre .1), E .size, m .make-sets .ensures .1 .size, omega (arith, u .1, s .pre .3), record { none = λ b l. S .none b (omega (arith, u .0, s .pre .2)) }, record { none = λ b l. T .none b (omega (arith, u .0, s .pre .2)) })
+    let T = set-short 8 (s .args .word .now) 1 _ O in
+    (s .pre .0, omega (arith, s .pre .1), E .size, O .size, omega (arith, u .1, s .pre .3), record { none = λ b l. S .none b (omega (arith, u .0, s .pre .2)) }, record { none = λ b l. T .none b (omega (arith, u .0, s .pre .2)) })
 
 slice-aggregate-finish : tie.Need-slice-aggregate-finish
 slice-aggregate-finish c = search needs
@@ -65,15 +57,12 @@ slice-aggregate-finish-5 c = search needs
 
 finish-requires : tie.Need-finish-requires
 finish-requires c κs =
-    let t = c .before .before .before .before .before .before .before .before in
-    let z = t .before .before .before .before in
-    let m = z .before .before .before .before in
-    let s = m .before .before .before .before .before .before in
-    let E = m .make-sets .ensures .0 in
-    let O = m .make-sets .ensures .1 in
-    let e = t .settle .kept .1 .1 .1 .0 ∙ E .size in
-    let o = t .settle .kept .1 .1 .1 .1 .0 ∙ O .size in (
-      record { words = s .pre .0; bits = s .pre .3; checks = s .pre .1; residue = e; known = o; left = refl; values = refl; apart = word-apart 8 (lent 8 (s .args .words .now)) (s .args .n) (s .args .k) (s .args .checks) (s .args .word .now) _ _ (s .pre .2) (omega (arith, s .pre .2, s .pre .3)) (s .pre .5) E O _ _ (t .settle .ensures) },
+    let t = c .before .before .before .before .before .before .before .before .settle in
+    let s = c .before .before .before .before .before .before .before .before .before .before .before .before .before .before .before .before .before .before .before .before in
+    let (E, O) = c .before .before .before .before .before .before .before .before .before .before .before .before .before .before .make-sets .ensures in
+    let e = t .kept .1 .1 .1 .0 ∙ E .size in
+    let o = t .kept .1 .1 .1 .1 .0 ∙ O .size in (
+      record { words = s .pre .0; bits = s .pre .3; checks = omega (arith, s .pre .1); residue = e; known = o; left = refl; values = refl; apart = word-apart 8 (lent 8 (s .args .words .now)) (s .args .n) (s .args .k) (s .args .checks) (s .args .word .now) _ _ (s .pre .2) (omega (arith, s .pre .2, s .pre .3)) (s .pre .5) E O _ _ (t .ensures) },
       E .size,
       set-short 8 (s .args .word .now) 2 _ E,
     )
@@ -83,58 +72,38 @@ same-length c = search needs
 
 returns : tie.Need-returns
 returns c =
-    let v = c .before .before .before .before .before in
-    let t = v .before .before .before .before .before .before .before .before .before in
-    let z = t .before .before .before .before in
-    let m = z .before .before .before .before in
-    let s = m .before .before .before .before .before .before in
-    let E = m .make-sets .ensures .0 in
-    let O = m .make-sets .ensures .1 in
-    let f = not-true (v .finish .result) (c .if1 .taken) in
-    let r = word-refused 8 (lent 8 (s .args .words .now)) (s .args .n) (s .args .k) (s .args .checks) (s .args .word .now) _ _ (s .pre .2) (omega (arith, s .pre .2, s .pre .3)) (s .pre .5) E O _ _ (t .settle .ensures) _ _ _ (v .finish .ensures .sets) f in
-    (sym (ap (λ (o : Outcome). o .reply) r), (rw f at (v .finish .ensures .word)) ∙ sym (ap (λ (o : Outcome). o .after) r))
+    let v = c .before .before .before .before .before .finish in
+    let s = c .before .before .before .before .before .before .before .before .before .before .before .before .before .before .before .before .before .before .before .before .before .before .before .before .before .before in
+    let (E, O) = c .before .before .before .before .before .before .before .before .before .before .before .before .before .before .before .before .before .before .before .before .make-sets .ensures in
+    let f = not-true (v .result) (c .if1 .taken) in
+    let r = word-refused 8 (lent 8 (s .args .words .now)) (s .args .n) (s .args .k) (s .args .checks) (s .args .word .now) _ _ (s .pre .2) (omega (arith, s .pre .2, s .pre .3)) (s .pre .5) E O _ _ (c .before .before .before .before .before .before .before .before .before .before .before .before .before .before .settle .ensures) _ _ _ (v .ensures .sets) f in
+    (sym (ap (λ (o : Outcome). o .reply) r), (rw f at (v .ensures .word)) ∙ sym (ap (λ (o : Outcome). o .after) r))
 
-slice-aggregate-sizes-of-2 : tie.Need-slice-aggregate-sizes-of-2
-slice-aggregate-sizes-of-2 c = search needs
+slice-aggregate-losses-of : tie.Need-slice-aggregate-losses-of
+slice-aggregate-losses-of c = search needs
 
-sizes-of-requires-2 : tie.Need-sizes-of-requires-2
-sizes-of-requires-2 c κs =
-    let v = c .before .before .before .before .before .before in
-    let t = v .before .before .before .before .before .before .before .before .before in
-    let z = t .before .before .before .before in
-    let m = z .before .before .before .before in
-    let s = m .before .before .before .before .before .before in
-    let E = m .make-sets .ensures .0 in
-    let O = m .make-sets .ensures .1 in
-    (v .finish .kept .1 .1 .1 .1 .1 .1 .1 .0 ∙ t .settle .kept .1 .1 .1 .0 ∙ E .size, s .pre .4)
+slice-aggregate-losses-of-2 : tie.Need-slice-aggregate-losses-of-2
+slice-aggregate-losses-of-2 c = search needs
 
-made-requires : tie.Need-made-requires
-made-requires c κs =
-    let v = c .before .before .before .before .before .before .before in
-    let t = v .before .before .before .before .before .before .before .before .before in
-    let z = t .before .before .before .before in
-    let m = z .before .before .before .before in
-    let s = m .before .before .before .before .before .before in
-    let E = m .make-sets .ensures .0 in
-    let O = m .make-sets .ensures .1 in
-    let f = not-false (v .finish .result) (c .before .before .if1 .left) in
-    word-fewer 8 (lent 8 (s .args .words .now)) (s .args .n) (s .args .k) (s .args .checks) (s .args .word .now) _ _ (s .pre .2) (omega (arith, s .pre .2, s .pre .3)) (s .pre .5) E O _ _ (t .settle .ensures) _ _ _ (v .finish .ensures .sets) f _ _ _ _ (z .sizes-of .ensures) (c .sizes-of2 .ensures)
+losses-of-requires : tie.Need-losses-of-requires
+losses-of-requires c κs =
+    let t = c .before .before .before .before .before .before .before .before .before .before .before .before .before .before .before .before .settle in
+    let v = c .before .before .before .before .before .before .before .finish in
+    let s = c .before .before .before .before .before .before .before .before .before .before .before .before .before .before .before .before .before .before .before .before .before .before .before .before .before .before .before .before in
+    let (E, O) = c .before .before .before .before .before .before .before .before .before .before .before .before .before .before .before .before .before .before .before .before .before .before .make-sets .ensures in
+    (E .size, v .kept .1 .1 .1 .1 .1 .1 .1 .0 ∙ t .kept .1 .1 .1 .0 ∙ E .size, s .pre .4, word-within 8 (lent 8 (s .args .words .now)) (s .args .n) (s .args .k) (s .args .checks) (s .args .word .now) _ _ (s .pre .2) (omega (arith, s .pre .2, s .pre .3)) (s .pre .5) E O _ _ (t .ensures) _ _ _ (v .ensures .sets))
 
 same-length-2 : tie.Need-same-length-2
 same-length-2 c = search needs
 
 returns-2 : tie.Need-returns-2
 returns-2 c =
-    let v = c .before .before .before .before .before .before .before .before in
-    let t = v .before .before .before .before .before .before .before .before .before in
-    let z = t .before .before .before .before in
-    let m = z .before .before .before .before in
-    let s = m .before .before .before .before .before .before in
-    let E = m .make-sets .ensures .0 in
-    let O = m .make-sets .ensures .1 in
-    let f = not-false (v .finish .result) (c .before .before .before .if1 .left) in
-    let r = word-made 8 (lent 8 (s .args .words .now)) (s .args .n) (s .args .k) (s .args .checks) (s .args .word .now) _ _ (s .pre .2) (omega (arith, s .pre .2, s .pre .3)) (s .pre .5) E O _ _ (t .settle .ensures) _ _ _ (v .finish .ensures .sets) f _ _ _ _ (z .sizes-of .ensures) (c .before .sizes-of2 .ensures) in
-    (c .made .ensures ∙ sym (ap (λ (o : Outcome). o .reply) r), (rw f at (v .finish .ensures .word)) ∙ sym (ap (λ (o : Outcome). o .after) r))
+    let v = c .before .before .before .before .before .before .before .before .finish in
+    let s = c .before .before .before .before .before .before .before .before .before .before .before .before .before .before .before .before .before .before .before .before .before .before .before .before .before .before .before .before .before in
+    let (E, O) = c .before .before .before .before .before .before .before .before .before .before .before .before .before .before .before .before .before .before .before .before .before .before .before .make-sets .ensures in
+    let f = not-false (v .result) (c .before .before .before .if1 .left) in
+    let r = word-made 8 (lent 8 (s .args .words .now)) (s .args .n) (s .args .k) (s .args .checks) (s .args .word .now) _ _ (s .pre .2) (omega (arith, s .pre .2, s .pre .3)) (s .pre .5) E O _ _ (c .before .before .before .before .before .before .before .before .before .before .before .before .before .before .before .before .before .settle .ensures) _ _ _ (v .ensures .sets) f in
+    (ap answer (c .losses-of .ensures) ∙ sym (ap (λ (o : Outcome). o .reply) r), (rw f at (v .ensures .word)) ∙ sym (ap (λ (o : Outcome). o .after) r))
 
 pub determine-word-spec : {M : Type 1} → statement M
 determine-word-spec =
@@ -143,8 +112,6 @@ determine-word-spec =
     slice-aggregate-make-sets
     slice-aggregate-make-sets-2
     make-sets-requires
-    slice-aggregate-sizes-of
-    sizes-of-requires
     add-bits
     words-of-requires
     slice-aggregate-settle
@@ -158,8 +125,8 @@ determine-word-spec =
     finish-requires
     same-length
     returns
-    slice-aggregate-sizes-of-2
-    sizes-of-requires-2
-    made-requires
+    slice-aggregate-losses-of
+    slice-aggregate-losses-of-2
+    losses-of-requires
     same-length-2
     returns-2)

@@ -29,21 +29,21 @@ peel-admitted-requires c κs =
 enum-known-r : tie.Need-enum-known-r
 enum-known-r c = search needs
 
-enum-known-recovered-sent : tie.Need-enum-known-recovered-sent
-enum-known-recovered-sent c = search needs
+enum-known-l : tie.Need-enum-known-l
+enum-known-l c = search needs
 
-add-t16 : tie.Need-add-t16
-add-t16 c =
-    let s = c .before .before .before .before .before .before .before .before .before in
+add-t13 : tie.Need-add-t13
+add-t13 c =
+    let s = c .before .before .before .before .before .before .before .before .before .before in
     let A = accepts (s .args .words .now) (s .args .n) (s .args .m) (s .args .k) .0 (s .pre .0) in
-    let e = recovered-small (s .args .words .now) (s .args .n) (s .args .m) (s .args .k) _ _ _ _ _ (sym (ap peelingReply (c .before .recovered-sent .given .1)) ∙ c .before .before .before .before .before .peel-admitted .ensures .0) in
+    let e = recovered-small (s .args .words .now) (s .args .n) (s .args .m) (s .args .k) _ _ _ _ _ (sym (ap peelingReply (c .before .before .l .given .1)) ∙ c .before .before .before .before .before .before .peel-admitted .ensures .0) in
     omega (arith, A .sound .n120, A .sound .k392)
 
-add-t17 : tie.Need-add-t17
-add-t17 c =
-    let s = c .before .before .before .before .before .before .before .before .before in
+add-t14 : tie.Need-add-t14
+add-t14 c =
+    let s = c .before .before .before .before .before .before .before .before .before .before .before in
     let A = accepts (s .args .words .now) (s .args .n) (s .args .m) (s .args .k) .0 (s .pre .0) in
-    let e = left-small (s .args .words .now) (s .args .n) (s .args .m) (s .args .k) _ _ _ _ _ (sym (ap peelingReply (c .before .recovered-sent .given .1)) ∙ c .before .before .before .before .before .peel-admitted .ensures .0) in
+    let e = left-small (s .args .words .now) (s .args .n) (s .args .m) (s .args .k) _ _ _ _ _ (sym (ap peelingReply (c .before .before .before .l .given .1)) ∙ c .before .before .before .before .before .before .before .peel-admitted .ensures .0) in
     omega (arith, A .sound .n120, A .sound .k392)
 
 same-length : tie.Need-same-length
@@ -60,9 +60,9 @@ same-length-2 c = search needs
 
 returns-2 : tie.Need-returns-2
 returns-2 c =
-    let s = c .before .before .before .before .before .before .before .before .before in
-    let E = c .before .before .before .before .before .peel-admitted .ensures in
-    (refl, (made-in-all _ _ _ _ _ (sym (ap peelingReply (c .before .recovered-sent .given .1)) ∙ E .0), ap (λ (l : List ℕ). l ++ drop (s .args .n + s .args .k) (s .args .longer .now)) (E .1)))
+    let s = c .before .before .before .before .before .before .before .before .before .before .before in
+    let E = c .before .before .before .before .before .before .before .peel-admitted .ensures in
+    (refl, (made-in-all _ _ _ _ _ (sym (ap peelingReply (c .before .before .before .l .given .1)) ∙ E .0), ap (λ (l : List ℕ). l ++ drop (s .args .n + s .args .k) (s .args .longer .now)) (E .1)))
 
 pub peel-front-spec : {M : Type 1} → statement M
 peel-front-spec =
@@ -73,9 +73,9 @@ peel-front-spec =
     slice-aggregate-peel-admitted
     peel-admitted-requires
     enum-known-r
-    enum-known-recovered-sent
-    add-t16
-    add-t17
+    enum-known-l
+    add-t13
+    add-t14
     same-length
     returns
     same-length-2

@@ -3,7 +3,6 @@ use Rattle.parity.proofs.Soft.Outcomes.{fine}
 use Rattle.min_sum.proofs.Outcome.{reply-after, leaves, answers, after-reply}
 use Rattle.min_sum.proofs.Fitting.{laid, within, inner}
 use Rattle.matrix.specs.Answers.{acceptingReply}
-use Rattle.word.specs.Answers.{admissionReply}
 use Rattle.parity.proofs.Causes.Refused.{accepted-words, refused-same, refused-number}
 use Rattle.parity.specs.Causes.{answer, refusalOf}
 use Rattle.parity.specs.Matrix.{lent}
@@ -59,7 +58,7 @@ returns-2 : tie.Need-returns-2
 returns-2 c =
     let s = c .before .before .before .before .before .before .before .before .before .before .before .before .before .before .before .before in
     let acc = ap acceptingReply (sym (c .before .before .before .before .before .before .before .before .enum-told .given .1)) ∙ c .before .before .before .before .before .before .before .before .before .before .accept .ensures in
-    let e = ap admissionReply (sym (c .before .judged .given .1)) ∙ c .before .before .before .judge .ensures in
+    let e = ap acceptingReply (sym (c .before .judged .given .1)) ∙ c .before .before .before .judge .ensures in
     let r = c .before .judged .given .0 .0 in
     leaves (s .args .words .now) (s .args .n) (s .args .m) (s .args .k) (s .args .rounds) (s .args .word .now) (s .args .floats .now) (s .args .message-bytes .now) (s .args .message-floats .now) (refusalOf r) (refused-number r) (after-reply (s .args .words .now) (s .args .n) (s .args .m) (s .args .k) (s .args .rounds) (s .args .word .now) (s .args .floats .now) (s .args .message-bytes .now) (s .args .message-floats .now) acc (refusalOf r) e)
 
@@ -78,7 +77,7 @@ results-requires c κs =
     let s = c .before .before .before .before .before .before .before .before .before .before .before .before .before .before .before .before .before .before .before in
     let acc = ap acceptingReply (sym (c .before .before .before .before .before .before .before .before .before .before .before .enum-told .given .1)) ∙ c .before .before .before .before .before .before .before .before .before .before .before .before .before .accept .ensures in
     let A = accepted-words (s .args .words .now) (s .args .n) (s .args .m) (s .args .k) acc in
-    let F = fine _ _ _ _ _ _ (ap admissionReply (sym (c .before .before .before .before .enum-told2 .given .1)) ∙ c .before .before .before .before .before .before .judge .ensures) in
+    let F = fine _ _ _ _ _ _ (ap acceptingReply (sym (c .before .before .before .before .enum-told2 .given .1)) ∙ c .before .before .before .before .before .before .judge .ensures) in
     let h = lent 8 (s .args .words .now) in (
       record {
         laid = laid h (s .args .n) (s .args .m) (s .args .k) (A .sound) _ _ _ (A .words) (F .l-bytes) (F .l-values);
@@ -106,7 +105,7 @@ returns-3 c =
     let s = c .before .before .before .before .before .before .before .before .before .before .before .before .before .before .before .before .before .before .before .before .before .before .before .before .before .before .before .before in
     let acc = ap acceptingReply (sym (c .before .before .before .before .before .before .before .before .before .before .before .before .before .before .before .before .before .before .before .before .enum-told .given .1)) ∙ c .before .before .before .before .before .before .before .before .before .before .before .before .before .before .before .before .before .before .before .before .before .before .accept .ensures in
     let A = accepted-words (s .args .words .now) (s .args .n) (s .args .m) (s .args .k) acc in
-    let e = ap admissionReply (sym (c .before .before .before .before .before .before .before .before .before .before .before .before .before .enum-told2 .given .1)) ∙ c .before .before .before .before .before .before .before .before .before .before .before .before .before .before .before .judge .ensures in
+    let e = ap acceptingReply (sym (c .before .before .before .before .before .before .before .before .before .before .before .before .before .enum-told2 .given .1)) ∙ c .before .before .before .before .before .before .before .before .before .before .before .before .before .before .before .judge .ensures in
     let F = fine _ _ _ _ _ _ e in
     answers (s .args .words .now) (s .args .n) (s .args .m) (s .args .k) (s .args .rounds) (s .args .word .now) (s .args .floats .now) (s .args .message-bytes .now) (s .args .message-floats .now) A (after-reply (s .args .words .now) (s .args .n) (s .args .m) (s .args .k) (s .args .rounds) (s .args .word .now) (s .args .floats .now) (s .args .message-bytes .now) (s .args .message-floats .now) acc (answer []) e) _ _ _ _ (rw (F .l-word) at (c .before .before .before .before .before .before .before .before .results .ensures))
 

@@ -1,7 +1,7 @@
 -- `mend_accepted` meets its contract. Assumes nothing.
 use mathlib.Core.Path.{sym, ap, _∙_}
 use Rattle.parity.proofs.Matrix.Accept.{accepts}
-use Rattle.word.specs.Answers.{admissionReply}
+use Rattle.matrix.specs.Answers.{acceptingReply}
 use Rattle.packets.proofs.Refusing.{lists-taken, lists-refused, outcome-refused}
 use native.Mathlib.Omega.{arith}
 use borrow.Author.Needs.{needs}
@@ -29,7 +29,7 @@ enum-told c = search needs
 mend-admitted-requires : tie.Need-mend-admitted-requires
 mend-admitted-requires c κs =
     let s = c .before .before .before .before .before .before .before .before .before .before .before .before in
-    let t = lists-taken _ _ (s .args .lost .now) (s .args .packets .now) (ap admissionReply (sym (c .before .before .before .enum-told .given .1)) ∙ c .before .before .before .before .before .admit-lists .ensures) in
+    let t = lists-taken _ _ (s .args .lost .now) (s .args .packets .now) (ap acceptingReply (sym (c .before .before .before .enum-told .given .1)) ∙ c .before .before .before .before .before .admit-lists .ensures) in
     (s .pre, t .0, t .1, t .2, t .3)
 
 same-length : tie.Need-same-length
@@ -42,7 +42,7 @@ returns : tie.Need-returns
 returns c =
     let s = c .before .before .before .before .before .before .before .before .before .before in
     outcome-refused (s .args .words .now) (s .args .n) (s .args .m) (s .args .k) (s .args .lost .now) (s .args .packets .now) (s .args .odd .now) (c .before .admission .given .0 .0)
-    (lists-refused (s .args .words .now) (s .args .n) (s .args .m) (s .args .k) (s .args .lost .now) (s .args .packets .now) (s .args .odd .now) (c .before .admission .given .0 .0) (s .pre) (ap admissionReply (sym (c .before .admission .given .1)) ∙ c .before .before .before .admit-lists .ensures))
+    (lists-refused (s .args .words .now) (s .args .n) (s .args .m) (s .args .k) (s .args .lost .now) (s .args .packets .now) (s .args .odd .now) (c .before .admission .given .0 .0) (s .pre) (ap acceptingReply (sym (c .before .admission .given .1)) ∙ c .before .before .before .admit-lists .ensures))
 
 same-length-3 : tie.Need-same-length-3
 same-length-3 c = search needs

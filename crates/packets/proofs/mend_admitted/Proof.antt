@@ -1,9 +1,11 @@
 -- `mend_admitted` meets its contract. Assumes nothing.
 use mathlib.Core.Path.{_≡_, refl, sym, ap, _∙_, fun-ext}
 use mathlib.Core.Bool.{false}
-use Prim.Native.Nat.{_-_}
+use mathlib.Core.List.{List, [], _∷_, _++_}
+use Prim.Native.Nat.{ℕ}
 use lib.ListN.{replicate}
 use Rattle.parity.specs.Matrix.{lent}
+use Rattle.parity.specs.Causes.{answer}
 use Rattle.parity.specs.Packets.{PacketsOutcome}
 use Rattle.parity.proofs.Matrix.Accept.{accepts}
 use Rattle.parity.proofs.Matrix.Lent.{lent-empty}
@@ -57,52 +59,40 @@ write-requires c κs =
     let E = c .before .before .before .before .before .before .before .before .before .before .before .set-of .ensures in
     (omega arith, E .size, c .before .before .before .before .before .before .before .before .mend-set .ensures .0, refl, set-short 8 (s .args .lost .now) 1 _ E)
 
-slice-aggregate-sizes-of : tie.Need-slice-aggregate-sizes-of
-slice-aggregate-sizes-of c = search needs
+slice-aggregate-losses-of : tie.Need-slice-aggregate-losses-of
+slice-aggregate-losses-of c = search needs
 
-sizes-of-requires : tie.Need-sizes-of-requires
-sizes-of-requires c κs =
-    let s = c .before .before .before .before .before .before .before .before .before .before .before .before .before .before .before .before .before .before .before .before .before in
+slice-aggregate-losses-of-2 : tie.Need-slice-aggregate-losses-of-2
+slice-aggregate-losses-of-2 c = search needs
+
+losses-of-requires : tie.Need-losses-of-requires
+losses-of-requires c κs =
+    let s = c .before .before .before .before .before .before .before .before .before .before .before .before .before .before .before .before .before .before .before .before .before .before in
     let A = accepts (s .args .words .now) (s .args .n) (s .args .m) (s .args .k) .0 (s .pre .0) in
-    (c .before .before .before .before .before .before .before .before .before .before .before .before .before .before .before .set-of .ensures .size, omega (arith, A .sound .n120))
-
-slice-aggregate-sizes-of-2 : tie.Need-slice-aggregate-sizes-of-2
-slice-aggregate-sizes-of-2 c = search needs
-
-sizes-of-requires-2 : tie.Need-sizes-of-requires-2
-sizes-of-requires-2 c κs =
-    let s = c .before .before .before .before .before .before .before .before .before .before .before .before .before .before .before .before .before .before .before .before .before .before .before in
-    let A = accepts (s .args .words .now) (s .args .n) (s .args .m) (s .args .k) .0 (s .pre .0) in
-    (c .before .before .before .before .before .before .before .before .before .before .before .before .before .before .mend-set .ensures .0, omega (arith, A .sound .n120))
+    let t = c .before .before .before .before .before .before .before .before .before .before .before .before .before .mend-set in
+    (c .before .before .before .before .before .before .before .before .before .before .before .before .before .before .before .before .set-of .ensures .size, t .ensures .0, omega (arith, A .sound .n120), fewer-packets (s .args .words .now) (s .args .n) (s .args .m) (s .args .k) (s .args .lost .now) (s .args .packets .now) (s .args .odd .now) _ _ _ _ A (s .pre .1) (s .pre .2) (s .pre .4) (s .pre .3) (c .before .before .before .before .before .before .before .before .before .before .before .before .before .before .before .before .set-of .ensures) (t .ensures .1))
 
 count-lanes-requires : tie.Need-count-lanes-requires
-count-lanes-requires c κs = omega (arith, c .before .before .before .before .before .before .before .before .before .before .before .before .before .before .before .before .before .before .before .before .before .before .before .before .before .pre .3, c .before .before .before .before .before .before .before .before .before .before .before .before .before .before .before .before .mend-set .kept .1 .1 .1 .1 .1 .0)
-
-made-requires : tie.Need-made-requires
-made-requires c κs =
-    let s = c .before .before .before .before .before .before .before .before .before .before .before .before .before .before .before .before .before .before .before .before .before .before .before .before .before .before in
-    let A = accepts (s .args .words .now) (s .args .n) (s .args .m) (s .args .k) .0 (s .pre .0) in
-    let t = c .before .before .before .before .before .before .before .before .before .before .before .before .before .before .before .before .before .mend-set in
-    fewer-packets (s .args .words .now) (s .args .n) (s .args .m) (s .args .k) (s .args .lost .now) (s .args .packets .now) (s .args .odd .now) _ _ _ _ A (s .pre .1) (s .pre .2) (s .pre .4) (s .pre .3) (c .before .before .before .before .before .before .before .before .before .before .before .before .before .before .before .before .before .before .before .before .set-of .ensures) (t .ensures .1) (t .kept .1 .1 .1 .1 .0) (t .kept .1 .1 .1 .1 .1 .0) (λ i. c .before .before .before .before .before .before .before .before .before .before .before .before .before .before .before .slice-known4 .given i .fits) (λ i. c .before .before .before .before .before .before .before .before .before .before .before .before .before .slice-known5 .given i .fits) _ _ _ _ (c .before .before .before .before .sizes-of .ensures) (c .before .before .sizes-of2 .ensures) (omega (arith, A .sound .n120, A .sound .k392))
+count-lanes-requires c κs = omega (arith, c .before .before .before .before .before .before .before .before .before .before .before .before .before .before .before .before .before .before .before .before .before .before .before .before .pre .3, c .before .before .before .before .before .before .before .before .before .before .before .before .before .before .before .mend-set .kept .1 .1 .1 .1 .1 .0)
 
 same-length : tie.Need-same-length
-same-length c = c .before .before .before .before .before .before .before .before .before .write .kept .0
+same-length c = c .before .before .before .before .before .before .before .write .kept .0
 
 same-length-2 : tie.Need-same-length-2
-same-length-2 c = c .before .before .before .before .before .before .before .before .before .before .before .before .before .before .before .before .before .before .mend-set .kept .1 .1 .1 .1 .0
+same-length-2 c = c .before .before .before .before .before .before .before .before .before .before .before .before .before .before .before .before .mend-set .kept .1 .1 .1 .1 .0
 
 same-length-3 : tie.Need-same-length-3
-same-length-3 c = c .before .before .before .before .before .before .before .before .before .before .before .before .before .before .before .before .before .before .mend-set .kept .1 .1 .1 .1 .1 .0
+same-length-3 c = c .before .before .before .before .before .before .before .before .before .before .before .before .before .before .before .before .mend-set .kept .1 .1 .1 .1 .1 .0
 
 returns : tie.Need-returns
 returns c =
-    let s = c .before .before .before .before .before .before .before .before .before .before .before .before .before .before .before .before .before .before .before .before .before .before .before .before .before .before .before in
+    let s = c .before .before .before .before .before .before .before .before .before .before .before .before .before .before .before .before .before .before .before .before .before .before .before .before .before in
     let A = accepts (s .args .words .now) (s .args .n) (s .args .m) (s .args .k) .0 (s .pre .0) in
-    let t = c .before .before .before .before .before .before .before .before .before .before .before .before .before .before .before .before .before .before .mend-set in
-    let o = outcome-is (s .args .words .now) (s .args .n) (s .args .m) (s .args .k) (s .args .lost .now) (s .args .packets .now) (s .args .odd .now) _ _ _ _ A (s .pre .1) (s .pre .2) (s .pre .4) (s .pre .3) (c .before .before .before .before .before .before .before .before .before .before .before .before .before .before .before .before .before .before .before .before .before .set-of .ensures) (t .ensures .1) (t .kept .1 .1 .1 .1 .0) (t .kept .1 .1 .1 .1 .1 .0) (λ i. c .before .before .before .before .before .before .before .before .before .before .before .before .before .before .before .before .slice-known4 .given i .fits) (λ i. c .before .before .before .before .before .before .before .before .before .before .before .before .before .before .slice-known5 .given i .fits) _ _ _ _ (c .before .before .before .before .before .sizes-of .ensures) (c .before .before .before .sizes-of2 .ensures) (omega (arith, A .sound .n120, A .sound .k392)) in (
-      c .made .ensures ∙ rw (c .before .count-lanes .ensures, t .kept .1 .1 .1 .1 .1 .0) (sym (ap (λ (o : PacketsOutcome). o .reply) o)),
+    let t = c .before .before .before .before .before .before .before .before .before .before .before .before .before .before .before .before .mend-set in
+    let o = outcome-is (s .args .words .now) (s .args .n) (s .args .m) (s .args .k) (s .args .lost .now) (s .args .packets .now) (s .args .odd .now) _ _ _ _ A (s .pre .1) (s .pre .2) (s .pre .4) (s .pre .3) (c .before .before .before .before .before .before .before .before .before .before .before .before .before .before .before .before .before .before .before .set-of .ensures) (t .ensures .1) (t .kept .1 .1 .1 .1 .0) (t .kept .1 .1 .1 .1 .1 .0) (λ i. c .before .before .before .before .before .before .before .before .before .before .before .before .before .before .slice-known4 .given i .fits) (λ i. c .before .before .before .before .before .before .before .before .before .before .before .before .slice-known5 .given i .fits) (omega (arith, A .sound .n120, A .sound .k392)) in (
+      ap (λ (v : List ℕ). answer (v ++ (c .count-lanes .result ∷ []))) (c .before .before .losses-of .ensures) ∙ rw (c .count-lanes .ensures, t .kept .1 .1 .1 .1 .1 .0) (sym (ap (λ (o : PacketsOutcome). o .reply) o)),
       (
-        (rw no-bits at (c .before .before .before .before .before .before .before .before .before .write .ensures)) ∙ sym (ap (λ (o : PacketsOutcome). o .lost) o),
+        (rw no-bits at (c .before .before .before .before .before .before .before .write .ensures)) ∙ sym (ap (λ (o : PacketsOutcome). o .lost) o),
         (sym (ap (λ (o : PacketsOutcome). o .packets) o), sym (ap (λ (o : PacketsOutcome). o .odd) o)),
       ),
     )
@@ -119,12 +109,10 @@ mend-admitted-spec =
     slice-aggregate-write-2
     slice-aggregate-write-3
     write-requires
-    slice-aggregate-sizes-of
-    sizes-of-requires
-    slice-aggregate-sizes-of-2
-    sizes-of-requires-2
+    slice-aggregate-losses-of
+    slice-aggregate-losses-of-2
+    losses-of-requires
     count-lanes-requires
-    made-requires
     same-length
     same-length-2
     same-length-3

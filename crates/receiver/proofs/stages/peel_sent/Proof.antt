@@ -71,7 +71,7 @@ peel-word-requires c κs =
     let b = c .before .before .before .put-bytes in
     let e = erased-rest (a .sent .now) (z .result) (b .last .0) (a .n) (a .k) 512 (omega arith) (omega (arith, s .n120, s .k392)) (z .ensures) (b .ensures .made) in (
       rw e (c .before .before .before .before .before .before .before .before .before .before .pre .0),
-      omega (arith, l),
+      (c .before .before .before .before .before .before .before .before .before .before .pre .1, l),
     )
 
 same-length-2 : tie.Need-same-length-2

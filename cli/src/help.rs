@@ -16,7 +16,7 @@ calls.
   parity mend FILE            mends words with erased bits
   parity explain FILE         why each erased bit is recovered or not
   parity soft FILE            min-sum rounds on words of soft bits
-  parity curve FILE.. --out SVG  what is left over the erasure rate
+  parity curve FILE.. --out SVG  what is left of words over losses or noise
   parity COMMAND --help       the options of a command
   parity --version
 

@@ -3,7 +3,7 @@
 use crate::generate;
 use crate::model::{erased, house, Matrix};
 use crate::random::Random;
-use crate::support::{alist, examples, folder, golden, run, runs};
+use crate::support::{alist, examples, folder, golden, run, runs, shell};
 use crate::xml;
 use cli::awgn::{self, variance, Noisy, POINTS};
 use cli::curve::{csv, picture, Measured, Over};
@@ -267,4 +267,17 @@ fn best_decisions() {
     }
     let found = square / (2000.0 * 7.0);
     assert!((found / wide - 1.0).abs() < 0.05, "{found} {wide}");
+}
+
+/// An interrupt leaves the old files, and nothing beside them.
+#[test]
+fn interrupted() {
+    let out = folder("curves-interrupted");
+    fs::copy(examples().join("case-l.alist"), out.join("l.alist")).expect("a file");
+    fs::write(out.join("old.svg"), "old").expect("a file");
+    let args = ["curve", "l.alist", "--words", "100000000", "--out", "old.svg", "--csv", "new.csv"];
+    let ended = shell(&out, "timeout -s INT 0.3 \"$0\" \"$@\"; exit $?", &args);
+    assert_eq!((ended.status, ended.text(), ended.err.as_str()), (124, "", ""));
+    assert_eq!(fs::read_to_string(out.join("old.svg")).expect("a file"), "old");
+    assert_eq!(fs::read_dir(&out).expect("a folder").count(), 2);
 }

@@ -1,6 +1,6 @@
-/* Case C of the specification through the C interface. A collector makes one call,
- * parity_mend_block, which recovers the three erased bits of 2,2,2,1,1,1,1 in its
- * second stage. Then the same by hand: the given matrix leaves all three;
+/* Case C of the specification through the C interface. First parity_mend_block, which
+ * recovers the three erased bits of 2,2,2,1,1,1,1 in its second stage (a collector calls
+ * parity_determine: the same word, sooner). Then the same by hand: the given matrix leaves all three;
  * orthogonalised, it recovers them and the added bit. Last a word with a false bit,
  * which is refused, and what the refusal says.
  *

@@ -27,6 +27,12 @@
  * A record file has these words as four bytes each, the highest first:
  * examples/record.c reads one.
  *
+ * Or set it yourself: with all words zero, bit b is put into check c by
+ *
+ *   words[8 * c + b / 64] |= (uint64_t)1 << (b % 64);
+ *
+ * with your n and m, and k = 0. Every call looks whether it accepts the matrix.
+ *
  * 3. MEND. A received word is a byte for each bit: 0, 1 or PARITY_ERASED. It has
  * n+k bytes; added bits, where there are any, are erased.
  *
@@ -179,6 +185,7 @@ extern "C" {
 #define PARITY_CONTRADICTION 12
 /* k is above 0 in rank, encoding, message bits, mending a block or joining. */
 #define PARITY_EXTENDED 13
+/* 14 is the program mend's own, and no call returns it. */
 /* k = 0: there is nothing to take back. */
 #define PARITY_NOTHING_TO_TAKE_BACK 15
 /* The matrix with the newest added bit taken back would break rule A; from

@@ -5,9 +5,8 @@ use crate::{
     Shared, Split, TakenBack, WORDS,
 };
 
-/// A matrix that the library accepted: its words with n, m and k. Each method is the call of the same name.
-///
-/// A collector loads it once, and mends every word with it:
+/// A matrix that the library accepted: its words with n, m and k. Each method is the call of the same name; `mend` is
+/// `mend_block`. It is loaded once, and mends every word; [`Matrix::determine`] leaves the same word, sooner.
 ///
 /// ```
 /// use parity::{Matrix, Mended, Refusal, ERASED, STAGE_EXTENDED};

@@ -6,7 +6,7 @@ use crate::gather::write;
 use matrix::Accepting;
 use matrix::accept;
 use parity::Refusal;
-use parity::number;
+use refusals::number;
 ghost use mathlib.Core.Path.{_≡_};
 ghost use mathlib.Core.List.{[]};
 ghost use Prim.Native.Nat.{_≤_, _<_, min};

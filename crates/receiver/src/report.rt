@@ -3,7 +3,7 @@ use crate::text::put_byte;
 use crate::text::put_bytes;
 use crate::text::put_decimal;
 use parity::Refusal;
-use parity::number;
+use refusals::number;
 ghost use mathlib.Core.Path.{_≡_};
 ghost use Prim.Native.Nat.{_+_, _≤_};
 ghost use lib.ListN.{length};

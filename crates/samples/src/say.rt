@@ -14,7 +14,7 @@ pub fn field(head: &[u8], x: u64) {
 
 // The number of a refusal, and its place or the length needed.
 pub fn refused(head: &[u8], r: Refusal) {
-    field(head, parity::number(r));
+    field(head, refusals::number(r));
     match r {
         Refusal::FaultyWord { place } => field(b" at ", place as u64),
         Refusal::RecordTooShort { needed } => field(b", needs ", needed as u64),

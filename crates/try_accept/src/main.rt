@@ -8,7 +8,7 @@ ghost use Prim.Native.Nat.{_<_};
 fn number(a: Accepting) -> u64 {
     match a {
         Accepting::Accepted => 0,
-        Accepting::Refused(r) => parity::number(r),
+        Accepting::Refused(r) => refusals::number(r),
     }
 }
 

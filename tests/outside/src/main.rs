@@ -1,7 +1,7 @@
 //! Tests of the library from outside. `outside` runs all parts; `outside model`, `calls`, `losses`, `records`,
 //! `taking_back`, `holders`, `determining`, `solving`, `sets`, `blocks`, `joining`, `marking`, `soft`, `ranges`, `payloads`, `packets`, `stack`, `demand3`, `codes`, `mend` run the parts named, and the name of a call, as `outside peel`, runs that kind of
 //! call alone. Ends with a status that is not 0 at the first difference, with the whole input that shows it.
-//! OUTSIDE_LAST=FILE keeps the input of the last call in FILE.
+//! OUTSIDE_LAST=FILE keeps the input of the last call in FILE, and runs one part at a time.
 
 #![allow(clippy::needless_range_loop)]
 
@@ -34,7 +34,10 @@ mod stack;
 mod taking_back;
 
 use model::{Kind, KINDS};
+use std::env;
 use std::process::ExitCode;
+use std::sync::atomic::{AtomicUsize, Ordering};
+use std::thread;
 use std::time::Instant;
 
 const PARTS: [&str; 20] = [
@@ -59,6 +62,9 @@ const PARTS: [&str; 20] = [
     "codes",
     "mend",
 ];
+
+/// It tells of all calls before it, so it is run after the other parts.
+const LAST: &str = "stack";
 
 /// What became of a part: its number of comparisons and a note, or why it was skipped.
 enum Outcome {
@@ -109,8 +115,53 @@ fn run(part: &str, kinds: &[Kind]) -> Result<Outcome, String> {
     }
 }
 
+/// A part differed, and that was printed.
+struct Different;
+
+/// Prints what became of a part; whether it ran.
+fn told(part: &str, ended: Result<Outcome, String>, seconds: f64) -> Result<bool, Different> {
+    match ended {
+        Ok(Outcome::Same(number, note)) => {
+            let note = if note.is_empty() { note } else { format!(" ({note})") };
+            println!("{part}: {number} comparisons, no difference{note}, {seconds:.1} s");
+            Ok(true)
+        }
+        Ok(Outcome::Skipped(why)) => {
+            println!("{part}: SKIPPED, {why}");
+            Ok(false)
+        }
+        Err(difference) => {
+            println!("{difference}");
+            println!("{part}: FAILED after {seconds:.1} s");
+            Err(Different)
+        }
+    }
+}
+
+/// Runs parts, as many at once as there are processors, and prints what became of each when it ends; whether all ran.
+/// After a difference no further part is begun.
+fn all(parts: &[&str], kinds: &[Kind]) -> Result<bool, Different> {
+    let next = AtomicUsize::new(0);
+    let worker = || {
+        let mut complete = true;
+        while let Some(part) = parts.get(next.fetch_add(1, Ordering::Relaxed)) {
+            let start = Instant::now();
+            let ended = run(part, kinds);
+            complete &= told(part, ended, start.elapsed().as_secs_f64()).inspect_err(|_| next.store(parts.len(), Ordering::Relaxed))?;
+        }
+        Ok(complete)
+    };
+    // the last call's input is one call's only if parts run one after the other
+    let alone = env::var_os("OUTSIDE_LAST").is_some();
+    let workers = if alone { 1 } else { thread::available_parallelism().map_or(1, |number| number.get()) };
+    thread::scope(|scope| {
+        let started: Vec<_> = (0..workers).map(|_| scope.spawn(worker)).collect();
+        started.into_iter().map(|one| one.join().expect("a part that ends")).try_fold(true, |complete, ran| Ok(ran? && complete))
+    })
+}
+
 fn main() -> ExitCode {
-    let mut named: Vec<String> = std::env::args().skip(1).collect();
+    let mut named: Vec<String> = env::args().skip(1).collect();
     let kinds: Vec<Kind> = KINDS.into_iter().filter(|kind| named.iter().any(|name| name == kind.name())).collect();
     let before = named.len();
     named.retain(|name| PARTS.contains(&name.as_str()));
@@ -123,36 +174,14 @@ fn main() -> ExitCode {
         named.push("calls".to_string());
     }
     let whole = Instant::now();
-    let mut complete = true;
-    for part in PARTS {
-        if !named.is_empty() && !named.iter().any(|name| name == part) {
-            continue;
+    let chosen = |part: &&str| named.is_empty() || named.iter().any(|name| name == part);
+    let (last, first): (Vec<&str>, Vec<&str>) = PARTS.into_iter().filter(chosen).partition(|part| *part == LAST);
+    match all(&first, &kinds).and_then(|complete| Ok(all(&last, &kinds)? && complete)) {
+        Ok(complete) => {
+            let ended = if complete { "passed" } else { "not all parts ran" };
+            println!("outside: {ended}, {:.1} s", whole.elapsed().as_secs_f64());
+            ExitCode::from(u8::from(!complete))
         }
-        let start = Instant::now();
-        match run(part, &kinds) {
-            Ok(Outcome::Same(number, note)) => {
-                let note = if note.is_empty() { note } else { format!(" ({note})") };
-                println!("{part}: {number} comparisons, no difference{note}, {:.1} s", start.elapsed().as_secs_f64());
-            }
-            Ok(Outcome::Skipped(why)) => {
-                println!("{part}: SKIPPED, {why}");
-                complete = false;
-            }
-            Err(difference) => {
-                println!("{difference}");
-                println!("{part}: FAILED after {:.1} s", start.elapsed().as_secs_f64());
-                return ExitCode::FAILURE;
-            }
-        }
-    }
-    println!(
-        "outside: {}, {:.1} s",
-        if complete { "passed" } else { "not all parts ran" },
-        whole.elapsed().as_secs_f64()
-    );
-    if complete {
-        ExitCode::SUCCESS
-    } else {
-        ExitCode::FAILURE
+        Err(Different) => ExitCode::FAILURE,
     }
 }

@@ -1,7 +1,7 @@
 -- Loading what was written gives the matrix that was written. Assumes nothing.
 use mathlib.Core.Path.{_≡_, _∙_}
 use mathlib.Core.Bool.{true, false}
-use mathlib.Core.List.{List, _∷_, _++_, append-nil, append-assoc}
+use mathlib.Core.List.{List, [], _∷_, _++_, append-assoc}
 use Prim.Native.Nat.{ℕ, zero, suc, _+_, _*_, _-_, _/_, _%_, _^_, _≤_, _<_}
 use native.Mathlib.Nat.{add-zero, zero-add}
 use native.Mathlib.Omega.{arith}
@@ -12,10 +12,10 @@ use Rattle.parity.specs.Record.{kindOf, payload, headKind, formOf, headW
 use Rattle.parity.specs.declared.Form.{Form}
 use Rattle.parity.specs.declared.Form.the-variants.{First, Second, Third}
 use Rattle.parity.specs.Sound.{Sound}
-use Rattle.parity.proofs.Finite.Sums.{is-true, is-false, is, count-bound}
+use Rattle.parity.proofs.Finite.Sums.{is-true, is-false, is, count-bound, count-suc}
 use Rattle.parity.proofs.Matrix.Accept.{ranges}
 use Rattle.parity.proofs.Record.Reading.{word-kind, word-payload, number-most, open-yes, bit-yes, checks-done}
-use Rattle.parity.proofs.Record.Writing.{check-after}
+use Rattle.parity.proofs.Record.Writing.{check-after, no-word, bit-last}
 use Rattle.parity.proofs.Record.ReadPart.{cut, Inside, cut-none, cut-put, cut-skip, cut-row, cut-all}
 
 -- Reading comes to the words ws with due ones of check c - 1 to come, and g read.
@@ -58,20 +58,30 @@ none-written f h n m r ws C = record { place = C .place; low = C .low; under = o
 
 -- reading the written words of a matrix
 module _ (f : Form) (n m : ℕ) (few : m ≤ 120) (h : Matrix) (I : Inside n h) (r : Checked) where
+  come-none : (c due : ℕ) (ws : List ℕ) → Comes f n m r (bitWords (h c) 0 ++ ws) (suc c) (count 0 (h c) + due) 0 (cut h c 0)
+      → Comes f n m r ws (suc c) due 0 (cut h c 0)
+  unfolding bitWords count sum
+  come-none c due ws C = record { place = C .place; low = C .low; under = C .under; comes = C .comes ∙ rw (zero-add due) }
+
+  come-yes : (c b due : ℕ) (ws : List ℕ) → b < n → h c b ≡ true → Comes f n m r ((3 * 2 ^ 28 + b) ∷ ws) (suc c) (suc due) b (cut h c b)
+      → Comes f n m r ws (suc c) due (suc b) (cut h c (suc b))
+  come-yes c b due ws k e D = rw (← cut-put n h I c b k e) (come-bit f n m r ws c (cut h c b) b due k (I .few) D)
+
+  come-no : (c b due : ℕ) (ws : List ℕ) → b < n → h c b ≡ false → Comes f n m r ws (suc c) due b (cut h c b) → Comes f n m r ws (suc c) due (suc b) (cut h c (suc b))
+  come-no c b due ws k e D = rw (← cut-skip n h I c b k e) record { place = D .place; low = D .low; under = omega (arith, D .under); comes = D .comes }
+
   come-bits : (c b due : ℕ) (ws : List ℕ) → b ≤ n → Comes f n m r (bitWords (h c) b ++ ws) (suc c) (count b (h c) + due) 0 (cut h c 0)
       → Comes f n m r ws (suc c) due b (cut h c b)
-  unfolding bitWords count sum
-  come-bits c zero due ws k C = record { place = C .place; low = C .low; under = C .under; comes = C .comes ∙ rw (zero-add due) }
+  come-bits c zero due ws k C = come-none c due ws C
   come-bits c (suc b) due ws k C =
+      let s = count-suc b (h c) in
       elim (is (h c b)) [
         | is-true e ↦
-            let t : sum b (λ i. one (h c i)) + 1 + due ≡ sum b (λ i. one (h c i)) + suc due = omega arith in
-            let D = come-bits c b (suc due) ((3 * 2 ^ 28 + b) ∷ ws) (omega arith) (rw (e, append-assoc, t) at C) in
-            rw (← cut-put n h I c b (omega arith) e) (come-bit f n m r ws c (cut h c b) b due (omega arith) (I .few) D)
+            let t : count (suc b) (h c) + due ≡ count b (h c) + suc due = omega (arith, rw e at s) in
+            come-yes c b due ws (omega arith) e (come-bits c b (suc due) ((3 * 2 ^ 28 + b) ∷ ws) (omega arith) (rw (bit-last (h c) b e, append-assoc (bitWords (h c) b) ((3 * 2 ^ 28 + b) ∷ []) ws, t) at C))
         | is-false e ↦
-            let t : sum b (λ i. one (h c i)) + 0 + due ≡ sum b (λ i. one (h c i)) + due = omega arith in
-            let D = come-bits c b due ws (omega arith) (rw (e, append-nil, t) at C) in
-            rw (← cut-skip n h I c b (omega arith) e) record { place = D .place; low = D .low; under = omega (arith, D .under); comes = D .comes }
+            let t : count (suc b) (h c) + due ≡ count b (h c) + due = omega (arith, rw e at s) in
+            come-no c b due ws (omega arith) e (come-bits c b due ws (omega arith) (rw (no-word (h c) b e, t) at C))
       ]
 
   come-check : (c : ℕ) (ws : List ℕ) → c < m → Comes f n m r (opening f c (count n (h c)) ∷ (bitWords (h c) n ++ ws)) c 0 n (cut h c 0)

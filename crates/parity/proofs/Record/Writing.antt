@@ -53,7 +53,7 @@ pub record-most : (f : Form) (h : Matrix) (n m : ℕ) (ps : List Pair) → n ≤
 record-most f h n m ps k l = omega (arith, length-record f h n m ps, checks-most f h n m k)
 
 -- none of the bits from a on
-no-word : (s : ℕ → Bool) (b : ℕ) → s b ≡ false → bitWords s (suc b) ≡ bitWords s b
+pub no-word : (s : ℕ → Bool) (b : ℕ) → s b ≡ false → bitWords s (suc b) ≡ bitWords s b
 unfolding bitWords
 no-word s b e = rw e (append-nil (bitWords s b))
 
@@ -72,7 +72,7 @@ checks-wider f h n n′ zero k e = refl
 checks-wider f h n n′ (suc c) k e =
     rw (checks-wider f h n n′ c k e, count-end n n′ (h c) k (λ b l m. e c b l), bits-end (h c) n n′ k (λ b l m. e c b l))
 
-bit-last : (s : ℕ → Bool) (b : ℕ) → s b ≡ true → bitWords s (suc b) ≡ bitWords s b ++ ((3 * 2 ^ 28 + b) ∷ [])
+pub bit-last : (s : ℕ → Bool) (b : ℕ) → s b ≡ true → bitWords s (suc b) ≡ bitWords s b ++ ((3 * 2 ^ 28 + b) ∷ [])
 unfolding bitWords
 bit-last s b e = rw e
 

@@ -18,7 +18,7 @@ use Rattle.parity.specs.Calls.{byteOf, wrongByte, wrongPlace, verifyRepl
 use Rattle.parity.specs.Demand3.{erasing}
 use Rattle.parity.specs.Floats.{positiveZero, finite, magnitude, limit, tooLarge}
 use Rattle.parity.specs.Soft.{channelOf, byteFor, floatFor, messageAt, sentAfter, but, toBits, resultAfter, sound}
-use Rattle.parity.specs.SoftCall.{wrongRounds, wrongLengths, wrongFloat, softReply, minSumReply, floatsFrom, minSumOutcome}
+use Rattle.parity.specs.SoftCall.{wrongRounds, wrongLengths, wrongFloat, softReply, minSumReply, floatsFrom, SoftOutcome, minSumOutcome}
 use Rattle.parity.specs.SoftPromises.{AnswerIsInput, EndsAsPeeling, WritesFinite, RoundsEnd}
 use Rattle.parity.specs.declared.Channel.{Channel}
 use Rattle.parity.specs.declared.Channel.the-variants.{Sure, Soft, Erased}
@@ -55,6 +55,13 @@ at-floats i (suc n) f (suc j) k = let e : suc i + j ≡ i + suc j = omega arith 
 -- ---- what an answer says of the rounds and the lists
 no-answer : (c : ℕ) (vs : List ℕ) → (c ≡ 0 → ⊥) → answer [] ≡ refusal c vs → ⊥
 no-answer c vs n e = n (sym (ap (λ (x : Reply). x .number) e))
+
+-- what an answer leaves, over any lists, so that 65,536 places are not counted out
+answered : (r : Reply) (w w' word bytes bytes' : List ℕ) (f f' floats values values' : List Float) → r ≡ answer [] → w ≡ w' → f ≡ f'
+    → let made = eqb (r .number) 0 in
+    let before : SoftOutcome = record { reply = r; word = cond made w word; floats = cond made f floats; messageBytes = cond made bytes' bytes; messageFloats = cond made values' values } in
+    before ≡ record { reply = answer []; word = w'; floats = f'; messageBytes = bytes'; messageFloats = values' }
+answered r w w' word bytes bytes' f f' floats values values' e a b = rw (e, a, b)
 
 -- a soft float that is not too large is finite
 small-sound : (t : ℕ) (x : Float) → eqb t 3 && tooLarge x ≡ false → sound (channelOf t x) ≡ true
@@ -125,14 +132,25 @@ module _ (ws : List ℕ) (n m k rounds : ℕ) (word : List ℕ) (floats : List F
   result-sound : (b : ℕ) → b < n + k → sound (resultAfter (lent 8 ws) (n + k) (m + k) (messageAt word floats) rounds b) ≡ true
   result-sound b l = result-every sound check-sound bit-sound (lent 8 ws) (n + k) (m + k) (messageAt word floats) (facts-are .sounds) rounds b l
 
+  outcome-is : minSumOutcome ws n m k rounds word floats bytes values ≡ record {
+    reply = answer [];
+    word = listFrom 0 (n + k) (λ b. byteFor (resultAfter (lent 8 ws) (n + k) (m + k) (messageAt word floats) rounds b));
+    floats = floatsFrom 0 (n + k) (λ b. floatFor (resultAfter (lent 8 ws) (n + k) (m + k) (messageAt word floats) rounds b));
+    messageBytes = replicate 65536 0;
+    messageFloats = replicate 65536 positiveZero;
+  }
+  unfolding minSumOutcome
+  outcome-is =
+      let result = resultAfter (lent 8 ws) (n + k) (m + k) (messageAt word floats) rounds in
+      answered (minSumReply ws n m k rounds word floats bytes values) (listFrom 0 (n + k) (λ b. byteFor (result b))) (listFrom 0 (n + k) (λ b. byteFor (result b))) word bytes
+      (replicate 65536 0) (floatsFrom 0 (n + k) (λ b. floatFor (result b))) (floatsFrom 0 (n + k) (λ b. floatFor (result b))) floats values (replicate 65536 positiveZero) reply-is refl refl
+
   floats-are : minSumOutcome ws n m k rounds word floats bytes values .floats
       ≡ floatsFrom 0 (n + k) (λ b. floatFor (resultAfter (lent 8 ws) (n + k) (m + k) (messageAt word floats) rounds b))
-  unfolding minSumOutcome
-  floats-are = rw reply-is
+  floats-are = ap (λ (o : SoftOutcome). o .floats) outcome-is
 
   messages-are : minSumOutcome ws n m k rounds word floats bytes values .messageFloats ≡ replicate 65536 positiveZero
-  unfolding minSumOutcome
-  messages-are = rw reply-is
+  messages-are = ap (λ (o : SoftOutcome). o .messageFloats) outcome-is
 
 finite-float : (v : Channel) → sound v ≡ true → finite (floatFor v) ≡ true
 finite-float (Sure b) e = rw zero-is
@@ -148,7 +166,10 @@ writes-finite ws n m k rounds word floats bytes values e = (
       let f : ℕ → Float = λ b. floatFor (resultAfter (lent 8 ws) (n + k) (m + k) (messageAt word floats) rounds b) in
       rw (floats-are ws n m k rounds word floats bytes values e, at-floats 0 (n + k) f b l)
       (finite-float (resultAfter (lent 8 ws) (n + k) (m + k) (messageAt word floats) rounds (0 + b)) (result-sound ws n m k rounds word floats bytes values e (0 + b) (omega arith))),
-  λ i l. rw (messages-are ws n m k rounds word floats bytes values e, getD-replicate 65536 i positiveZero nan l) finite-zero,
+  λ i l.
+      ap (λ (xs : List Float). finite (getD xs i nan)) (messages-are ws n m k rounds word floats bytes values e)
+      ∙ ap finite (getD-replicate 65536 i positiveZero nan l)
+      ∙ finite-zero,
 )
 
 -- ---- rounds that change nothing
@@ -265,27 +286,3 @@ module _ (ws : List ℕ) (n m k : ℕ) (x : List ℕ) (v : verifyReply ws n m k 
 
     few : n + k ≤ 512
     few = omega (arith, A .sound .n120, A .sound .k392)
-
-    word-ends : listFrom 0 (n + k) (λ b. byteFor (resultAfter (lent 8 ws) (n + k) (m + k) channel 512 b)) ≡ peelOutcome ws n m k w .after
-    word-ends =
-        listFrom-cong 0 (n + k) (λ b. byteFor (resultAfter (lent 8 ws) (n + k) (m + k) channel 512 b)) (peeled (lent 8 ws) (n + k) (m + k) (byteOf w))
-        (λ j l. ends-as-peeling (lent 8 ws) (n + k) (m + k) (byteOf w) (isOne (byteOf x)) channel gone given agree (C .even) 512 (omega arith) few (0 + j) (omega arith))
-        ∙ sym (ap (λ (o : Outcome). o .after) (erased-answered ws n m k x v w w-size (erased-got (n + k) x (C .word) e) .outcome))
-
-    floats-end : floatsFrom 0 (n + k) (λ b. floatFor (resultAfter (lent 8 ws) (n + k) (m + k) channel 512 b)) ≡ replicate (n + k) positiveZero
-    floats-end =
-        let f : ℕ → Float = λ b. floatFor (resultAfter (lent 8 ws) (n + k) (m + k) channel 512 b) in
-        let s = length-floats 0 (n + k) f in
-        ext-getD nan (floatsFrom 0 (n + k) f) (replicate (n + k) positiveZero) (s ∙ sym (length-replicate (n + k) positiveZero)) (λ j l.
-        at-floats 0 (n + k) f j (omega (arith, s))
-        ∙ ends-without-float (lent 8 ws) (n + k) (m + k) (byteOf w) (isOne (byteOf x)) channel gone given (C .even) 512 (omega arith) few (0 + j) (omega (arith, s))
-        ∙ sym (getD-replicate (n + k) j positiveZero nan (omega (arith, s))))
-
-pub ends-as-peeling-does : EndsAsPeeling
-unfolding minSumOutcome
-ends-as-peeling-does ws n m k x v e floats bytes values lf lb lv =
-    rw (
-      reply-answers ws n m k x v e floats bytes values lf lb lv,
-      word-ends ws n m k x v e floats bytes values lf lb lv,
-      floats-end ws n m k x v e floats bytes values lf lb lv,
-    )

@@ -1,9 +1,9 @@
 -- `refused` meets its contract. Assumes nothing.
 use borrow.Author.Needs.{needs}
 use mathlib.Core.Path.{sym, ap, _∙_}
 use Rattle.parity.specs.Causes.{refusalOf}
-use Rattle.parity.proofs.refused.Statement.{statement}
-use Rattle.parity.proofs.refused.Tie as tie
+use Rattle.refusals.proofs.refused.Statement.{statement}
+use Rattle.refusals.proofs.refused.Tie as tie
 
 enum-told : tie.Need-enum-told
 enum-told c = search needs

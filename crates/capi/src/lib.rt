@@ -122,7 +122,7 @@ pub extern "C" fn parity_orthogonalise(
     ensures { λ r. ⌜ Passed (orthogonaliseOutcome (now (words .entry)) n m k .reply) (now (values .entry)) (now (values .exit)) r ⌝ }
     ensures { λ r. ⌜ now (words .exit) ≡ orthogonaliseOutcome (now (words .entry)) n m k .after ⌝ }
 {
-    let orthogonalising = split::orthogonalise(words, n, m, k);
+    let orthogonalising = orthogonalise::orthogonalise(words, n, m, k);
     let numbered = reply::orthogonalising(orthogonalising);
     reply::pass(numbered, values)
 }

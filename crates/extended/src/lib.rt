@@ -1,10 +1,10 @@
 // Peeling with the orthogonalised copy of a matrix.
+use orthogonalise::Orthogonalising;
+use orthogonalise::orthogonalise_accepted;
 use parity::Refusal;
 use peel::Peeling;
 use peel::peel_admitted;
 use rows::whole::copy_words;
-use split::Orthogonalising;
-use split::orthogonalise_accepted;
 ghost use mathlib.Core.Path.{_≡_};
 ghost use mathlib.Core.Bool.{false};
 ghost use mathlib.Core.List.{_++_};

@@ -2,12 +2,12 @@
 use crate::report::put_refused;
 use crate::report::put_report;
 use crate::text::put_bytes;
+use orthogonalise::Orthogonalising;
 use parity::Refusal;
 use peel::Peeling;
 use peel::peel_admitted;
 use record::Loading;
 use sets::bytes::first_above;
-use split::Orthogonalising;
 ghost use mathlib.Core.Path.{_≡_};
 ghost use mathlib.Core.List.{_++_};
 ghost use Prim.Native.Nat.{_+_, _≤_};
@@ -91,7 +91,7 @@ fn orthogonalise(
     requires { ⌜ cause (now words) n m j ≡ 0 ⌝ }
     ensures { λ r. ⌜ Placed (now (out .entry)) 0 (orthogonaliseText (now (words .entry)) n m j (now (sent .entry))) (now (out .exit)) r ⌝ }
 {
-    match split::orthogonalise_accepted(words, n, m, j) {
+    match orthogonalise::orthogonalise_accepted(words, n, m, j) {
         Orthogonalising::Refused(r) => put_refused(out, r),
         Orthogonalising::Finished {
             splits,

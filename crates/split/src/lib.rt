@@ -1,8 +1,4 @@
-// A split of two bits, taking it back, and orthogonalising.
-mod orthogonal;
-
-use crate::orthogonal::Course;
-use crate::orthogonal::repeat;
+// A split of two bits, and taking it back.
 use columns::column;
 use exchange::back::back_pair;
 use exchange::merge::split_columns;
@@ -20,9 +16,8 @@ use parity::Refusal;
 use rows::ones::next_one;
 ghost use mathlib.Core.Path.{_≡_};
 ghost use Rattle.parity.specs.Matrix.{cause};
-ghost use Rattle.parity.specs.Causes.{heldValues};
-ghost use Rattle.parity.specs.Calls.{splitOutcome, takeBackOutcome, orthogonaliseOutcome};
-ghost use Rattle.split.specs.Answers.{splittingReply, takingBackReply, orthogonalisingReply, courseReply};
+ghost use Rattle.parity.specs.Calls.{splitOutcome, takeBackOutcome};
+ghost use Rattle.split.specs.Answers.{splittingReply, takingBackReply};
 
 // What a split answers: the share of the two bits, the new k, and the lowest and the highest check that contained both.
 pub enum Splitting {
@@ -33,18 +28,6 @@ pub enum Splitting {
 // What taking back answers: the number s of other checks that contained the newest added bit, and the new k.
 pub enum TakingBack {
     Made { share: u64, k: usize },
-    Refused(Refusal),
-}
-
-// What orthogonalising answers: the number of splits, the sum of s(s-1)/2 over them, k, and the lowest and the highest check that held the pair of the
-// final split, none of either if there was none.
-pub enum Orthogonalising {
-    Finished {
-        splits: u64,
-        sum: u64,
-        k: usize,
-        held: Holders,
-    },
     Refused(Refusal),
 }
 
@@ -120,53 +103,5 @@ pub fn take_back(words: &mut [u64], n: usize, m: usize, k: usize) -> TakingBack
     match accept(words, n, m, k) {
         Accepting::Refused(r) => TakingBack::Refused(r),
         Accepting::Accepted => back_accepted(words, n, m, k),
-    }
-}
-
-// The answer, or refusal 9 where k reached 392 with a pair left to split.
-fn told(course: Course) -> Orthogonalising
-    ensures { λ r. ⌜ orthogonalisingReply r ≡ courseReply (course .finished) (course .splits) (course .sum) (course .k) (heldValues (course .held)) ⌝ }
-{
-    let Course {
-        finished,
-        splits,
-        sum,
-        k,
-        held,
-    } = course;
-    if finished {
-        return Orthogonalising::Finished {
-            splits,
-            sum,
-            k,
-            held,
-        };
-    }
-    Orthogonalising::Refused(Refusal::NoRoomLeft {
-        splits,
-        sum,
-        k,
-        held,
-    })
-}
-
-// Orthogonalising an accepted matrix, such as one that was just loaded.
-pub fn orthogonalise_accepted(words: &mut [u64], n: usize, m: usize, k: usize) -> Orthogonalising
-    requires { ⌜ cause (now words) n m k ≡ 0 ⌝ }
-    ensures { λ r. ⌜ orthogonalisingReply r ≡ orthogonaliseOutcome (now (words .entry)) n m k .reply ⌝ }
-    ensures { λ r. ⌜ now (words .exit) ≡ orthogonaliseOutcome (now (words .entry)) n m k .after ⌝ }
-{
-    told(repeat(words, n, m, k))
-}
-
-// Orthogonalising: repeats the split of the pair with the largest share, then the smallest lower bit, then the smallest higher bit,
-// until no pair has share two or more. Refused by causes 1 to 4, and by 9 after the splits made.
-pub fn orthogonalise(words: &mut [u64], n: usize, m: usize, k: usize) -> Orthogonalising
-    ensures { λ r. ⌜ orthogonalisingReply r ≡ orthogonaliseOutcome (now (words .entry)) n m k .reply ⌝ }
-    ensures { λ r. ⌜ now (words .exit) ≡ orthogonaliseOutcome (now (words .entry)) n m k .after ⌝ }
-{
-    match accept(words, n, m, k) {
-        Accepting::Refused(r) => Orthogonalising::Refused(r),
-        Accepting::Accepted => orthogonalise_accepted(words, n, m, k),
     }
 }

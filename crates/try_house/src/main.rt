@@ -3,12 +3,12 @@
 use cycles::Counting;
 use encode::Ranking;
 use house::Copying;
+use orthogonalise::Orthogonalising;
 use samples::say::end_line;
 use samples::say::field;
 use samples::say::refused;
 use samples::words::are_ones;
 use samples::words::ones;
-use split::Orthogonalising;
 ghost use Prim.Native.Nat.{_≤_};
 
 fn show_rank(words: &[u64], n: usize, m: usize) {
@@ -27,7 +27,7 @@ fn show_count(words: &[u64], n: usize, m: usize, k: usize) {
 
 // Orthogonalises, and answers k.
 fn show_orthogonalise(words: &mut [u64], n: usize, m: usize) -> usize {
-    match split::orthogonalise(words, n, m, 0) {
+    match orthogonalise::orthogonalise(words, n, m, 0) {
         Orthogonalising::Finished {
             splits,
             sum,

@@ -2,10 +2,10 @@
 // several lengths whose places held 900, and bad input: such a line has the case and the size, how many sets there are, or the number of the
 // refusal and the places needed, and what stands in the slice.
 use house::Copying;
+use orthogonalise::Orthogonalising;
 use samples::say::end_line;
 use samples::say::field;
 use samples::say::refused;
-use split::Orthogonalising;
 use stopping_sets::Listing;
 ghost use mathlib.Core.Path.{_≡_};
 ghost use Prim.Native.Nat.{_≤_};
@@ -30,7 +30,7 @@ fn numbers(head: &[u8], words: &[u64], n: usize, m: usize, k: usize, sets: &mut 
 
 // Orthogonalises, and answers k.
 fn orthogonalise(words: &mut [u64], n: usize, m: usize) -> usize {
-    match split::orthogonalise(words, n, m, 0) {
+    match orthogonalise::orthogonalise(words, n, m, 0) {
         Orthogonalising::Finished {
             splits: _,
             sum: _,

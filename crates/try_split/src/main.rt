@@ -2,6 +2,7 @@
 // splits at k = 391 and 392; matrices that no splits made, taken back; pairs held by checks at the edges of words.
 use cycles::Counting;
 use cycles::Sharing;
+use orthogonalise::Orthogonalising;
 use parity::Bit;
 use parity::Check;
 use parity::Holders;
@@ -9,7 +10,6 @@ use samples::say::end_line;
 use samples::say::field;
 use samples::say::refused;
 use samples::words::same;
-use split::Orthogonalising;
 use split::Splitting;
 use split::TakingBack;
 ghost use mathlib.Core.Path.{_≡_};
@@ -81,7 +81,7 @@ fn show_result(splits: u64, sum: u64, k: usize, held: Holders) {
 
 // Orthogonalises, and answers the k that it came to.
 fn show_orthogonalise(words: &mut [u64], n: usize, m: usize, k: usize) -> usize {
-    match split::orthogonalise(words, n, m, k) {
+    match orthogonalise::orthogonalise(words, n, m, k) {
         Orthogonalising::Finished {
             splits,
             sum,

@@ -6,7 +6,7 @@ use lib.ListN.{take}
 use Rattle.parity.specs.Causes.{Outcome}
 use Rattle.parity.specs.Calls.{orthogonaliseOutcome}
 use Rattle.parity.proofs.Matrix.Accept.{accepts}
-use Rattle.split.specs.Answers.{orthogonalisingReply}
+use Rattle.orthogonalise.specs.Answers.{orthogonalisingReply}
 use Rattle.extended.proofs.Copying.{refused-copy, copy-accepted, copy-room, front-room, front-right, peeled-copy}
 use borrow.Author.Needs.{needs}
 use Rattle.extended.proofs.peel_extended.Statement.{statement}

@@ -1,7 +1,7 @@
 -- `reply::orthogonalising` meets its contract. Assumes nothing.
 use borrow.Author.Needs.{needs}
 use mathlib.Core.Path.{sym, ap, _∙_}
-use Rattle.split.specs.Answers.{orthogonalisingReply}
+use Rattle.orthogonalise.specs.Answers.{orthogonalisingReply}
 use Rattle.reply.proofs.orthogonalising.Statement.{statement}
 use Rattle.reply.proofs.orthogonalising.Tie as tie
 

@@ -3,7 +3,7 @@ use mathlib.Core.Path.{sym, ap, _∙_}
 use borrow.Author.Needs.{needs}
 use native.Mathlib.Omega.{arith}
 use lib.ListN.{length}
-use Rattle.split.specs.Answers.{orthogonalisingReply}
+use Rattle.orthogonalise.specs.Answers.{orthogonalisingReply}
 use Rattle.receiver.proofs.Lines.{same-text}
 use Rattle.parity.specs.Causes.{heldValues}
 use Rattle.receiver.proofs.Passing.{orthogonalise-refused, orthogonalise-passes, orthogonalise-accepted}

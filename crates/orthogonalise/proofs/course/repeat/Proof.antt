@@ -8,10 +8,10 @@ use Rattle.parity.specs.Matrix.{lent}
 use Rattle.parity.specs.Causes.{heldValues}
 use Rattle.choice.specs.Bounds.{Head}
 use Rattle.columns.proofs.Filling.{two-words}
-use Rattle.split.proofs.Turns.{Stands, stands-start, head-start, stands-bound, ends-finished, ends-full, share-few, picked-ready, stands-split, head-split, given-columns, narrow-columns}
+use Rattle.orthogonalise.proofs.Turns.{Stands, stands-start, head-start, stands-bound, ends-finished, ends-full, share-few, picked-ready, stands-split, head-split, given-columns, narrow-columns}
 use borrow.Author.Needs.{needs}
-use Rattle.split.proofs.orthogonal.repeat.Statement.{statement}
-use Rattle.split.proofs.orthogonal.repeat.Tie as tie
+use Rattle.orthogonalise.proofs.course.repeat.Statement.{statement}
+use Rattle.orthogonalise.proofs.course.repeat.Tie as tie
 
 abbrev Inv-loop : tie.InvT-loop
 Inv-loop words₀ n m k cols₀ bound₀ first₀ cap₀ at₀ words cols bound first cap at =

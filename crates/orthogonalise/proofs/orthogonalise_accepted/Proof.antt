@@ -2,10 +2,10 @@
 use mathlib.Core.Path.{_∙_}
 use Rattle.parity.proofs.Matrix.Accept.{accepts}
 use Rattle.parity.proofs.Splits.Splitting.{orthogonalises, packed}
-use Rattle.split.proofs.Turns.{ended-reply, ended-matrix}
+use Rattle.orthogonalise.proofs.Turns.{ended-reply, ended-matrix}
 use borrow.Author.Needs.{needs}
-use Rattle.split.proofs.orthogonalise_accepted.Statement.{statement}
-use Rattle.split.proofs.orthogonalise_accepted.Tie as tie
+use Rattle.orthogonalise.proofs.orthogonalise_accepted.Statement.{statement}
+use Rattle.orthogonalise.proofs.orthogonalise_accepted.Tie as tie
 
 repeat-requires : tie.Need-repeat-requires
 repeat-requires c κs =

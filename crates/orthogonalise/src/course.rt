@@ -19,7 +19,7 @@ ghost use lib.ListN.{length};
 ghost use Rattle.parity.specs.Matrix.{lent};
 ghost use Rattle.parity.specs.Causes.{heldValues};
 ghost use Rattle.parity.specs.Sound.{Sound};
-ghost use Rattle.split.specs.Turns.{Ready, Turned, Ended};
+ghost use Rattle.orthogonalise.specs.Turns.{Ready, Turned, Ended};
 
 // The split of `u` and `v` on the words and on the columns, whose new bit `z` the bounds take in; answers the lowest and the highest check that contained
 // both, from the column of `z`.

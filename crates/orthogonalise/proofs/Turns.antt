@@ -29,9 +29,9 @@ use Rattle.columns.proofs.Splitting.{parted-columns}
 use Rattle.pairs.specs.Rows.{inBoth}
 use Rattle.choice.specs.Bounds.{Bounded, Head, Picked, NoPair, Narrow, Weights}
 use Rattle.choice.proofs.RowBounds.{bounded-split, raised-head, weights-bound, weights-head}
-use Rattle.split.specs.Answers.{courseReply}
+use Rattle.orthogonalise.specs.Answers.{courseReply}
 use Rattle.exchange.specs.Merge.{Apart, Both}
-use Rattle.split.specs.Turns.{Ready, Turned, Ended}
+use Rattle.orthogonalise.specs.Turns.{Ready, Turned, Ended}
 use Rattle.exchange.proofs.Common.{twice}
 
 -- the column of the new bit

@@ -1,6 +1,6 @@
 -- `told` meets its contract. Assumes nothing.
-use Rattle.split.proofs.told.Statement.{statement}
-use Rattle.split.proofs.told.Tie as tie
+use Rattle.orthogonalise.proofs.told.Statement.{statement}
+use Rattle.orthogonalise.proofs.told.Tie as tie
 
 returns : tie.Need-returns
 returns c = rw (c .if1 .taken)

@@ -4,8 +4,8 @@ use Prim.Native.Nat.{_*_, _-_, _≤_}
 use native.Mathlib.Nat.{mul-le-mul-right}
 use native.Mathlib.Omega.{arith}
 use borrow.Author.Needs.{needs}
-use Rattle.split.proofs.orthogonal.counted.Statement.{statement}
-use Rattle.split.proofs.orthogonal.counted.Tie as tie
+use Rattle.orthogonalise.proofs.course.counted.Statement.{statement}
+use Rattle.orthogonalise.proofs.course.counted.Tie as tie
 
 add-t4 : tie.Need-add-t4
 add-t4 c = search needs

@@ -19,10 +19,10 @@ use Rattle.parity.proofs.Finite.Sums.{is, is-true, is-false, count-bound}
 use Rattle.parity.proofs.Splits.Pairs.{pairs-add}
 use Rattle.parity.proofs.Splits.Pick.{picked}
 use Rattle.parity.proofs.Splits.Orthogonal.{keeps}
-use Rattle.receiver.specs.Lines.{leftText}
+use Rattle.lines.specs.Lines.{leftText}
 use Rattle.receiver.specs.Stages.{peelText, orthogonaliseText, loadInto, loadText}
-use Rattle.receiver.proofs.Pieces.{decimal-most}
-use Rattle.receiver.proofs.Lines.{left-erased, left-known, refused-length, splits-length, residue-length, word-line-length, report-length}
+use Rattle.lines.proofs.Pieces.{decimal-most}
+use Rattle.lines.proofs.Lines.{left-erased, left-known, refused-length, splits-length, residue-length, word-line-length, report-length}
 use Rattle.receiver.proofs.Passing.{answered-accepted, orthogonalise-values}
 use Rattle.receiver.proofs.Whole.{wrong-mend, right-mend}
 

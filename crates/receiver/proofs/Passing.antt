@@ -21,8 +21,8 @@ use Rattle.parity.proofs.Splits.Splitting.{orthogonalises, orthogonal-accepted}
 use Rattle.parity.proofs.Record.RoundTrip.{load-accepted}
 use Rattle.parity.proofs.Causes.Refused.{refused-number}
 use Rattle.parity.specs.declared.Refusal.the-variants.{WrongLength, WrongByte}
-use Rattle.receiver.specs.Placed.{placed}
-use Rattle.receiver.specs.Lines.{Bytes}
+use Rattle.lines.specs.Placed.{placed}
+use Rattle.lines.specs.Lines.{Bytes}
 use Rattle.receiver.specs.Stages.{peelText, orthogonaliseText, loadInto, loadText}
 use Rattle.parity.proofs.Words.Bytes.{erasable-most}
 

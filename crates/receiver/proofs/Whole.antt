@@ -2,7 +2,7 @@
 use Prim.Native.Nat.{ℕ, _+_, _*_, _-_, _≤_, _<_}
 use mathlib.Core.Path.{_≡_, _∙_, refl}
 use mathlib.Core.Bool.{true, false, _||_}
-use mathlib.Core.List.{List}
+use mathlib.Core.List.{List, [], _∷_, _++_}
 use native.Mathlib.Omega.{arith}
 use borrow.Author.Tests.{lt-ltb, le-ltb, ltb-false}
 use lib.Dec.{ltb}
@@ -10,10 +10,16 @@ use lib.ListN.{length, take, drop, length-drop}
 use lib.Seq.{take-at, take-all}
 use Rattle.parity.specs.Mend.{wordAt, wrongInput, recordIn, wordIn, refusedLine, mend}
 use Rattle.parity.proofs.Finite.Bools.{or-false-both}
-use Rattle.receiver.specs.Placed.{placed, Placed}
+use Rattle.lines.specs.Placed.{placed, Placed}
+use Rattle.lines.proofs.Lines.{listFrom-more}
 use Rattle.receiver.specs.declared.Mending.the-variants.{Written, TooShort}
 use Rattle.receiver.specs.Answers.{mendingAnswer, mendingOutput}
 use Rattle.receiver.specs.Stages.{wordsIn, Size, peelText, orthogonaliseText, loadInto, loadText}
+
+-- one record word more
+pub words-more : (input : List ℕ) (w : ℕ) → wordsIn input (w + 1) ≡ wordsIn input w ++ (wordAt input (4 + 4 * w) ∷ [])
+unfolding wordsIn
+words-more input w = listFrom-more w (λ i. wordAt input (4 + 4 * i))
 
 pub wrong-mend : (input : List ℕ) → wrongInput input ≡ true → refusedLine 14 ≡ mend input
 unfolding mend

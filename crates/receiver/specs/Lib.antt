@@ -1,4 +1,2 @@
-pub mod Placed
-pub mod Lines
 pub mod Stages
 pub mod Answers

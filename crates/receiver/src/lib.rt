@@ -1,20 +1,18 @@
 // What the receiver does with a record and a word: a function from the input's bytes to the output's.
 mod input;
-mod report;
 mod stages;
-mod text;
 
 use crate::input::is_wrong;
 use crate::input::read_words;
 use crate::input::size;
-use crate::report::put_refused;
 use crate::stages::load;
-use crate::text::put_bytes;
+use lines::put_refused;
+use lines::text::put_bytes;
 use parity::Refusal;
 ghost use mathlib.Core.Path.{_≡_};
 ghost use lib.ListN.{length};
 ghost use Rattle.parity.specs.Mend.{mend as mendText};
-ghost use Rattle.receiver.specs.Placed.{Placed};
+ghost use Rattle.lines.specs.Placed.{Placed};
 ghost use Rattle.receiver.specs.Answers.{mendingAnswer, mendingOutput};
 
 // How many bytes of the output are written, or how many it would need.

@@ -1,7 +1,7 @@
 // The stages: loading, orthogonalising and peeling. Each puts the output from there on.
-use crate::report::put_refused;
-use crate::report::put_report;
-use crate::text::put_bytes;
+use lines::put_refused;
+use lines::put_report;
+use lines::text::put_bytes;
 use orthogonalise::Orthogonalising;
 use parity::Refusal;
 use peel::Peeling;
@@ -13,7 +13,7 @@ ghost use mathlib.Core.List.{_++_};
 ghost use Prim.Native.Nat.{_+_, _≤_};
 ghost use lib.ListN.{length, replicate};
 ghost use Rattle.parity.specs.Matrix.{cause};
-ghost use Rattle.receiver.specs.Placed.{Placed};
+ghost use Rattle.lines.specs.Placed.{Placed};
 ghost use Rattle.receiver.specs.Stages.{peelText, orthogonaliseText, loadText};
 
 // As many erased bits as a word can have.

@@ -971,7 +971,7 @@ pub fn run(named: &[Kind]) -> Result<usize, String> {
         let refused: Vec<String> =
             kind.refusals().iter().map(|&no| format!("{no}: {}", tally.refusals[no as usize])).collect();
         println!(
-            "  {}: {done} compared; {} answered, refused {}; {} bytes of stack ({:.1} s)",
+            "calls, {}: {done} compared; {} answered, refused {}; {} bytes of stack ({:.1} s)",
             kind.name(),
             tally.answers,
             refused.join(", "),
@@ -979,13 +979,13 @@ pub fn run(named: &[Kind]) -> Result<usize, String> {
             start.elapsed().as_secs_f64()
         );
         if kind == Kind::TakeBack {
-            println!("    taken back with s = 0: {}, with s = 1: {}", tally.no, tally.yes);
+            println!("calls, take_back: taken back with s = 0: {}, with s = 1: {}", tally.no, tally.yes);
         }
         if kind == Kind::MendBlock {
-            println!("    by stage: {:?}", tally.stages);
+            println!("calls, mend_block: by stage {:?}", tally.stages);
         }
         if kind == Kind::MendPackets {
-            println!("    with odd lanes: {}", tally.odd);
+            println!("calls, mend_packets: with odd lanes {}", tally.odd);
         }
         // The inputs are good and bad in about equal parts, and every refusal was met.
         let yes_no = matches!(kind, Kind::Verify | Kind::IsStopping);

@@ -136,7 +136,7 @@ pub fn run() -> Result<usize, String> {
         }
         let Tally { words, above } = tally;
         println!(
-            "  {}: {words} words with erased bits; recovered {} times sent and {} times added bits, left {} and {} times",
+            "losses, {}: {words} words with erased bits; recovered {} times sent and {} times added bits, left {} and {} times",
             group.name, above[0], above[1], above[2], above[3]
         );
         let few = |number: usize| number < words / 20;

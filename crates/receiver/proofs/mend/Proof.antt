@@ -5,7 +5,7 @@ use native.Mathlib.Omega.{arith}
 use lib.ListN.{take}
 use lib.Seq.{length-take-le}
 use Rattle.parity.specs.Mend.{mend as mendText}
-use Rattle.receiver.proofs.Pieces.{same-size}
+use Rattle.lines.proofs.Pieces.{same-size}
 use Rattle.receiver.proofs.Whole.{no-room, room, first}
 use Rattle.receiver.proofs.mend.Statement.{statement}
 use Rattle.receiver.proofs.mend.Tie as tie

@@ -3,7 +3,7 @@ use mathlib.Core.Path.{sym, _∙_}
 use borrow.Author.Needs.{needs}
 use native.Mathlib.Omega.{arith}
 use lib.Seq.{length-take-le}
-use Rattle.receiver.proofs.Lines.{same-text}
+use Rattle.lines.proofs.Lines.{same-text}
 use Rattle.receiver.proofs.Fits.{mend-fits}
 use Rattle.receiver.proofs.Whole.{wrong-mend, right-mend, every-rest}
 use Rattle.receiver.proofs.put_text.Statement.{statement}

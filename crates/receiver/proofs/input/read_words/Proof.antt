@@ -8,7 +8,7 @@ use lib.ListN.{length, take, length-set}
 use lib.Seq.{take-suc-set}
 use Rattle.parity.specs.Finite.{listFrom}
 use Rattle.receiver.specs.Stages.{wordsIn}
-use Rattle.receiver.proofs.Lines.{words-more}
+use Rattle.receiver.proofs.Whole.{words-more}
 use Rattle.receiver.proofs.input.read_words.Statement.{statement}
 use Rattle.receiver.proofs.input.read_words.Tie as tie
 

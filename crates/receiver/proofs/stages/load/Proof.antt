@@ -2,7 +2,7 @@
 use mathlib.Core.Path.{sym, ap, _∙_}
 use borrow.Author.Needs.{needs}
 use Rattle.record.specs.Answers.{loadingReply}
-use Rattle.receiver.proofs.Lines.{same-text}
+use Rattle.lines.proofs.Lines.{same-text}
 use Rattle.receiver.proofs.Passing.{load-refused, load-passes, load-cause, load-zero}
 use Rattle.receiver.proofs.stages.load.Statement.{statement}
 use Rattle.receiver.proofs.stages.load.Tie as tie

@@ -4,7 +4,7 @@ use borrow.Author.Needs.{needs}
 use native.Mathlib.Omega.{arith}
 use lib.ListN.{length}
 use Rattle.orthogonalise.specs.Answers.{orthogonalisingReply}
-use Rattle.receiver.proofs.Lines.{same-text}
+use Rattle.lines.proofs.Lines.{same-text}
 use Rattle.parity.specs.Causes.{heldValues}
 use Rattle.receiver.proofs.Passing.{orthogonalise-refused, orthogonalise-passes, orthogonalise-accepted}
 use Rattle.receiver.proofs.stages.orthogonalise.Statement.{statement}

@@ -9,7 +9,7 @@ use lib.Seq.{length-take-le}
 use Rattle.parity.specs.Mend.{digitsOf, decimal, refusedLine}
 use Rattle.parity.proofs.Matrix.Accept.{accepts}
 use Rattle.receiver.specs.Stages.{peelText}
-use Rattle.receiver.proofs.Lines.{same-text}
+use Rattle.lines.proofs.Lines.{same-text}
 use Rattle.receiver.proofs.Passing.{peel-short, length-erased, erased-rest}
 use Rattle.receiver.proofs.stages.peel_sent.Statement.{statement}
 use Rattle.receiver.proofs.stages.peel_sent.Tie as tie

@@ -4,7 +4,7 @@ use native.Mathlib.Omega.{arith}
 use borrow.Author.Needs.{needs}
 use Rattle.sets.proofs.Above.{byte-wrong, byte-right}
 use Rattle.peel.specs.Answers.{peelingReply}
-use Rattle.receiver.proofs.Lines.{same-text}
+use Rattle.lines.proofs.Lines.{same-text}
 use Rattle.receiver.proofs.Passing.{peel-wrong, peel-refused, peel-passes, peel-bytes}
 use Rattle.receiver.proofs.stages.peel_word.Statement.{statement}
 use Rattle.receiver.proofs.stages.peel_word.Tie as tie

@@ -10,7 +10,7 @@ use borrow.Author.Tests.{eq-eqb, ne-eqb, lt-ltb, le-ltb, le-leb, lt-leb}
 use Rattle.parity.specs.Finite.{one, count}
 use Rattle.parity.specs.Matrix.{Matrix}
 use Rattle.parity.specs.Words.{inside, evenChecks}
-use Rattle.parity.proofs.Finite.Bools.{same-test}
+use Rattle.parity.proofs.Finite.Bools.{same-test, xor-false, xor-self}
 use Rattle.parity.proofs.Finite.Sums.{sum-add, sum-cong, count-cong}
 use Rattle.parity.proofs.Finite.Firsts.{all-cong}
 use Rattle.parity.proofs.Splits.Split.{Even, evens}
@@ -19,16 +19,6 @@ use Rattle.parity.proofs.Words.Sets.{inside-below}
 use Rattle.rows.specs.Whole.{plus}
 use Rattle.rows.proofs.Writing.{combined-at, combined-else}
 use Rattle.elimination.specs.Reduction.{when, cleared, FirstIn, Same, lifted, around}
-
-pub xor-false : (a : Bool) → xor a false ≡ a
-unfolding xor
-xor-false true = refl
-xor-false false = refl
-
-pub xor-self : (a : Bool) → xor a a ≡ false
-unfolding xor
-xor-self true = refl
-xor-self false = refl
 
 -- The codewords of two matrices are the same if each is even where the other is.
 pub same-of : (h g : Matrix) (n m : ℕ) → ((x : ℕ → Bool) → Even h n m x ↔ Even g n m x) → Same h g n m
@@ -201,8 +191,8 @@ module _ (g : Matrix) (first m r b : ℕ) (fr : first ≤ r) (rm : r < m) where
   around-alone own c k l d = around-else c b k l d ∙ cancel (g c b)
     where
       cancel : (x : Bool) → xor x (when x (g r) b) ≡ false
-      cancel true = rw own (xor-self true)
-      cancel false = xor-self false
+      cancel true = rw own (xor-self true true refl)
+      cancel false = xor-self false false refl
 
 -- Check p is added to check r, if it is another one.
 module _ (p r : ℕ) (g : Matrix) where

@@ -147,25 +147,31 @@ module _ (row : ℕ → Bool) (b : ℕ) (g : Matrix) where
       ]))
 
 -- Check r is added to each other check from `first` on that contains b.
-module _ (g : Matrix) (first m r b : ℕ) (fr : first ≤ r) (rm : r < m) where
-  abbrev upper : Matrix
-  upper = cleared (g r) b first r g
-
-  pub around-own : (j : ℕ) → around first m r b g r j ≡ g r j
+module _ (g : Matrix) (first m r b : ℕ) where
+  around-at : (j : ℕ) → around first m r b g r j ≡ g r j
   unfolding around
-  around-own j = cleared-out (g r) b upper (r + 1) m r j (λ k l. omega arith) ∙ cleared-out (g r) b g first r r j (λ k l. omega arith)
+  around-at j = rw (eq-eqb r r refl)
+
+  around-other : (c j : ℕ) → (c ≡ r → ⊥) → around first m r b g c j ≡ cleared (g r) b first m g c j
+  unfolding around
+  around-other c j d = rw (ne-eqb c r d)
+
+  -- it may be added to itself too, if it is put back
+  pub around-back : (k : Matrix) → ((j : ℕ) → k r j ≡ g r j) → ((c j : ℕ) → (c ≡ r → ⊥) → k c j ≡ cleared (g r) b first m g c j) → k ≡ around first m r b g
+  around-back k own else = fun-ext (λ c. fun-ext (λ j. elim (ℕ-discrete c r) [
+    | yes q ↦ rw q (own j ∙ sym (around-at j))
+    | no d ↦ else c j d ∙ sym (around-other c j d)
+  ]))
+
+module _ (g : Matrix) (first m r b : ℕ) (fr : first ≤ r) (rm : r < m) where
+  pub around-own : (j : ℕ) → around first m r b g r j ≡ g r j
+  around-own = around-at g first m r b
 
   pub around-else : (c j : ℕ) → first ≤ c → c < m → (c ≡ r → ⊥) → around first m r b g c j ≡ xor (g c j) (when (g c b) (g r) j)
-  unfolding around
-  around-else c j f l d = elim (decLt c r) [
-    | yes k ↦ cleared-out (g r) b upper (r + 1) m c j (λ x y. omega arith) ∙ cleared-in (g r) b g first r c j f k
-    | no k ↦ cleared-in (g r) b upper (r + 1) m c j (omega arith) l
-        ∙ rw (cleared-out (g r) b g first r c j (λ x y. omega arith), cleared-out (g r) b g first r c b (λ x y. omega arith))
-  ]
+  around-else c j f l d = around-other g first m r b c j d ∙ cleared-in (g r) b g first m c j f l
 
   pub around-out : (c j : ℕ) → (first ≤ c → c < m → ⊥) → around first m r b g c j ≡ g c j
-  unfolding around
-  around-out c j d = cleared-out (g r) b upper (r + 1) m c j (λ x y. d (omega arith) y) ∙ cleared-out (g r) b g first r c j (λ x y. d x (omega arith))
+  around-out c j d = around-other g first m r b c j (λ q. d (omega arith) (omega arith)) ∙ cleared-out (g r) b g first m c j d
 
   pub around-same : (n : ℕ) → Same g (around first m r b g) n m
   around-same n = plus-same g (around first m r b g) n m r rm around-own (λ c l d. elim (decLt c first) [

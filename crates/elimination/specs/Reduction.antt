@@ -35,7 +35,7 @@ lifted p r g = cond (eqb p r) g (plus r (g p) g)
 
 -- check r is added to each other check from `first` up to m that contains bit b
 unfoldable pub around : ℕ → ℕ → ℕ → ℕ → Matrix → Matrix
-around first m r b g = cleared (g r) b (r + 1) m (cleared (g r) b first r g)
+around first m r b g i j = cond (eqb i r) (g i j) (cleared (g r) b first m g i j)
 
 -- Of the columns below b, those of the bits e are reduced. Each check c below r has a pivot, `at c`, a bit of e; the pivots rise.
 -- No other check contains it, and check c contains no lower bit of e. The checks from r on contain no bit of e below b.

@@ -50,29 +50,16 @@ fn clear_rows(rows: &mut [u64], width: usize, first: usize, end: usize, row: &[u
     }
 }
 
-// The same: where the number of words is known beforehand, it is quicker. Given checks have one or two, the checks of a few splits three, and
-// those of all splits eight. The row is passed by value: it is then known not to be one of the rows, and several of its words are added at once.
-pub fn clear(rows: &mut [u64], width: usize, first: usize, end: usize, row: [u64; 16], b: usize)
-    requires { ⌜ (first ≤ end) × (end * width ≤ length (now rows)) × (width ≤ 8) × (b < width * 64) × Blank width row ⌝ }
-    ensures { λ _. ⌜ lent width (now (rows .exit)) ≡ cleared (lent width row 1) b first end (lent width (now (rows .entry))) ⌝ }
+// The same: of three words, as the checks of a few splits have, it is quicker where their number is known beforehand.
+pub fn clear(rows: &mut [u64], width: usize, first: usize, end: usize, row: &[u64], b: usize)
+    requires { ⌜ (first ≤ end) × (end * width ≤ length (now rows)) × (width ≤ 8) × (b < width * 64) × Blank width (now row) ⌝ }
+    ensures { λ _. ⌜ lent width (now (rows .exit)) ≡ cleared (lent width (now (row .entry)) 1) b first end (lent width (now (rows .entry))) ⌝ }
 {
-    if width == 1 {
-        clear_rows(rows, 1, first, end, &row, b);
-        return;
-    }
-    if width == 2 {
-        clear_rows(rows, 2, first, end, &row, b);
-        return;
-    }
     if width == 3 {
-        clear_rows(rows, 3, first, end, &row, b);
+        clear_rows(rows, 3, first, end, row, b);
         return;
     }
-    if width == 8 {
-        clear_rows(rows, 8, first, end, &row, b);
-        return;
-    }
-    clear_rows(rows, width, first, end, &row, b);
+    clear_rows(rows, width, first, end, row, b);
 }
 
 // The first check from `first` on that contains bit `b`, or `checks` if none does.

@@ -37,5 +37,8 @@ pub fn gather(words: &[u64], width: usize, checks: usize, set: &[u64], rows: &mu
     if width == 3 {
         return gather_in(words, 3, checks, set, rows);
     }
+    if width == 4 {
+        return gather_in(words, 4, checks, set, rows);
+    }
     gather_in(words, width, checks, set, rows)
 }

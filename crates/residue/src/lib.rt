@@ -4,6 +4,7 @@ pub mod gather;
 mod pivots;
 
 use crate::eliminate::eliminate;
+use elimination::width_of;
 use rows::words_of;
 use sets::size;
 use steps::result::agree;
@@ -14,7 +15,7 @@ ghost use Rattle.parity.specs.Matrix.{lent};
 ghost use Rattle.steps.specs.Steps.{Short};
 ghost use Rattle.residue.specs.Sets.{Given, Posed, Finished};
 
-// Elimination in rows of as many words as the bits take, and writing. `eliminate` is called at two places, so that the compiler leaves it a
+// Elimination, in rows of as many words as are good for the bits, and writing. `eliminate` is called at two places, so that the compiler leaves it a
 // function of its own: its rows are then on the stack while they are used, and not while the matrix is accepted.
 fn finish_left(
     words: &[u64],
@@ -30,7 +31,7 @@ fn finish_left(
     requires { ⌜ Posed 8 (now words) bits checks (now residue) (now known) (now left) (now values) × (length (now lost) ≡ 8) × Short (length (now word)) (lent 8 (now lost) 0) ⌝ }
     ensures { λ r. ⌜ Finished (now (words .entry)) bits checks (now (lost .entry)) (now (residue .entry)) (now (known .entry)) (now (word .entry)) r (now (left .exit)) (now (values .exit)) (now (word .exit)) ⌝ }
 {
-    let width = words_of(bits);
+    let width = width_of(bits);
     if width == 8 {
         if !eliminate(words, 8, bits, checks, residue, known, left, values) {
             return false;

@@ -3,13 +3,12 @@ use mathlib.Core.Path.{refl, ap, _∙_}
 use native.Mathlib.Omega.{arith}
 use lib.ListN.{length}
 use borrow.Author.Tests.{not-true, not-false}
-use Rattle.residue.proofs.Solving.{width-few}
 use borrow.Author.Needs.{needs}
 use Rattle.residue.proofs.finish_left.Statement.{statement}
 use Rattle.residue.proofs.finish_left.Tie as tie
 
-words-of-requires : tie.Need-words-of-requires
-words-of-requires c κs = c .before .before .before .before .before .before .before .pre .0 .given .bits
+width-of-requires : tie.Need-width-of-requires
+width-of-requires c κs = c .before .before .before .before .before .before .before .pre .0 .given .bits
 
 eliminate-requires : tie.Need-eliminate-requires
 eliminate-requires c κs = c .before .before .before .before .before .before .before .before .before .before .before .pre .0
@@ -50,8 +49,8 @@ eliminate-requires-2 : tie.Need-eliminate-requires-2
 eliminate-requires-2 c κs =
     let s = c .before .before .before .before .before .before .before .before .before .before .before in
     let P = s .pre .0 in
-    let w = c .before .before .before .words-of in
-    record { given = P .given; even = P .even; narrow = width-few (s .args .bits) (w .result) (w .ensures .1) (P .given .bits); wide = w .ensures .0 }
+    let w = c .before .before .before .width-of in
+    record { given = P .given; even = P .even; narrow = w .ensures .1; wide = w .ensures .0 }
 
 same-length-6 : tie.Need-same-length-6
 same-length-6 c = search needs
@@ -89,7 +88,7 @@ pub finish-left-spec : {M : Type 1} → statement M
 finish-left-spec =
     tie.close
     (tie.spec
-    words-of-requires
+    width-of-requires
     eliminate-requires
     same-length
     same-length-2

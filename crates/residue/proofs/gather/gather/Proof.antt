@@ -31,13 +31,22 @@ returns-3 : tie.Need-returns-3
 returns-3 c = rw (c .before .before .before .before .if3 .taken) (c .before .before .gather-in3 .ensures)
 
 gather-in-requires-4 : tie.Need-gather-in-requires-4
-gather-in-requires-4 c κs = search needs
+gather-in-requires-4 c κs = rw (c .before .if4 .taken) at (c .before .before .before .before .before .before .before .before .pre)
 
 same-length-4 : tie.Need-same-length-4
 same-length-4 c = search needs
 
 returns-4 : tie.Need-returns-4
-returns-4 c = search needs
+returns-4 c = rw (c .before .before .before .before .if4 .taken) (c .before .before .gather-in4 .ensures)
+
+gather-in-requires-5 : tie.Need-gather-in-requires-5
+gather-in-requires-5 c κs = search needs
+
+same-length-5 : tie.Need-same-length-5
+same-length-5 c = search needs
+
+returns-5 : tie.Need-returns-5
+returns-5 c = search needs
 
 pub gather-spec : {M : Type 1} → statement M
 gather-spec =
@@ -54,4 +63,7 @@ gather-spec =
     returns-3
     gather-in-requires-4
     same-length-4
-    returns-4)
+    returns-4
+    gather-in-requires-5
+    same-length-5
+    returns-5)

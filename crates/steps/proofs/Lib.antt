@@ -1,3 +1,4 @@
+pub mod Offsets
 pub mod Seen
 pub mod Held
 pub mod Start

@@ -1,15 +1,26 @@
 -- A list of checks that may still have an erased bit, of N bits and M checks: its first k, and those from place a on, of n. Assumes nothing.
 use mathlib.Core.Path.{_≡_}
-use mathlib.Core.Bool.{Bool}
+use mathlib.Core.Bool.{Bool, true, _&&_}
 use mathlib.Core.List.{List}
 use mathlib.Core.Logic.{_⊎_}
-use Prim.Native.Nat.{ℕ, _≤_, _<_}
+use Prim.Native.Nat.{ℕ, _+_, _*_, _^_, _≤_, _<_}
 use lib.ListN.{getD}
-use Rattle.parity.specs.Matrix.{Matrix}
+use Rattle.parity.specs.Matrix.{Matrix, bitOf, lent}
 use Rattle.parity.specs.Words.{inside}
 use Rattle.steps.specs.declared.live.Alone.{Alone}
 use Rattle.steps.specs.declared.live.Alone.the-variants.{Found, Nothing}
 use Rattle.steps.specs.Next.{Lone}
+
+-- check c has an erased bit at offset j of one of its first U words, where a row has W
+pub record Offset (W U : ℕ) (ws es : List ℕ) (c j : ℕ) : Type 0 where
+  pub word : ℕ
+  pub few : word < U
+  pub here : (lent W ws c (word * 64 + j) && lent W es 0 (word * 64 + j)) ≡ true
+
+-- and so at each offset that is a one of x
+pub record Offsets (W U : ℕ) (ws es : List ℕ) (c x : ℕ) : Type 0 where
+  pub fits : x < 2 ^ 64
+  pub at : (j : ℕ) → j < 64 → bitOf x j ≡ true → Offset W U ws es c j
 
 -- the list's first M are the checks below M
 pub record Listed (M : ℕ) (l : List ℕ) : Type 0 where

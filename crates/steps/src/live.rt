@@ -4,11 +4,11 @@ use parity::Bit;
 use parity::Check;
 use rows::wide;
 ghost use mathlib.Core.Path.{_≡_};
-ghost use Prim.Native.Nat.{_*_, _≤_};
+ghost use Prim.Native.Nat.{_*_, _≤_, _<_};
 ghost use lib.ListN.{length};
 ghost use Rattle.parity.specs.Matrix.{lent};
 ghost use Rattle.steps.specs.Steps.{Short};
-ghost use Rattle.steps.specs.Live.{Live, NextAlone, Listed};
+ghost use Rattle.steps.specs.Live.{Live, NextAlone, Listed, Offsets};
 
 // A check with exactly one erased bit, that bit, the check's place in the list, and how many checks before it are kept; or how many are kept of all.
 pub enum Alone {
@@ -33,8 +33,21 @@ pub fn list(checks: usize, live: &mut [u16])
     }
 }
 
+// The offsets, that is the numbers modulo 64, of the erased bits of check `c` in its first `used` words.
+fn offsets(words: &[u64], used: usize, c: usize, erased: &[u64]) -> u64
+    requires { ⌜ (length (now words) ≡ 4096) × (c < 512) × (length (now erased) ≡ 8) × (used ≤ 8) ⌝ }
+    ensures { λ r. ⌜ Offsets 8 used (now (words .entry)) (now (erased .entry)) c r ⌝ }
+{
+    let mut x: u64 = 0;
+    for i in 0..used {
+        x = x | (words[c * 8 + i] & erased[i]);
+    }
+    x
+}
+
 // The next check of the list's first `count`, from place `from` on, with exactly one erased bit; these are in the first `used` words, so that `used * 64` is
-// none of them. A check with a second one is kept, from place `kept` on.
+// none of them. A check with a second one is kept, from place `kept` on. Nearly always its second erased bit has another offset than the first, and so
+// the offsets of all words are gone through before the bits of each word: the processor foresees where that ends.
 pub fn next_alone(
     words: &[u64],
     used: usize,
@@ -55,6 +68,18 @@ pub fn next_alone(
             break 'scan Alone::Nothing(k);
         }
         let c = number(live[at]);
+        let mut y = offsets(words, used, c, erased);
+        let mut seen = false;
+        'offsets: while y != 0 {
+            if seen {
+                live[k] = live[at];
+                k += 1;
+                at += 1;
+                continue 'scan;
+            }
+            seen = true;
+            y = y & (y - 1);
+        }
         let mut b = used * 64;
         'row: for i in 0..used {
             let mut x = words[c * 8 + i] & erased[i];

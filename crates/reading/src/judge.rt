@@ -101,11 +101,14 @@ fn bits_singly(source: &[u32], n: usize, from: usize, count: usize) -> usize
     count
 }
 
-// The same. Where they all are, it is found without looking for the first that is not.
+// The same. Where they all are, it is found without looking for the first that is not; for fewer than eight, which are decided at once, word by word is quicker.
 fn bits(source: &[u32], n: usize, from: usize, count: usize) -> usize
     requires { ⌜ (from + count ≤ length (now source)) × (1 ≤ from) × (count < 256) ⌝ }
     ensures { λ r. ⌜ BitsRead n (now (source .entry)) from count r ⌝ }
 {
+    if count < 8 {
+        return bits_singly(source, n, from, count);
+    }
     if all_bits(source, n, from, count) {
         return count;
     }

@@ -7,8 +7,8 @@ use crate::fault::Fault;
 use crate::files::{self, Format};
 use crate::measure::{measure, Channel, Plan, Point};
 use crate::places;
+use crate::plot::{self, Axis, Dot, Group, Panel, Picture};
 use crate::soft::ROUNDS;
-use crate::svg::{self, Axis, Dot, Group, Picture};
 use crate::table::{self, Columns, Rows};
 use parity::{Refusal, ROUNDS_MOST};
 use std::path::{Path, PathBuf};
@@ -23,6 +23,13 @@ const SEED: u64 = 1;
 pub enum Over {
     Erasures,
     Noise { rounds: usize },
+}
+
+/// What shares are of.
+#[derive(Clone, Copy, PartialEq, Eq, Debug)]
+pub enum Of {
+    Bits,
+    Words,
 }
 
 const ERASURES: Columns =
@@ -61,17 +68,17 @@ impl Over {
     }
 
     /// What the shares are, and what is said where all are 0.
-    fn what(self, blocks: bool) -> (&'static str, &'static str) {
-        match (self, blocks) {
-            (Over::Erasures, false) => ("share of sent bits left", "no bit is left at any erasure rate"),
-            (Over::Erasures, true) => ("share of words not wholly recovered", "every word is wholly recovered"),
-            (Over::Noise { .. }, false) => ("bit error rate", "no error was seen"),
-            (Over::Noise { .. }, true) => ("word error rate", "no error was seen"),
+    fn what(self, of: Of) -> (&'static str, &'static str) {
+        match (self, of) {
+            (Over::Erasures, Of::Bits) => ("share of sent bits left", "no bit is left at any erasure rate"),
+            (Over::Erasures, Of::Words) => ("share of words not wholly recovered", "every word is wholly recovered"),
+            (Over::Noise { .. }, Of::Bits) => ("bit error rate", "no error was seen"),
+            (Over::Noise { .. }, Of::Words) => ("word error rate", "no error was seen"),
         }
     }
 
     /// The words at each point, as the picture says them.
-    fn counted(self, plan: Plan) -> String {
+    pub fn counted(self, plan: Plan) -> String {
         let Plan { words, seed, errors } = plan;
         let (at, rounds) = match self {
             Over::Erasures => ("at each rate", String::new()),
@@ -110,8 +117,7 @@ impl Measured {
         if over != Over::Erasures && setup.rank == setup.given.n {
             return Err(Fault::file(path, "the code has rate 0, so that no Eb/N0 is its own"));
         }
-        let threads = thread::available_parallelism().map_or(1, |cores| cores.get());
-        Measured::new(&files::title(path), setup, over, plan, threads).map_err(refused)
+        Measured::new(&files::title(path), setup, over, plan, threads()).map_err(refused)
     }
 
     /// The points, each with its place on the axis.
@@ -123,23 +129,35 @@ impl Measured {
         Rows { name: &self.name, n: self.setup.given.n, ways: self.ways, points: self.placed() }
     }
 
-    fn sizes(&self) -> String {
+    pub fn sizes(&self) -> String {
         let Setup { given, extended, rank } = &self.setup;
         let (n, m, k, rate) = (given.n, given.m, extended.k, self.setup.rate());
         format!("{n} bits, {m} checks, rank {rank}, rate {rate:.3}, k = {k}")
     }
 
-    fn group(&self, blocks: bool) -> Group {
+    fn group(&self) -> Group {
+        let limit = (self.over == Over::Erasures).then(|| 1.0 - self.setup.rate());
+        Group { name: self.name.clone(), sizes: self.sizes(), limit }
+    }
+
+    /// A curve for each way.
+    pub fn curves(&self, of: Of) -> Vec<Vec<Dot>> {
         let dot = |way: usize, at: f64, point: &Point| {
             let (left, words) = (&point.left[way], point.words);
-            let found = if blocks { left.of_words(words) } else { left.of_bits(words, self.setup.given.n) };
+            let found = match of {
+                Of::Bits => left.of_bits(words, self.setup.given.n),
+                Of::Words => left.of_words(words),
+            };
             Dot { at, found, seen: left.words }
         };
         let curve = |way: usize| self.placed().iter().map(|(at, point)| dot(way, *at, point)).collect();
-        let curves = (0..self.ways).map(curve).collect();
-        let limit = (self.over == Over::Erasures).then(|| 1.0 - self.setup.rate());
-        Group { name: self.name.clone(), sizes: self.sizes(), limit, curves }
+        (0..self.ways).map(curve).collect()
     }
+}
+
+/// All cores are used.
+pub fn threads() -> usize {
+    thread::available_parallelism().map_or(1, |cores| cores.get())
 }
 
 /// The table: a line for each matrix and point.
@@ -147,23 +165,25 @@ pub fn csv(over: Over, all: &[Measured]) -> String {
     table::csv(over.columns(), &all.iter().map(Measured::rows).collect::<Vec<_>>())
 }
 
-/// The picture of what was counted, of bits or of words.
-pub fn picture(over: Over, all: &[Measured], plan: Plan, blocks: bool) -> Picture {
+/// The picture of what was counted, with a panel for each kind of share.
+pub fn picture(over: Over, all: &[Measured], plan: Plan, kinds: &[Of]) -> Picture {
     let names: Vec<&str> = all.iter().map(|measured| measured.name.as_str()).collect();
     let subtitle = match all {
         [one] => format!("{}; {}", one.sizes(), over.counted(plan)),
         _ => over.counted(plan),
     };
-    let (what, nothing) = over.what(blocks);
+    let panel = |&of: &Of| {
+        let (what, nothing) = over.what(of);
+        Panel { what, nothing, curves: all.iter().map(|measured| measured.curves(of)).collect() }
+    };
     let ways = all.iter().map(|measured| measured.ways).max().unwrap_or_default();
     Picture {
         title: names.join(", "),
         subtitle,
-        what,
-        nothing,
         axis: over.axis(),
         ways: &over.columns().ways[..ways],
-        groups: all.iter().map(|measured| measured.group(blocks)).collect(),
+        groups: all.iter().map(Measured::group).collect(),
+        panels: kinds.iter().map(panel).collect(),
     }
 }
 
@@ -187,18 +207,32 @@ fn over(args: &mut Args) -> Result<Over, Fault> {
     }
 }
 
-pub fn run(mut args: Args) -> Result<u8, Fault> {
-    let (from, blocks, over) = (args.format("--from")?, args.flag("--blocks"), over(&mut args)?);
-    let (out, table) = (args.path("--out")?, args.path("--csv")?);
-    let words = args.number("--words", 1, WORDS_MOST)?.unwrap_or(WORDS);
+/// What is drawn: what the options name, and without one bits over erasures, and both over noise.
+fn kinds(over: Over, bits: bool, blocks: bool) -> &'static [Of] {
+    match (bits, blocks) {
+        (true, false) => &[Of::Bits],
+        (false, true) => &[Of::Words],
+        (false, false) if over == Over::Erasures => &[Of::Bits],
+        _ => &[Of::Bits, Of::Words],
+    }
+}
+
+/// How many words are sent, and which.
+pub fn plan(args: &mut Args, words: u64) -> Result<Plan, Fault> {
+    let words = args.number("--words", 1, WORDS_MOST)?.unwrap_or(words);
     let seed = args.number("--seed", 0, u64::MAX)?.unwrap_or(SEED);
-    let errors = args.number("--errors", 1, WORDS_MOST)?;
-    let paths = args.several(svg::MATRICES.len())?;
+    Ok(Plan { words, seed, errors: args.number("--errors", 1, WORDS_MOST)? })
+}
+
+pub fn run(mut args: Args) -> Result<u8, Fault> {
+    let (from, over) = (args.format("--from")?, over(&mut args)?);
+    let kinds = kinds(over, args.flag("--bits"), args.flag("--blocks"));
+    let (out, table, plan) = (args.path("--out")?, args.path("--csv")?, plan(&mut args, WORDS)?);
+    let paths = args.several(plot::MATRICES.len())?;
     let Some(out) = out else { return Err(Fault::usage("curve needs --out and the name of a picture; see --help")) };
     apart(&paths, &out, table.as_ref())?;
-    let plan = Plan { words, seed, errors };
     let all = paths.iter().map(|path| Measured::of_file(path, from, over, plan)).collect::<Result<Vec<_>, _>>()?;
-    files::write(&out, svg::draw(&picture(over, &all, plan, blocks)).as_bytes())?;
+    files::write(&out, plot::draw(&picture(over, &all, plan, kinds)).as_bytes())?;
     if let Some(table) = table {
         files::write(&table, csv(over, &all).as_bytes())?;
     }

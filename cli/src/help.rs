@@ -222,8 +222,8 @@ wrong arguments; 4 some line is no word.
 ";
 
 pub const CURVE: &str = "\
-parity curve FILE.. --out SVG [--channel erasure|awgn] [--rounds R] [--blocks]
-                    [--csv CSV] [--words N] [--errors E] [--seed S]
+parity curve FILE.. --out SVG [--channel erasure|awgn] [--rounds R] [--bits]
+                    [--blocks] [--csv CSV] [--words N] [--errors E] [--seed S]
                     [--from FORMAT]
 
 Draws the share of sent bits left over the erasure rate, 0.02 to 1 in steps of
@@ -233,15 +233,17 @@ minus the rate of the code. Up to 6 matrices stand in one picture, each in its
 colour. Random codewords are sent, N at each rate; all cores are used, and the
 numbers do not depend on how many there are.
 
-With --channel awgn it draws the bit error rate over Eb/N0, 0 to 8 dB in steps
-of 0.5, by R min-sum rounds with the given matrix and with the orthogonalised
-one, and, where the rank is at most 11, by the best decision on each bit that
-there is. A bit that is not decided counts as wrong.
+With --channel awgn it draws the bit error rate, and below it the word error
+rate, over Eb/N0, 0 to 8 dB in steps of 0.5, by R min-sum rounds with the given
+matrix and with the orthogonalised one, and, where the rank is at most 11, by
+the best decision on each bit that there is. A bit that is not decided counts as
+wrong.
 
   --out SVG  the picture
   --csv CSV  the numbers behind it, of bits and of words
+  --bits     draws the share of sent bits left, or the bit error rate
   --blocks   draws the share of words that are not wholly recovered, or the
-             word error rate
+             word error rate; with --bits both stand in one picture
   --rounds R 1 to 512 rounds, with --channel awgn (50)
   --words N  words at each point, 1 to 100000000 (10000)
   --errors E a point ends early, with the hundred of words after which every way

@@ -6,13 +6,13 @@ use crate::random::Random;
 use crate::support::{alist, examples, folder, golden, run, runs, shell};
 use crate::xml;
 use cli::awgn::{self, variance, Noisy, POINTS};
-use cli::curve::{csv, picture, Measured, Over};
+use cli::curve::{csv, picture, Measured, Of, Over};
 use cli::dual::Dual;
 use cli::erasures::{Draw, Setup, RATES};
 use cli::files::{take, Format};
 use cli::interval::Count;
 use cli::measure::{measure, Plan, Point, CHUNK};
-use cli::svg;
+use cli::plot;
 use std::fs;
 use std::path::Path;
 
@@ -110,7 +110,7 @@ fn pictures() {
         assert_eq!(csv(Over::Erasures, &all).lines().count(), 51);
         for name in ["a & b <c> 'd' \"e\".alist", "\u{1}\u{ffff}\n", &"long".repeat(100)] {
             all[0].name = name.to_string();
-            let drawn = svg::draw(&picture(Over::Erasures, &all, plan, false));
+            let drawn = plot::draw(&picture(Over::Erasures, &all, plan, &[Of::Bits]));
             assert_eq!(xml::check(&drawn), Ok(()), "{name}");
             assert!(drawn.contains(says), "{drawn}");
         }
@@ -145,6 +145,14 @@ fn several() {
     let words = fs::read_to_string(out.join("all.svg")).expect("a picture");
     assert_eq!(xml::check(&words), Ok(()));
     assert!(words.contains(">share of words not wholly recovered<") && words != bits);
+    runs(&out, &[&["curve", "--bits"], &files[..], &plan].concat());
+    assert_eq!(fs::read_to_string(out.join("all.svg")).expect("a picture"), bits, "bits without an option");
+    runs(&out, &[&["curve", "--bits", "--blocks"], &files[..], &plan].concat());
+    let both = fs::read_to_string(out.join("all.svg")).expect("a picture");
+    assert_eq!(xml::check(&both), Ok(()));
+    for part in [">share of words not wholly recovered<", ">share of sent bits left<"] {
+        assert!(both.contains(part), "{part}");
+    }
 }
 
 /// A point ends with the first chunk after which every way has left enough, whatever the number of threads.
@@ -204,17 +212,29 @@ fn noise() {
     runs(&out, &[&["curve"], &files[..], &plan].concat());
     let found = fs::read_to_string(out.join("all.csv")).expect("a table");
     assert_eq!(found, fs::read_to_string(golden().join("noise.csv")).expect("a table"));
-    let drawn = |what: &str| {
+    let drawn = |what: &str, panels: usize| {
         let text = fs::read_to_string(out.join("all.svg")).expect("a picture");
         assert_eq!(xml::check(&text), Ok(()));
+        assert_eq!(text.matches(">Eb/N0 in dB<").count(), panels);
         for part in [what, ">Eb/N0 in dB<", ">best<", ">hamming-31.alist: 31 bits, 5 checks", "20 words at each point"]
         {
             assert!(text.contains(part), "{part}");
         }
     };
-    drawn(">bit error rate<");
-    runs(&out, &[&["curve", "--blocks"], &files[..], &plan].concat());
-    drawn(">word error rate<");
+    drawn(">bit error rate<", 2);
+    drawn(">word error rate<", 2);
+    drawn(" The bit error rate. At 2: given ", 2);
+    let both = fs::read(out.join("all.svg")).expect("a picture");
+    for (options, what, panels) in [
+        (&["--blocks"][..], ">word error rate<", 1),
+        (&["--bits"], ">bit error rate<", 1),
+        (&["--blocks", "--bits"], ">word error rate<", 2),
+    ] {
+        runs(&out, &[&["curve"], options, &files[..], &plan].concat());
+        drawn(what, panels);
+        assert_eq!(fs::read(out.join("all.svg")).expect("a picture") == both, panels == 2, "{options:?}");
+        assert_eq!(fs::read_to_string(out.join("all.csv")).expect("a table"), found, "the table has both");
+    }
     fs::write(out.join("zero.txt"), "10\n01\n").expect("a file");
     let refused = run(&out, &["curve", "zero.txt", "--channel", "awgn", "--out", "zero.svg"], b"");
     let due = "parity: zero.txt: the code has rate 0, so that no Eb/N0 is its own\n";

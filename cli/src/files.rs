@@ -31,6 +31,15 @@ impl Format {
         }
     }
 
+    /// The name that `--from` and `--to` take.
+    pub fn name(self) -> &'static str {
+        match self {
+            Format::Alist => "alist",
+            Format::Text => "text",
+            Format::Record => "record",
+        }
+    }
+
     /// The format of a file's extension.
     pub fn by_extension(path: &Path) -> Option<Format> {
         Format::named(&path.extension()?.to_str()?.to_ascii_lowercase())

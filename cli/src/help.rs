@@ -17,6 +17,7 @@ calls.
   parity explain FILE         why each erased bit is recovered or not
   parity soft FILE            min-sum rounds on words of soft bits
   parity curve FILE.. --out SVG  what is left of words over losses or noise
+  parity report FILE --out HTML  all of this about a matrix on one page
   parity COMMAND --help       the options of a command
   parity --version
 
@@ -258,4 +259,28 @@ SVG and CSV must be two files, and neither may be a FILE.
 
 Exit status: 0 written; 1 a FILE cannot be read or taken, or a file not written;
 2 wrong arguments.
+";
+
+pub const REPORT: &str = "\
+parity report FILE --out HTML [--words N] [--errors E] [--seed S]
+                   [--from FORMAT]
+
+Writes one page about the matrix, which needs no network, no script and no other
+file: what inspect says, the matrix as dots before and after orthogonalising,
+small stopping sets as marked columns, the Tanner graph where n is at most 40,
+and the curves of bits and of words over the erasure rate. Where there is no
+stopping set of 1 to 4 bits it shows the smallest that searches by peeling find.
+Of a record with splits the page is about the checks before its splits, and
+orthogonalising goes on from them, as inspect has it.
+
+  --out HTML the page
+  --words N  words at each erasure rate, 1 to 100000000 (1000)
+  --errors E a rate ends early, as with curve
+  --seed S   other words for another number (1)
+
+The page is the same for any number of cores. HTML must be another file than
+FILE.
+
+Exit status: 0 written; 1 FILE cannot be read or taken, or HTML not written; 2
+wrong arguments.
 ";

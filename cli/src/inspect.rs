@@ -7,24 +7,15 @@ use crate::json;
 use crate::matrix::{Extended, Matrix};
 use crate::output;
 use crate::remarks;
+use crate::stopping::{self, Sets};
 use parity::{Refusal, SET_SIZE_MOST};
 use std::collections::BTreeMap;
-
-/// How many stopping sets of a size are shown.
-const FIRST: usize = 5;
 
 const SET_NAMES: [&str; SET_SIZE_MOST] =
     ["stopping sets of 1 bit", "stopping sets of 2 bits", "stopping sets of 3 bits", "stopping sets of 4 bits"];
 
-/// The stopping sets of a size: how many there are, and the first few.
-pub struct Sets {
-    pub size: usize,
-    pub count: usize,
-    pub first: Vec<Vec<u16>>,
-}
-
 /// The given matrix, without the splits that its file carries, and the matrix orthogonalised from these splits on.
-pub struct Report {
+pub struct Findings {
     pub given: Matrix,
     pub carried: usize,
     pub rank: usize,
@@ -41,41 +32,30 @@ pub fn run(mut args: Args) -> Result<u8, Fault> {
     let (from, as_json) = (args.format("--from")?, args.flag("--json"));
     let [path] = args.files(["FILE"])?;
     let matrix = files::read(&path, from)?;
-    let report = report(&matrix).map_err(|refusal| files::refused(&path, refusal))?;
+    let found = findings(&matrix).map_err(|refusal| files::refused(&path, refusal))?;
     let name = files::name(&path);
-    output::text(&if as_json { report.json(&name) } else { report.text(&name) })
+    output::text(&if as_json { found.json(&name) } else { found.text(&name) })
 }
 
-pub fn report(matrix: &Matrix) -> Result<Report, Refusal> {
+pub fn findings(matrix: &Matrix) -> Result<Findings, Refusal> {
     let given = matrix.given()?;
     let extended = matrix.extended()?;
     let rank = given.rank()?;
-    Ok(Report {
+    Ok(Findings {
         carried: matrix.k,
         rank,
         message_bits: given.message_bits()?,
         remarks: remarks::of(&given, rank),
         cycles: given.count()?,
-        sets: (1..=SET_SIZE_MOST).map(|size| sets(&given, size)).collect::<Result<_, _>>()?,
+        sets: stopping::listed(&given)?,
         cycles_left: extended.matrix.count()?,
         given,
         extended,
     })
 }
 
-/// The stopping sets of a size. The first call says how many places their list needs.
-fn sets(given: &Matrix, size: usize) -> Result<Sets, Refusal> {
-    let mut places = match parity::stopping_sets(&given.words, given.n, given.m, 0, size, &mut []) {
-        Err(Refusal::SetsShort { needed }) => vec![0; needed],
-        Err(refusal) => return Err(refusal),
-        Ok(_) => Vec::new(),
-    };
-    let all = parity::stopping_sets(&given.words, given.n, given.m, 0, size, &mut places)?;
-    Ok(Sets { size, count: all.len(), first: all.take(FIRST).map(<[u16]>::to_vec).collect() })
-}
-
 /// The weights of the checks and those of the bits.
-fn weights(given: &Matrix) -> (Vec<usize>, Vec<usize>) {
+pub fn weights(given: &Matrix) -> (Vec<usize>, Vec<usize>) {
     let rows = given.rows();
     let mut bits = vec![0; given.n];
     rows.iter().flatten().for_each(|&bit| bits[bit] += 1);
@@ -83,10 +63,15 @@ fn weights(given: &Matrix) -> (Vec<usize>, Vec<usize>) {
 }
 
 /// Each weight that is met, and how often.
-fn tally(weights: &[usize]) -> String {
+pub fn met(weights: &[usize]) -> BTreeMap<usize, usize> {
     let mut met = BTreeMap::new();
-    weights.iter().for_each(|weight| *met.entry(weight).or_insert(0) += 1);
-    let met: Vec<String> = met.iter().map(|(weight, times)| format!("{times} of weight {weight}")).collect();
+    weights.iter().for_each(|weight| *met.entry(*weight).or_insert(0) += 1);
+    met
+}
+
+/// The same in words.
+pub fn tally(weights: &[usize]) -> String {
+    let met: Vec<String> = met(weights).iter().map(|(weight, times)| format!("{times} of weight {weight}")).collect();
     if met.is_empty() {
         "none".to_string()
     } else {
@@ -95,7 +80,7 @@ fn tally(weights: &[usize]) -> String {
 }
 
 /// Rising numbers, those in a row as the first and the last of them.
-fn ranges(numbers: &[usize]) -> String {
+pub fn ranges(numbers: &[usize]) -> String {
     let rows = numbers.chunk_by(|one, next| one + 1 == *next);
     let shown = |row: &[usize]| match row {
         [first, .., last] => format!("{first}-{last}"),
@@ -109,27 +94,13 @@ fn ranges(numbers: &[usize]) -> String {
     }
 }
 
-impl Sets {
-    fn text(&self) -> String {
-        let list = |set: &Vec<u16>| set.iter().map(u16::to_string).collect::<Vec<_>>().join(" ");
-        let first: String = self.first.iter().map(|set| format!(" {{{}}}", list(set))).collect();
-        let more = if self.count > self.first.len() { " .." } else { "" };
-        format!("{}{first}{more}", self.count)
-    }
-
-    fn json(&self) -> String {
-        let (size, count) = (self.size.to_string(), self.count.to_string());
-        json::object(&[("size", size), ("count", count), ("first", json::list(self.first.iter().map(json::list)))])
-    }
-}
-
-impl Report {
+impl Findings {
     pub fn rate(&self) -> f64 {
         (self.given.n - self.rank) as f64 / self.given.n as f64
     }
 
     pub fn text(&self, name: &str) -> String {
-        let Report { given, carried, rank, cycles, extended, cycles_left, .. } = self;
+        let Findings { given, carried, rank, cycles, extended, cycles_left, .. } = self;
         let (n, message, rate) = (given.n, given.n - rank, self.rate());
         let (checks, bits) = weights(given);
         let mut lines = vec![
@@ -145,7 +116,8 @@ impl Report {
             ("message bits", ranges(&self.message_bits)),
             ("cycle count", cycles.to_string()),
         ];
-        lines.extend(SET_NAMES.into_iter().zip(self.sets.iter().map(Sets::text)));
+        lines
+            .extend(SET_NAMES.into_iter().zip(self.sets.iter().map(|sets| format!("{}{}", sets.count, sets.listed()))));
         lines.extend(self.remarks.iter().map(|remark| ("remark", remark.clone())));
         lines.extend([
             ("orthogonalised:", String::new()),
@@ -159,7 +131,7 @@ impl Report {
     }
 
     pub fn json(&self, name: &str) -> String {
-        let Report { given, carried, rank, cycles, sets, extended, cycles_left, .. } = self;
+        let Findings { given, carried, rank, cycles, sets, extended, cycles_left, .. } = self;
         let (checks, bits) = weights(given);
         let after = json::object(&[
             ("complete", extended.complete.to_string()),

@@ -5,9 +5,11 @@
 pub mod alist;
 pub mod args;
 pub mod awgn;
+pub mod bars;
 pub mod certificates;
 pub mod convert;
 pub mod curve;
+pub mod dots;
 pub mod dual;
 pub mod encode;
 pub mod erase;
@@ -18,6 +20,7 @@ pub mod fault;
 pub mod files;
 pub mod frame;
 pub mod help;
+pub mod html;
 pub mod inspect;
 pub mod interval;
 pub mod json;
@@ -28,6 +31,7 @@ pub mod mend;
 pub mod message;
 pub mod nearest;
 pub mod output;
+pub mod page;
 pub mod places;
 pub mod plot;
 pub mod progress;
@@ -35,10 +39,13 @@ pub mod random;
 pub mod record;
 pub mod remarks;
 pub mod replace;
+pub mod report;
 pub mod same;
 pub mod soft;
+pub mod stopping;
 pub mod svg;
 pub mod table;
+pub mod tanner;
 pub mod text;
 pub mod verify;
 pub mod words;
@@ -69,7 +76,7 @@ pub fn run(arguments: Vec<OsString>) -> u8 {
 type Command = fn(Args) -> Result<u8, Fault>;
 
 /// The commands: their names, and what their `--help` says.
-const COMMANDS: [(&str, Command, &str); 12] = [
+const COMMANDS: [(&str, Command, &str); 13] = [
     ("convert", convert::run, help::CONVERT),
     ("inspect", inspect::run, help::INSPECT),
     ("same", same::run, help::SAME),
@@ -82,6 +89,7 @@ const COMMANDS: [(&str, Command, &str); 12] = [
     ("explain", explain::run, help::EXPLAIN),
     ("soft", soft::run, help::SOFT),
     ("curve", curve::run, help::CURVE),
+    ("report", report::run, help::REPORT),
 ];
 
 fn names() -> [&'static str; COMMANDS.len()] {

@@ -59,6 +59,12 @@ impl Matrix {
         Ok(record)
     }
 
+    /// The pairs that were split, in order, each with the lower bit first, as the record has them.
+    pub fn splits(&self) -> Result<Vec<(usize, usize)>, Refusal> {
+        let words = self.record()?.into_iter().filter(|word| word >> 28 == 6);
+        Ok(words.map(|word| ((word & 0x1FF) as usize, (word >> 9 & 0x1FF) as usize)).collect())
+    }
+
     /// The words of a check.
     pub fn row(&self, check: usize) -> [u64; 8] {
         std::array::from_fn(|word| self.words[8 * check + word])

@@ -28,3 +28,18 @@ pub fn escaped(text: &str) -> String {
     }
     escaped
 }
+
+/// The start of a picture on a page; `told` is for a reader who does not see it.
+pub fn open((width, height): (f64, f64), told: &str) -> String {
+    format!(
+        "<svg xmlns='http://www.w3.org/2000/svg' width='{width:.0}' height='{height:.0}' \
+         viewBox='0 0 {width:.1} {height:.1}' role='img' aria-label='{told}'>\n"
+    )
+}
+
+/// The distance between the numbers of an axis, of the steps 1, 2 and 5 and their tens: the least with this room for
+/// each, where one step of the axis takes `unit`.
+pub fn step(unit: f64, room: f64) -> usize {
+    let steps = [1, 2, 5, 10, 20, 50];
+    steps.into_iter().find(|&step| step as f64 * unit >= room).unwrap_or(100)
+}

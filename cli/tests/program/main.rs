@@ -42,6 +42,7 @@ mod links;
 mod mutations;
 mod outputs;
 mod refusals;
+mod report;
 mod same;
 mod soft;
 mod streams;

@@ -81,6 +81,13 @@ fn table_keeps_the_input() {
     });
 }
 
+#[test]
+fn page_keeps_the_input() {
+    input_is_no_output("same-page", |input, out| {
+        vec!["report", input, "--from", "alist", "--words", "1", "--out", out]
+    });
+}
+
 /// Nothing is read: a file that is no matrix, and one that is missing, are refused for the output.
 #[test]
 fn refused_unread() {
@@ -150,12 +157,13 @@ fn other_files() {
 }
 
 /// Commands that write `out`, which is longer than a limit of one block.
-fn writers() -> [Vec<&'static str>; 4] {
+fn writers() -> [Vec<&'static str>; 5] {
     [
         vec!["convert", "m.alist", "out", "--to", "text"],
         vec!["extend", "m.alist", "out"],
         vec!["curve", "m.alist", "--words", "1", "--out", "out"],
         vec!["curve", "m.alist", "--words", "1", "--out", "/dev/stdout", "--csv", "out"],
+        vec!["report", "m.alist", "--words", "1", "--out", "out"],
     ]
 }
 

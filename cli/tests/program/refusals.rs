@@ -190,6 +190,9 @@ fn arguments() {
         &["curve", "c.alist", "--out", "out.svg", "--rounds", "3"],
         &["curve", "c.alist", "c.alist", "--out", "c.alist"],
         &["curve", "c.alist", "c.alist", "c.alist", "c.alist", "c.alist", "c.alist", "c.alist", "--out", "out.svg"],
+        &["report", "c.alist"],
+        &["report", "c.alist", "--out", "c.alist"],
+        &["report", "c.alist", "--out", "out.html", "--csv", "out.csv"],
         &["inspect", "two\nlines"],
     ];
     fs::write(folder.join("two\nlines"), "01\n").expect("a file");

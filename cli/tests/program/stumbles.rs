@@ -209,7 +209,7 @@ fn remarks() {
 }
 
 /// What a user mistypes, and what the program says.
-const MISTYPED: [(&[&str], &str); 35] = [
+const MISTYPED: [(&[&str], &str); 36] = [
     (&["mned", "case-c.alist"], "'mned' is no command; did you mean mend? see parity --help"),
     (&["inspcet"], "'inspcet' is no command; did you mean inspect? see parity --help"),
     (&["conv"], "'conv' is no command; did you mean convert? see parity --help"),
@@ -232,6 +232,7 @@ const MISTYPED: [(&[&str], &str); 35] = [
     (&["mend", "case-c.alist", "--by", "extend"], "--by takes given, extended, determine or block, and not 'extend'"),
     (&["convert", "a.txt", "b.txt", "--to", "csv"], "--to takes alist, text or record, and not 'csv'"),
     (&["curve", "--out", "x.svg"], "0 files are named, and 1 to 6 needed; see --help"),
+    (&["reprot", "case-c.alist"], "'reprot' is no command; did you mean report? see parity --help"),
     (&["curve", "case-c.alist", "--bit"], "'--bit' is no option here; did you mean --bits? see --help"),
     (&["curve", "case-c.alist", "--bits=1"], "--bits takes no value, and '--bits=1' has one"),
     (&["curve", "case-c.alist", "--block"], "'--block' is no option here; did you mean --blocks? see --help"),

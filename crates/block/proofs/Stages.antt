@@ -1,13 +1,13 @@
 -- What each stage of mending a block comes to, from what the calls below it come to. Assumes nothing.
-use mathlib.Core.Path.{_≡_, refl, sym, ap, _∙_}
+use mathlib.Core.Path.{_≡_, sym, ap, _∙_}
 use mathlib.Core.Bool.{true, false}
 use mathlib.Core.List.{List, [], _∷_, _++_, append-nil}
 use Prim.Native.Nat.{ℕ, _+_, _-_, _≤_}
 use native.Mathlib.Omega.{arith}
 use native.Mathlib.Decide.{ℕ-discrete}
 use lib.Dec.{eqb, ltb}
-use lib.ListN.{getD, length, take, drop, replicate, length-replicate, replicate-append-replicate, drop-of-length-le}
-use lib.Seq.{take-at, drop-at}
+use lib.ListN.{getD, length, take, drop, replicate, drop-of-length-le}
+use lib.Seq.{take-at}
 use borrow.Author.Tests.{eq-eqb, ne-eqb, le-ltb, lt-ltb}
 use Rattle.parity.specs.Causes.{Reply, answer, refusal, refusalOf, refuse, Outcome}
 use Rattle.parity.specs.Matrix.{lent}
@@ -160,13 +160,6 @@ word-refused ws n m w r e =
     let (f, l) = outcome-refused n 0 w (someAgrees h (n + 0) (m + 0) (byteOf w)) (determined h (n + 0) (m + 0) (byteOf w)) ws m r e in
     let (a, b, s) = mended-as-determined ws n m w in
     (f ∙ sym (s (not-zero r _ f)), l ∙ sym a)
-
--- a received word in 512 bytes of 2
-pub padded : (n : ℕ) (w old new : List ℕ) → length w ≡ n → n ≤ 512 → old ≡ replicate 512 2 → new ≡ w ++ drop (length w) old → new ≡ w ++ replicate (512 - n) 2
-padded n w old new l few e q =
-    let f : replicate {A = ℕ} 512 2 ≡ replicate n 2 ++ replicate (512 - n) 2 = ap (λ (j : ℕ). replicate j 2) {x = 512} {y = n + (512 - n)} (omega arith) ∙ sym (replicate-append-replicate {A = ℕ} n (512 - n) 2) in
-    q ∙ ap (λ (v : List ℕ). w ++ drop (length w) v) (e ∙ f) ∙ ap (λ (j : ℕ). w ++ drop j (replicate n 2 ++ replicate (512 - n) 2)) l
-    ∙ ap (λ (v : List ℕ). w ++ v) (drop-at (replicate n 2) (replicate (512 - n) 2) n (length-replicate {A = ℕ} n 2))
 
 -- bytes that take the place of all of a word
 pub replaced : (a w new : List ℕ) → length a ≡ length w → new ≡ a ++ drop (length a) w → new ≡ a

@@ -9,6 +9,7 @@ use parity::Refusal;
 use peel::Peeling;
 use peel::peel_admitted;
 use sets::bytes::copy_front;
+use sets::bytes::erased_behind;
 use word::admit;
 ghost use mathlib.Core.Path.{_≡_};
 ghost use mathlib.Core.Bool.{false};
@@ -31,13 +32,6 @@ enum Peelings {
     Whole { stage: u64, recovered: u64 },
     Stopped(Refusal),
     Remaining { recovered: u64 },
-}
-
-// As many erased bits as a word can have.
-fn erased_word() -> [u8; 512]
-    ensures { λ r. ⌜ r ≡ replicate 512 2 ⌝ }
-{
-    [2u8; 512]
 }
 
 // Stage 3: elimination on the given matrix.
@@ -94,8 +88,7 @@ fn peel_given(words: &[u64], n: usize, m: usize, word: &mut [u8]) -> Peelings
     ensures { λ r. ⌜ staged (now (words .entry)) n m r (now (word .exit)) ≡ peelingGiven (now (words .entry)) n m (now (word .entry)) ⌝ }
     ensures { λ r. ⌜ Kept r (now (word .entry)) (now (word .exit)) ⌝ }
 {
-    let mut longer = erased_word();
-    copy_front(word, &mut longer);
+    let mut longer = erased_behind(word);
     let mut first = longer;
     match peel_admitted(words, n, m, 0, &mut first[..n]) {
         Peeling::Refused(r) => Peelings::Stopped(r),

@@ -2,12 +2,12 @@
 use Prim.Native.Nat.{ℕ, _+_, _-_, _≤_}
 use mathlib.Core.Path.{_≡_, _∙_, refl, sym, ap}
 use mathlib.Core.Bool.{Bool, true, false, cond, _&&_}
-use mathlib.Core.List.{List, [], _∷_, _++_, append-assoc}
+use mathlib.Core.List.{List, [], _∷_, _++_}
 use native.Mathlib.Omega.{arith}
 use native.Mathlib.Decide.{ℕ-discrete, decLt}
 use borrow.Author.Tests.{eq-eqb, ne-eqb}
-use lib.ListN.{length, getD, take, drop, replicate, length-append, length-replicate, replicate-append-replicate, List·getD-eq-default}
-use lib.Seq.{take-at, drop-at, take-append-add}
+use lib.ListN.{length, getD, take, replicate, length-append, length-replicate, replicate-append-replicate, List·getD-eq-default}
+use lib.Seq.{take-at, take-append-add}
 use Rattle.parity.specs.Finite.{anySet, listFrom}
 use Rattle.parity.specs.Matrix.{Matrix, lent, pack, cause}
 use Rattle.parity.specs.Words.{isOne, residue, erased, solves, peeled}
@@ -21,7 +21,6 @@ use Rattle.parity.proofs.Splits.Splitting.{orthogonalises, orthogonal-accepted}
 use Rattle.parity.proofs.Record.RoundTrip.{load-accepted}
 use Rattle.parity.proofs.Causes.Refused.{refused-number}
 use Rattle.parity.specs.declared.Refusal.the-variants.{WrongLength, WrongByte}
-use Rattle.lines.specs.Placed.{placed}
 use Rattle.lines.specs.Lines.{Bytes}
 use Rattle.receiver.specs.Stages.{peelText, orthogonaliseText, loadInto, loadText}
 use Rattle.parity.proofs.Words.Bytes.{erasable-most}
@@ -147,22 +146,9 @@ peel-short ws n m k splits total sent q d =
     peel-refused ws n m k splits total w WrongLength (sym (short ws n m k w q l))
 
 -- the sent bits and then added ones that are erased
-replicate-part : (a b c N v : ℕ) → a + b + c ≡ N → take b (drop a (replicate N v)) ≡ replicate b v
-replicate-part a b c N v e =
-    let x = replicate a v in
-    let y = replicate b v in
-    let z = replicate c v in
-    let all : replicate N v ≡ x ++ (y ++ z) =
-    rw (← e, ← replicate-append-replicate (a + b) c v, ← replicate-append-replicate a b v) (append-assoc x y z) in
-    rw (all, drop-at x (y ++ z) a (length-replicate a v)) (take-at y z b (length-replicate b v))
-
-pub length-erased : (w : List ℕ) (N : ℕ) → w ≡ replicate N 2 → length w ≡ N
-length-erased w N z = rw z (length-replicate N 2)
-
-pub erased-rest : (sent old new : List ℕ) (n k N : ℕ) → length sent ≡ n → n + k ≤ N → old ≡ replicate N 2 → new ≡ placed 0 sent old
-    → take (n + k) new ≡ sent ++ replicate k 2
-unfolding placed
-erased-rest sent old new n k N e h z p =
-    let j = 0 + length sent in
+pub erased-rest : (sent word : List ℕ) (n k N : ℕ) → length sent ≡ n → n + k ≤ N → word ≡ sent ++ replicate (N - length sent) 2 → take (n + k) word ≡ sent ++ replicate k 2
+erased-rest sent word n k N e h z =
     let l : n + k ≡ length sent + k = omega arith in
-    rw (p, z, l) (take-append-add sent (drop j (replicate N 2)) k ∙ ap (λ (t : List ℕ). sent ++ t) (replicate-part j k (N - (n + k)) N 2 (omega arith)))
+    let r : N - length sent ≡ k + (N - (n + k)) = omega arith in
+    rw (z, l) (take-append-add sent (replicate (N - length sent) 2) k ∙ ap (λ (t : List ℕ). sent ++ t)
+    (rw (r, ← replicate-append-replicate {A = ℕ} k (N - (n + k)) 2) (take-at (replicate k 2) (replicate (N - (n + k)) 2) k (length-replicate {A = ℕ} k 2))))

@@ -1,12 +1,12 @@
 // The stages: loading, orthogonalising and peeling. Each puts the output from there on.
 use lines::put_refused;
 use lines::put_report;
-use lines::text::put_bytes;
 use orthogonalise::Orthogonalising;
 use parity::Refusal;
 use peel::Peeling;
 use peel::peel_admitted;
 use record::Loading;
+use sets::bytes::erased_behind;
 use sets::bytes::first_above;
 ghost use mathlib.Core.Path.{_≡_};
 ghost use mathlib.Core.List.{_++_};
@@ -15,13 +15,6 @@ ghost use lib.ListN.{length, replicate};
 ghost use Rattle.parity.specs.Matrix.{cause};
 ghost use Rattle.lines.specs.Placed.{Placed};
 ghost use Rattle.receiver.specs.Stages.{peelText, orthogonaliseText, loadText};
-
-// As many erased bits as a word can have.
-fn erased_word() -> [u8; 512]
-    ensures { λ r. ⌜ r ≡ replicate 512 2 ⌝ }
-{
-    [2u8; 512]
-}
 
 // Words of an empty matrix.
 fn empty_words() -> [u64; 4096]
@@ -73,8 +66,7 @@ fn peel_sent(
     if sent.len() != n {
         return put_refused(out, Refusal::WrongLength);
     }
-    let mut word = erased_word();
-    put_bytes(&mut word, 0, sent);
+    let mut word = erased_behind(sent);
     peel_word(out, words, n, m, k, splits, sum, &mut word[..n + k])
 }
 

@@ -1,8 +1,8 @@
 // The bytes of a word or a set: the lowest above the values named, and copying.
 ghost use mathlib.Core.Path.{_≡_};
 ghost use mathlib.Core.List.{_++_};
-ghost use Prim.Native.Nat.{_≤_};
-ghost use lib.ListN.{length, drop};
+ghost use Prim.Native.Nat.{_-_, _≤_};
+ghost use lib.ListN.{length, drop, replicate};
 ghost use Rattle.parity.specs.Calls.{wrongByte, wrongPlace};
 
 // Whether some byte is above `top`. Each is looked at, so that the compiler takes many at once.
@@ -48,4 +48,21 @@ pub fn copy_front(from: &[u8], to: &mut [u8])
     for b in 0..from.len() {
         to[b] = from[b];
     }
+}
+
+// As many erased bits as a word can have.
+fn erased_word() -> [u8; 512]
+    ensures { λ r. ⌜ r ≡ replicate 512 2 ⌝ }
+{
+    [2u8; 512]
+}
+
+// A word of that length: the bytes, and erased bits behind them.
+pub fn erased_behind(bytes: &[u8]) -> [u8; 512]
+    requires { ⌜ length (now bytes) ≤ 512 ⌝ }
+    ensures { λ r. ⌜ (length r ≡ 512) × (r ≡ now (bytes .entry) ++ replicate (512 - length (now (bytes .entry))) 2) ⌝ }
+{
+    let mut word = erased_word();
+    copy_front(bytes, &mut word);
+    word
 }

@@ -64,8 +64,8 @@ rest-next x i w rest t a a′ a″ b R L e p = record {
 }
 
 -- no word of the check is added yet
-pub sum-none : (h : Matrix) (c : ℕ) (x : Matrix) (lanes : ℕ) (acc : List ℕ) → acc ≡ replicate 8 0 → SumOf h (0 * 64) c x (lent lanes acc 0)
-sum-none h c x lanes acc e = record { at = λ j. lent-empty lanes 8 acc e 0 j ∙ unfold inside count sum odd in refl }
+pub sum-none : (h : Matrix) (c : ℕ) (x : Matrix) (lanes : ℕ) (acc : List ℕ) → acc ≡ replicate 16 0 → SumOf h (0 * 64) c x (lent lanes acc 0)
+sum-none h c x lanes acc e = record { at = λ j. lent-empty lanes 16 acc e 0 j ∙ unfold inside count sum odd in refl }
 
 -- one word more
 pub sum-next : (W : ℕ) (ws : List ℕ) (c : ℕ) (x : Matrix) (i : ℕ) (s s′ : ℕ → Bool) → i < W → SumOf (lent W ws) (i * 64) c x s

@@ -7,14 +7,18 @@ use native.Mathlib.Nat.{zero-mul, zero-add}
 use native.Mathlib.Omega.{arith}
 use native.Mathlib.Decide.{ℕ-discrete, decLt}
 use lib.Bits.{bitAnd, bitOr}
+use lib.Dec.{eqb}
 use lib.ListN.{getD, length, set, length-set}
 use lib.Seq.{getD-set-same, getD-set-other}
-use Rattle.parity.specs.Matrix.{bitOf, lent}
+use borrow.Author.Tests.{eqb-true, not-false}
+use Rattle.parity.specs.Finite.{count}
+use Rattle.parity.specs.Matrix.{Matrix, bitOf, lent}
+use Rattle.parity.proofs.Finite.Sums.{is-true, is-false, is, count-pos}
 use Rattle.parity.proofs.Matrix.Digits.{bit-and, bit-or, bit-not, bit-zero}
 use Rattle.parity.proofs.Matrix.Lent.{lent-in, lent-out}
 use Rattle.rows.specs.Whole.{Written, wordFrom}
 use Rattle.rows.proofs.Writing.{row-here, row-before, row-behind, row-else, row-first, row-others}
-use Rattle.lanes.specs.Tiles.{Eight, Taken, Blanked, Returned, Flagged}
+use Rattle.lanes.specs.Tiles.{Eight, Taken, Blanked, noFlag, Returned, Unflagged, Flagged}
 
 pub taken-all : (xs : List ℕ) (len from count b : ℕ) (w u : List ℕ) (lanes : ℕ) → from + count ≤ len → count ≤ lanes → Written w u (b * lanes) (wordFrom xs (b * len + from)) count
     → Taken (lent len xs) from count b (lent lanes w) (lent lanes u)
@@ -28,9 +32,32 @@ taken-all xs len from count b w u lanes room few A = record {
   else = λ a j n. row-others lanes b count few w u _ A a j n;
 }
 
--- eight words that were read before
-pub eight-taken : (xs : List ℕ) (first : ℕ) (eight w u : List ℕ) (base : ℕ) → Eight xs first eight → Written w u base (wordFrom eight 0) 8 → Written w u base (wordFrom xs first) 8
-eight-taken xs first eight w u base E A = record { long = A .long; done = λ a k. A .done a k ∙ rw (zero-add a) (E .at a k); else = A .else }
+-- words that are written behind others
+written-join : (w u v : List ℕ) (b : ℕ) (f g : ℕ → ℕ) (i n : ℕ) → Written w u b f i → Written u v (b + i) g n → ((a : ℕ) → a < n → g a ≡ f (i + a)) → Written w v b f (i + n)
+written-join w u v b f g i n A B e = record {
+  long = B .long ∙ A .long;
+  done = λ a k. elim (decLt a i) [
+    | yes l ↦ B .else (b + a) (λ j m q. omega arith) ∙ A .done a l
+    | no l ↦
+        let p : b + a ≡ b + i + (a - i) = omega arith in
+        let q : i + (a - i) ≡ a = omega arith in
+        rw p (B .done (a - i) (omega arith)) ∙ e (a - i) (omega arith) ∙ ap f q
+  ];
+  else = λ a k. B .else a (λ j m q. k (i + j) (omega arith) (omega arith)) ∙ A .else a (λ j m q. k j (omega arith) q);
+}
+
+-- eight words more, which were read before
+pub eight-more : (xs : List ℕ) (first : ℕ) (w u v : List ℕ) (b i : ℕ) (eight : List ℕ) → Written w u b (wordFrom xs first) i → Eight xs (first + i) eight
+    → Written u v (b + i) (wordFrom eight 0) 8 → Written w v b (wordFrom xs first) (i + 8)
+eight-more xs first w u v b i eight A E B =
+    written-join w u v b (wordFrom xs first) (wordFrom eight 0) i 8 A B (λ a k. let e : first + i + a ≡ first + (i + a) = omega arith in rw (zero-add a) (E .at a k ∙ ap (λ (m : ℕ). getD xs m 0) e))
+
+-- and the rest
+pub written-rest : (xs : List ℕ) (first : ℕ) (w u v : List ℕ) (b i n : ℕ) → i ≤ n → Written w u b (wordFrom xs first) i → Written u v (b + i) (wordFrom xs (first + i)) (n - i)
+    → Written w v b (wordFrom xs first) n
+written-rest xs first w u v b i n k A B =
+    let e : i + (n - i) ≡ n = omega arith in
+    rw e at (written-join w u v b (wordFrom xs first) (wordFrom xs (first + i)) i (n - i) A B (λ a l. let p : first + i + a ≡ first + (i + a) = omega arith in ap (λ (m : ℕ). getD xs m 0) p))
 
 pub blanked-all : (b : ℕ) (w u : List ℕ) (lanes : ℕ) → Written w u (b * lanes) (λ a. 0) lanes → Blanked b (lent lanes w) (lent lanes u)
 blanked-all b w u lanes A = record {
@@ -74,6 +101,32 @@ returned-all len from count b ts lanes gs w u fits room few A = record {
   behind = row-behind len b from count room w u _ A;
   else = row-else len b from count room w u _ A;
 }
+
+-- the same where all of the row is put back
+pub returned-whole : (len from count b : ℕ) (ts : List ℕ) (lanes : ℕ) (w u : List ℕ) → from + count ≤ len → count ≤ lanes → Written w u (b * len + from) (wordFrom ts (b * lanes)) count
+    → Returned from count b (lent lanes ts) noFlag (lent len w) (lent len u)
+returned-whole len from count b ts lanes w u room few A = record {
+  here = λ j k. row-here len b from count room w u _ A j k ∙ sym (lent-in lanes ts b j (omega arith));
+  before = row-before len b from count room w u _ A;
+  behind = row-behind len b from count room w u _ A;
+  else = row-else len b from count room w u _ A;
+}
+
+-- which it is where no lane is flagged
+pub returned-unflagged : (from count b : ℕ) (t : Matrix) (f : ℕ → Bool) (x x′ : Matrix) → ((j : ℕ) → f j ≡ false) → Returned from count b t noFlag x x′ → Returned from count b t f x x′
+returned-unflagged from count b t f x x′ e R = record { here = λ j k. rw (e j) (R .here j k); before = R .before; behind = R .behind; else = R .else }
+
+pub unflagged : (lanes : ℕ) (gs : List ℕ) (some : Bool) → some ≡ not (eqb (count (lanes * 64) (λ t. lent lanes gs 0 t && lent lanes gs 0 t)) 0) → Unflagged some (lent lanes gs 0)
+unflagged lanes gs some e = record { none = λ q j. none (eqb-true _ 0 (not-false _ (sym e ∙ q))) j }
+  where
+    none : count (lanes * 64) (λ t. lent lanes gs 0 t && lent lanes gs 0 t) ≡ 0 → (j : ℕ) → lent lanes gs 0 j ≡ false
+    none z j = elim (is (lent lanes gs 0 j)) [
+      | is-false q ↦ q
+      | is-true q ↦ elim (decLt j (lanes * 64)) [
+        | yes l ↦ absurd (omega (arith, z, count-pos (lanes * 64) (λ t. lent lanes gs 0 t && lent lanes gs 0 t) j l (rw q)))
+        | no l ↦ lent-out lanes gs 0 j (omega arith)
+      ]
+    ]
 
 pub flagged-all : (from count : ℕ) (gs : List ℕ) (lanes : ℕ) (w u : List ℕ) → from + count ≤ length w → count ≤ lanes → Written w u from (wordFrom gs 0) count
     → Flagged from count (lent lanes gs 0) (lent (length w) w 0) (lent (length w) u 0)

@@ -20,7 +20,7 @@ pub record Meets (W U lanes : ℕ) (rs ts : List ℕ) (c : ℕ) : Type 0 where
   pub used : U ≤ W
   pub width : W ≤ 8
   pub tile : U * 64 * lanes ≤ length ts
-  pub most : lanes ≤ 8
+  pub most : lanes ≤ 16
 
 -- To the lanes a are added the rows of x at the ones of w, word i of a check.
 pub record WordAdded (x : Matrix) (i w : ℕ) (a a′ : ℕ → Bool) : Type 0 where

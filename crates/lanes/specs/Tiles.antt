@@ -49,12 +49,20 @@ pub record Loaded (x : Matrix) (lost : ℕ → Bool) (from count n : ℕ) (t t�
   pub here : (b j : ℕ) → b < n → j < count * 64 → t′ b j ≡ arrived x lost (from * 64 + j) b
   pub else : (b j : ℕ) → n ≤ b → t′ b j ≡ t b j
 
+-- no lane is flagged
+abbrev pub noFlag : ℕ → Bool
+noFlag j = false
+
 -- The part of packet b becomes row b of the tile, in the lanes that are not flagged.
 pub record Returned (from count b : ℕ) (t : Matrix) (f : ℕ → Bool) (x x′ : Matrix) : Type 0 where
   pub here : (j : ℕ) → j < count * 64 → x′ b (from * 64 + j) ≡ cond (f j) (x b (from * 64 + j)) (t b j)
   pub before : (i : ℕ) → i < from * 64 → x′ b i ≡ x b i
   pub behind : (i : ℕ) → (from + count) * 64 ≤ i → x′ b i ≡ x b i
   pub else : (a i : ℕ) → (a ≡ b → ⊥) → x′ a i ≡ x a i
+
+-- If none is said to be flagged, none is.
+pub record Unflagged (some : Bool) (f : ℕ → Bool) : Type 0 where
+  pub none : some ≡ false → (j : ℕ) → f j ≡ false
 
 -- and so do the parts of the first n packets that were lost and are not left
 pub record Stored (lost left : ℕ → Bool) (from count n : ℕ) (t : Matrix) (f : ℕ → Bool) (x x′ : Matrix) : Type 0 where
@@ -126,5 +134,5 @@ pub record Tiled (p : Plan) (T : ℕ) (es ls xs ys : List ℕ) : Type 0 where
   pub left : length ls ≡ 8
   pub packets : length xs ≡ p .bits * length ys
   pub some : 0 < p .lanes
-  pub most : p .lanes ≤ 8
+  pub most : p .lanes ≤ 16
   pub room : p .used * 64 * p .lanes ≤ T

@@ -24,12 +24,12 @@ fn run(
     pivots: &[u16],
     p: Plan,
     tile: &mut [u64],
-) -> [u64; 8]
-    requires { ⌜ Carried p (now words) (now skip) (now checks) (now bits) (now reduced) (now rows) (now pivots) × (p .used * 64 * p .lanes ≤ length (now tile)) × (p .lanes ≤ 8) ⌝ }
-    ensures { λ r. ⌜ (length r ≡ 8) × Mends (lent 8 (now (words .entry))) (lent (p .used) (now (reduced .entry))) (p .used * 64) (p .checks) (planLists p (lent 8 (now (skip .entry)) 0) (now (checks .entry)) (now (bits .entry)) (now (rows .entry)) (now (pivots .entry))) (lent (p .lanes) (now (tile .entry))) (lent (p .lanes) (now (tile .exit))) (lent (p .lanes) r 0) ⌝ }
+) -> [u64; 16]
+    requires { ⌜ Carried p (now words) (now skip) (now checks) (now bits) (now reduced) (now rows) (now pivots) × (p .used * 64 * p .lanes ≤ length (now tile)) × (p .lanes ≤ 16) ⌝ }
+    ensures { λ r. ⌜ (length r ≡ 16) × Mends (lent 8 (now (words .entry))) (lent (p .used) (now (reduced .entry))) (p .used * 64) (p .checks) (planLists p (lent 8 (now (skip .entry)) 0) (now (checks .entry)) (now (bits .entry)) (now (rows .entry)) (now (pivots .entry))) (lent (p .lanes) (now (tile .entry))) (lent (p .lanes) (now (tile .exit))) (lent (p .lanes) r 0) ⌝ }
 {
     let none = [0u64; 8];
-    let mut flags = [0u64; 8];
+    let mut flags = [0u64; 16];
     solve_in(words, 8, p.checks, checks, bits, p.steps, p, tile);
     test_in(words, 8, 0, p.checks, skip, p, tile, &mut flags);
     test_in(reduced, p.used, p.first, p.end, &none, p, tile, &mut flags);

@@ -55,6 +55,10 @@ fn solve(
     requires { ⌜ Meets width used lanes (now rows) (now tile) c × (b < used * 64) ⌝ }
     ensures { λ _. ⌜ Solved (lent width (now (rows .entry))) (used * 64) c b (lent lanes (now (tile .entry))) (lent lanes (now (tile .exit))) ⌝ }
 {
+    if lanes == 16 {
+        solve_lanes(rows, width, used, c, tile, 16, b);
+        return;
+    }
     if lanes == 8 {
         solve_lanes(rows, width, used, c, tile, 8, b);
         return;
@@ -92,6 +96,10 @@ fn test(
     requires { ⌜ Meets width used lanes (now rows) (now tile) c × (lanes ≤ length (now flags)) ⌝ }
     ensures { λ _. ⌜ Checked (lent width (now (rows .entry))) (used * 64) c (lent lanes (now (tile .entry))) (lent lanes (now (flags .entry)) 0) (lent lanes (now (flags .exit)) 0) ⌝ }
 {
+    if lanes == 16 {
+        test_lanes(rows, width, used, c, tile, 16, flags);
+        return;
+    }
     if lanes == 8 {
         test_lanes(rows, width, used, c, tile, 8, flags);
         return;
@@ -110,7 +118,7 @@ pub fn solve_in(
     p: Plan,
     tile: &mut [u64],
 )
-    requires { ⌜ (count * width ≤ length (now rows)) × (p .used ≤ width) × (width ≤ 8) × (p .used * 64 * p .lanes ≤ length (now tile)) × (p .lanes ≤ 8) × (steps ≤ length (now checks)) × (steps ≤ length (now bits)) ⌝ }
+    requires { ⌜ (count * width ≤ length (now rows)) × (p .used ≤ width) × (width ≤ 8) × (p .used * 64 * p .lanes ≤ length (now tile)) × (p .lanes ≤ 16) × (steps ≤ length (now checks)) × (steps ≤ length (now bits)) ⌝ }
     requires { ⌜ Low steps count (now checks) × Low steps (p .used * 64) (now bits) ⌝ }
     ensures { λ _. ⌜ Ran (lent width (now (rows .entry))) (p .used * 64) (now (checks .entry)) (now (bits .entry)) steps (lent (p .lanes) (now (tile .entry))) (lent (p .lanes) (now (tile .exit))) ⌝ }
 {
@@ -138,7 +146,7 @@ pub fn test_in(
     tile: &[u64],
     flags: &mut [u64],
 )
-    requires { ⌜ (end * width ≤ length (now rows)) × (p .used ≤ width) × (width ≤ 8) × (p .used * 64 * p .lanes ≤ length (now tile)) × (p .lanes ≤ 8) × (p .lanes ≤ length (now flags)) × (end ≤ 512) × (length (now skip) ≡ 8) × (first ≤ end) ⌝ }
+    requires { ⌜ (end * width ≤ length (now rows)) × (p .used ≤ width) × (width ≤ 8) × (p .used * 64 * p .lanes ≤ length (now tile)) × (p .lanes ≤ 16) × (p .lanes ≤ length (now flags)) × (end ≤ 512) × (length (now skip) ≡ 8) × (first ≤ end) ⌝ }
     ensures { λ _. ⌜ Tested (lent width (now (rows .entry))) (p .used * 64) first end (lent 8 (now (skip .entry)) 0) (lent (p .lanes) (now (tile .entry))) (lent (p .lanes) (now (flags .entry)) 0) (lent (p .lanes) (now (flags .exit)) 0) ⌝ }
 {
     for c in first..end {

@@ -30,7 +30,7 @@ fn add_check(
     lanes: usize,
     acc: &mut [u64],
 )
-    requires { ⌜ Meets width used lanes (now rows) (now tile) c × (now acc ≡ replicate 8 0) ⌝ }
+    requires { ⌜ Meets width used lanes (now rows) (now tile) c × (now acc ≡ replicate 16 0) ⌝ }
     ensures { λ _. ⌜ SumOf (lent width (now (rows .entry))) (used * 64) c (lent lanes (now (tile .entry))) (lent lanes (now (acc .exit)) 0) ⌝ }
 {
     for i in 0..used {
@@ -46,11 +46,11 @@ pub fn sum_of(
     c: usize,
     tile: &[u64],
     lanes: usize,
-) -> [u64; 8]
+) -> [u64; 16]
     requires { ⌜ Meets width used lanes (now rows) (now tile) c ⌝ }
-    ensures { λ r. ⌜ (length r ≡ 8) × SumOf (lent width (now (rows .entry))) (used * 64) c (lent lanes (now (tile .entry))) (lent lanes r 0) ⌝ }
+    ensures { λ r. ⌜ (length r ≡ 16) × SumOf (lent width (now (rows .entry))) (used * 64) c (lent lanes (now (tile .entry))) (lent lanes r 0) ⌝ }
 {
-    let mut acc = [0u64; 8];
+    let mut acc = [0u64; 16];
     add_check(rows, width, used, c, tile, lanes, &mut acc);
     acc
 }

@@ -34,5 +34,5 @@ pub record Rooms (p : Plan) (ws es rs ss cs bs xs ys : List ℕ) : Type 0 where
   pub step-bits : length bs ≡ 512
   pub packets : length xs ≡ p .bits * length ys
   pub some : 0 < p .lanes
-  pub most : p .lanes ≤ 8
+  pub most : p .lanes ≤ 16
   pub tile : p .used * 64 * p .lanes ≤ 2048

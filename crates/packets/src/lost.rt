@@ -149,7 +149,7 @@ fn mend_lost(
     odd: &mut [u64],
 ) -> [u64; 8]
     requires { ⌜ (length (now words) ≡ 4096) × (p .used ≤ 8) × (p .bits ≤ p .used * 64) × (p .checks ≤ 512) × (length lost ≡ 8) × (length (now packets) ≡ p .bits * length (now odd)) × Short (p .bits) (lent 8 lost 0) ⌝ }
-    requires { ⌜ (0 < p .lanes) × (p .lanes ≤ 8) × (p .used * 64 * p .lanes ≤ 2048) ⌝ }
+    requires { ⌜ (0 < p .lanes) × (p .lanes ≤ 16) × (p .used * 64 * p .lanes ≤ 2048) ⌝ }
     ensures { λ r. ⌜ (length r ≡ 8) × SetMended (lent 8 (now (words .entry))) (p .bits) (p .checks) (length (now (odd .entry)) * 64) (lent 8 lost 0) (lent 8 r 0) (lent (length (now (odd .entry))) (now (packets .entry))) (lent (length (now (odd .entry))) (now (packets .exit))) (lent (length (now (odd .entry))) (now (odd .exit)) 0) ⌝ }
 {
     let mut left = lost;
@@ -181,7 +181,18 @@ fn mend_lost(
     left
 }
 
-// The same, in tiles of eight words, or of four where there are more than 256 bits. `mend_lost` is called at two places that are not alike, so that the compiler leaves it a
+// How many words of every packet a tile has where the bits take more than two words: with all of them it has no more than 2,048.
+fn fewer_lanes(used: usize) -> usize
+    requires { ⌜ used ≤ 8 ⌝ }
+    ensures { λ r. ⌜ (0 < r) × (r ≤ 16) × (used * 64 * r ≤ 2048) ⌝ }
+{
+    if 4 < used {
+        return 4;
+    }
+    8
+}
+
+// The same, in tiles of sixteen words, or of fewer where there are more than 128 bits. `mend_lost` is called at two places that are not alike, so that the compiler leaves it a
 // function of its own: its rows and lists are then on the stack while they are used, and not while the matrix is accepted.
 pub fn mend_set(
     words: &[u64],
@@ -195,10 +206,17 @@ pub fn mend_set(
     ensures { λ r. ⌜ (length r ≡ 8) × SetMended (lent 8 (now (words .entry))) bits checks (length (now (odd .entry)) * 64) (lent 8 lost 0) (lent 8 r 0) (lent (length (now (odd .entry))) (now (packets .entry))) (lent (length (now (odd .entry))) (now (packets .exit))) (lent (length (now (odd .entry))) (now (odd .exit)) 0) ⌝ }
 {
     let used = words_of(bits);
-    if 4 < used {
-        return mend_lost(words, no_steps(used, bits, checks, 4), lost, packets, odd);
+    if 2 < used {
+        let lanes = fewer_lanes(used);
+        return mend_lost(
+            words,
+            no_steps(used, bits, checks, lanes),
+            lost,
+            packets,
+            odd,
+        );
     }
-    let after = mend_lost(words, no_steps(used, bits, checks, 8), lost, packets, odd);
+    let after = mend_lost(words, no_steps(used, bits, checks, 16), lost, packets, odd);
     if size(&after) == 0 {
         return [0u64; 8];
     }

@@ -46,7 +46,7 @@ same-length : tie.Need-same-length
 same-length c = c .before .before .solve-in2 .kept .1 .1 .1 .1 .1 .1 .1 .0 ∙ c .before .before .before .before .before .before .before .before .before .before .before .before .before .before .before .solve-in .kept .1 .1 .1 .1 .1 .1 .1 .0
 
 returns : tie.Need-returns
-returns c = (c .before .before .before .before .before .test-in2 .kept .1 .1 .1 .1 .1 .1 .1 .0 ∙ c .before .before .before .before .before .before .before .before .before .before .test-in .kept .1 .1 .1 .1 .1 .1 .1 .0, mends-all _ _ _ _ _ _ _ _ _ _ _ _ _ _ _ _ _ _ _ _ (λ j. lent-empty (c .before .before .before .before .before .before .before .before .before .before .before .before .before .before .before .before .before .before .before .before .before .before .before .before .before .args .p .lanes) 8 _ refl 0 j) (c .before .before .before .before .before .before .before .before .before .before .before .before .before .before .before .solve-in .ensures) (c .before .before .before .before .before .before .before .before .before .before .test-in .ensures) refl (c .before .before .before .before .before .test-in2 .ensures) (c .before .before .solve-in2 .ensures))
+returns c = (c .before .before .before .before .before .test-in2 .kept .1 .1 .1 .1 .1 .1 .1 .0 ∙ c .before .before .before .before .before .before .before .before .before .before .test-in .kept .1 .1 .1 .1 .1 .1 .1 .0, mends-all _ _ _ _ _ _ _ _ _ _ _ _ _ _ _ _ _ _ _ _ (λ j. lent-empty (c .before .before .before .before .before .before .before .before .before .before .before .before .before .before .before .before .before .before .before .before .before .before .before .before .before .args .p .lanes) 16 _ refl 0 j) (c .before .before .before .before .before .before .before .before .before .before .before .before .before .before .before .solve-in .ensures) (c .before .before .before .before .before .before .before .before .before .before .test-in .ensures) refl (c .before .before .before .before .before .test-in2 .ensures) (c .before .before .solve-in2 .ensures))
 
 pub run-spec : {M : Type 1} → statement M
 run-spec =

@@ -24,14 +24,14 @@ loop-holds c = (omega arith, refl, loaded-none _ _ _ _ _)
 contains-requires : tie.Need-contains-requires Inv-loop μ-loop
 contains-requires c κs = (omega arith, omega arith)
 
-blank-row-requires : tie.Need-blank-row-requires Inv-loop μ-loop
-blank-row-requires c κs =
+blank-requires : tie.Need-blank-requires Inv-loop μ-loop
+blank-requires c κs =
     let s = c .before .before .before .before .before .before .before .before in
     let l = c .before .before .before .before .loop in
     omega (arith, l .inv .1, row-room (s .args .t .lanes) (l .b) (s .args .bits) (omega arith))
 
-take-requires : tie.Need-take-requires Inv-loop μ-loop
-take-requires c κs =
+take-row-requires : tie.Need-take-row-requires Inv-loop μ-loop
+take-row-requires c κs =
     let s = c .before .before .before .before .before .before .before .before in
     let l = c .before .before .before .before .loop in
     record {
@@ -73,8 +73,8 @@ load-spec =
     μ-loop
     loop-holds
     contains-requires
-    blank-row-requires
-    take-requires
+    blank-requires
+    take-row-requires
     add-b
     loop-less
     loop-again

@@ -1,6 +1,7 @@
 -- `tiles::store` meets its contract. Assumes nothing.
 use borrow.Author.Tests.{not-true, not-false}
 use Rattle.lanes.specs.Tiles.{Stored}
+use Rattle.lanes.proofs.Writing.{unflagged}
 use Rattle.lanes.proofs.Storing.{stored-none, stored-left, stored-kept, stored-return}
 use mathlib.Core.Path.{_≡_, refl, sym, _∙_}
 use mathlib.Core.Logic.{⊎-elim}
@@ -14,13 +15,16 @@ use Rattle.lanes.proofs.tiles.store.Statement.{statement}
 use Rattle.lanes.proofs.tiles.store.Tie as tie
 
 abbrev Inv-loop : tie.InvT-loop
-Inv-loop packets₀ t bits lost left tile flags b₀ packets b = (b ≤ bits) × (length packets ≡ length packets₀) × Stored (lent 8 lost 0) (lent 8 left 0) (t .from) (t .count) b (lent (t .lanes) tile) (lent (t .lanes) flags 0) (lent (t .len) packets₀) (lent (t .len) packets)
+Inv-loop packets₀ t bits lost left tile flags some b₀ packets b = (b ≤ bits) × (length packets ≡ length packets₀) × Stored (lent 8 lost 0) (lent 8 left 0) (t .from) (t .count) b (lent (t .lanes) tile) (lent (t .lanes) flags 0) (lent (t .len) packets₀) (lent (t .len) packets)
 
 abbrev μ-loop : tie.MeasureT-loop
-μ-loop packets₀ t bits lost left tile flags b₀ packets b = bits - b
+μ-loop packets₀ t bits lost left tile flags some b₀ packets b = bits - b
 
 loop-holds : tie.Need-loop-holds Inv-loop μ-loop
 loop-holds c = (omega arith, refl, stored-none _ _ _ _ _ _ _)
+
+touches-requires : tie.Need-touches-requires Inv-loop μ-loop
+touches-requires c κs = search needs
 
 contains-requires : tie.Need-contains-requires Inv-loop μ-loop
 contains-requires c κs = (omega arith, omega arith)
@@ -28,9 +32,9 @@ contains-requires c κs = (omega arith, omega arith)
 contains-requires-2 : tie.Need-contains-requires-2 Inv-loop μ-loop
 contains-requires-2 c κs = (omega arith, omega arith)
 
-return-row-requires : tie.Need-return-row-requires Inv-loop μ-loop
-return-row-requires c κs =
-    let s = c .before .before .before .before .before .before .before .before .before .before .before .before in
+give-back-requires : tie.Need-give-back-requires Inv-loop μ-loop
+give-back-requires c κs =
+    let s = c .before .before .before .before .before .before .before .before .before .before .before .before .before in
     let l = c .before .before .before .before .before .before .loop in (
       record {
         packet = omega (arith, l .inv .1, row-room (s .args .t .len) (l .b) (s .args .bits) (omega arith));
@@ -39,6 +43,7 @@ return-row-requires c κs =
         row = omega (arith, row-room (s .args .t .lanes) (l .b) (s .args .bits) (omega arith));
       },
       s .pre .3,
+      unflagged _ _ _ (c .before .before .before .before .before .before .before .touches .ensures),
     )
 
 add-b : tie.Need-add-b Inv-loop μ-loop
@@ -64,7 +69,7 @@ same-length c = search needs
 returns : tie.Need-returns Inv-loop μ-loop
 returns c =
     let l = c .before .loop in
-    let e : l .b ≡ c .before .before .before .before .before .before .before .args .bits = omega arith in
+    let e : l .b ≡ c .before .before .before .before .before .before .before .before .args .bits = omega arith in
     rw e at (l .inv .2)
 
 pub store-spec : {M : Type 1} → statement M
@@ -73,10 +78,11 @@ store-spec =
     (tie.spec
     Inv-loop
     μ-loop
+    touches-requires
     loop-holds
     contains-requires
     contains-requires-2
-    return-row-requires
+    give-back-requires
     add-b
     loop-less
     loop-again

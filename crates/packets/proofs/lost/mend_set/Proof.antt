@@ -10,15 +10,19 @@ use Rattle.packets.proofs.lost.mend_set.Tie as tie
 words-of-requires : tie.Need-words-of-requires
 words-of-requires c κs = c .before .before .before .pre .1
 
+fewer-lanes-requires : tie.Need-fewer-lanes-requires
+fewer-lanes-requires c κs =
+    let s = c .before .before .before .before .before in
+    width-few (s .args .bits) (c .before .words-of .result) (c .before .words-of .ensures .1) (s .pre .1)
+
 no-steps-requires : tie.Need-no-steps-requires
 no-steps-requires c κs = search needs
 
 mend-lost-requires : tie.Need-mend-lost-requires
 mend-lost-requires c κs =
-    let q = c .before .before .before .before .before .before .before .before .pre in
-    let u = c .before .before .before .before .words-of in
-    let w = width-few (c .before .before .before .before .before .before .before .before .args .bits) (u .result) (u .ensures .1) (q .1) in
-    rw (c .before .before .no-steps .ensures) ((q .0, w, u .ensures .0, q .2, q .3, q .4, q .5), (omega arith, omega arith, omega (arith, w)))
+    let q = c .before .before .before .before .before .before .before .before .before .pre in
+    let u = c .before .before .before .before .before .words-of in
+    rw (c .before .before .no-steps .ensures) ((q .0, width-few (c .before .before .before .before .before .before .before .before .before .args .bits) (u .result) (u .ensures .1) (q .1), u .ensures .0, q .2, q .3, q .4, q .5), c .before .before .before .fewer-lanes .ensures)
 
 same-length : tie.Need-same-length
 same-length c = search needs
@@ -67,6 +71,7 @@ mend-set-spec =
     tie.close
     (tie.spec
     words-of-requires
+    fewer-lanes-requires
     no-steps-requires
     mend-lost-requires
     same-length

@@ -143,13 +143,20 @@ fn store<const T: usize, const B: usize>(
     tile: &[[u64; T]; B],
     odd: &[u64; T],
 ) {
+    let even = *odd == [0; T];
     for w in 0..8 {
         let mut x = losses.before[w] & !losses.left[w];
         while x != 0 {
             let b = 64 * w + x.trailing_zeros() as usize;
             let row = &tile[b & (B - 1)];
-            for (i, word) in packets[b * length + from..(b + 1) * length].iter_mut().take(T).enumerate() {
-                *word = *word & odd[i] | row[i] & !odd[i];
+            let packet = &mut packets[b * length + from..(b + 1) * length];
+            match packet.first_chunk_mut::<T>() {
+                Some(part) if even => *part = *row,
+                _ => {
+                    for (i, word) in packet.iter_mut().take(T).enumerate() {
+                        *word = *word & odd[i] | row[i] & !odd[i];
+                    }
+                }
             }
             x &= x - 1;
         }
@@ -254,8 +261,8 @@ pub fn mend_packets(
     let nw = bits.div_ceil(64);
     let checks = &words[..8 * (m + k)];
     let left = match nw {
-        1 => mend::<1, 8, 64>(checks, &before, packets, odd),
-        2 => mend::<2, 8, 128>(checks, &before, packets, odd),
+        1 => mend::<1, 16, 64>(checks, &before, packets, odd),
+        2 => mend::<2, 16, 128>(checks, &before, packets, odd),
         3 | 4 => mend::<4, 8, 256>(checks, &before, packets, odd),
         _ => mend::<8, 4, 512>(checks, &before, packets, odd),
     };

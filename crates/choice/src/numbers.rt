@@ -3,7 +3,7 @@ use columns::planes::Planes;
 use columns::planes::larger;
 use rows::wide;
 ghost use mathlib.Core.Path.{_≡_};
-ghost use Prim.Native.Nat.{_≤_, _<_};
+ghost use Prim.Native.Nat.{_+_, _*_, _≤_, _<_};
 ghost use Rattle.parity.specs.Finite.{one};
 ghost use lib.ListN.{length};
 ghost use Rattle.parity.specs.Matrix.{bitOf};
@@ -51,16 +51,16 @@ pub fn best(p: Planes, mask: u64) -> Top
     narrow(t1, p.p0)
 }
 
-// Bit `t` of a word.
-fn digit(x: u64, t: usize) -> u64
-    requires { ⌜ t < 64 ⌝ }
-    ensures { λ r. ⌜ (r ≡ one (bitOf x t)) × (r ≤ 1) ⌝ }
+// A number with one digit more, the next lower: bit `t` of a word.
+fn with_digit(above: u64, x: u64, t: usize) -> u64
+    requires { ⌜ (above < 64) × (t < 64) ⌝ }
+    ensures { λ r. ⌜ (r ≡ one (bitOf x t) + 2 * above) × (r ≤ 1 + 2 * above) ⌝ }
 {
     let bit = x & (1 << t);
     if bit == 0 {
-        return 0;
+        return 2 * above;
     }
-    1
+    1 + 2 * above
 }
 
 // The upper three digits of the number at `t`.
@@ -71,9 +71,9 @@ fn upper(p: Planes, t: usize) -> u64
     if (p.p4 | p.p5 | p.p6) == 0 {
         return 0;
     }
-    let n6 = digit(p.p6, t);
-    let n5 = digit(p.p5, t) + 2 * n6;
-    digit(p.p4, t) + 2 * n5
+    let n6 = with_digit(0, p.p6, t);
+    let n5 = with_digit(n6, p.p5, t);
+    with_digit(n5, p.p4, t)
 }
 
 // The number at `t`.
@@ -82,10 +82,10 @@ fn number_at(p: Planes, t: usize) -> u64
     ensures { λ r. ⌜ r ≡ number p t ⌝ }
 {
     let n4 = upper(p, t);
-    let n3 = digit(p.p3, t) + 2 * n4;
-    let n2 = digit(p.p2, t) + 2 * n3;
-    let n1 = digit(p.p1, t) + 2 * n2;
-    digit(p.p0, t) + 2 * n1
+    let n3 = with_digit(n4, p.p3, t);
+    let n2 = with_digit(n3, p.p2, t);
+    let n1 = with_digit(n2, p.p1, t);
+    with_digit(n1, p.p0, t)
 }
 
 // The places of the numbers that are two or more.

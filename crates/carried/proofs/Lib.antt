@@ -1,4 +1,5 @@
 pub mod Performing
 pub mod Recovering
 pub mod Putting
+pub mod Newest
 pub mod Standing

@@ -16,7 +16,8 @@ use Rattle.parity.proofs.Lists.Built.{Built, given, more, good, undone}
 use Rattle.parity.proofs.Lists.Rebuilt.{all-sound, built-written, written-built}
 use Rattle.columns.specs.Columns.{Columns, ColumnsOf}
 use Rattle.carried.specs.Recover.{standing, Raw, BackOne, AllBack}
-use Rattle.carried.proofs.Standing.{standing-given, columns-end, raw-back}
+use Rattle.carried.proofs.Standing.{standing-given}
+use Rattle.carried.proofs.Newest.{columns-end, raw-back}
 
 -- With j splits left in g, of k in h: g is built exactly if h is.
 pub record Taking (h g : Matrix) (n m k j : ℕ) : Type 0 where

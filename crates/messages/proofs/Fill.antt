@@ -14,7 +14,7 @@ use Rattle.messages.specs.Memory.{start, place, held, Written, Filling, 
 use Rattle.parity.specs.declared.Channel.{Channel}
 use Rattle.messages.proofs.Places.{start-suc}
 use Rattle.messages.proofs.Word.{Gap, gap-count, gap-before}
-use Rattle.messages.proofs.Cursor.{place-same}
+use Rattle.messages.proofs.Row.{place-same}
 
 pub place-gap : (h : Matrix) (N c b e : ℕ) → Gap (h c) b e → place h N c e ≡ place h N c b
 unfolding place

@@ -19,7 +19,7 @@ use Rattle.parity.specs.declared.Channel.{Channel}
 use Rattle.parity.proofs.Soft.Cong.{gathered-at}
 use Rattle.messages.proofs.Compact.{gathered-row, all-row}
 use Rattle.parity.proofs.Finite.Firsts.{nth-below}
-use Rattle.messages.proofs.Cursor.{low-more, low-held, part-low}
+use Rattle.messages.proofs.Row.{low-more, low-held, part-low}
 
 module _ (h : Matrix) (N M b : ℕ) (v : Channel) (ts : List ℕ) (xs : List Float) (rt : List ℕ) (rx : List Float)
     (C : Collected (column h b) M (heldAt h N ts xs b) rt rx) where

@@ -19,7 +19,7 @@ use Rattle.parity.proofs.Soft.Sound.{check-sound, bit-sound}
 use Rattle.parity.proofs.Soft.Cong.{gathered-at, check-at'}
 use Rattle.parity.proofs.Soft.Standing.{sent-standing}
 use Rattle.min_sum.specs.Rounds.{Ready}
-use Rattle.messages.proofs.Cursor.{laid-same}
+use Rattle.messages.proofs.Row.{laid-same}
 use Rattle.messages.proofs.Places.{start-mono, start-end, place-high}
 use Rattle.messages.proofs.Sends.{result-is}
 

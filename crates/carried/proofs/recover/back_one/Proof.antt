@@ -2,7 +2,8 @@
 use native.Mathlib.Numerals.{add-one}
 use native.Mathlib.Omega.{arith}
 use borrow.Author.Tests.{not-true, not-false}
-use Rattle.carried.proofs.Standing.{bits-below, raw-small, standing-same, standing-lower, standing-higher, one-stops, one-keeps, one-few, one-made, joined-back, joined-columns}
+use Rattle.carried.proofs.Standing.{standing-same, standing-lower, standing-higher, joined-back, joined-columns}
+use Rattle.carried.proofs.Newest.{bits-below, raw-small, one-stops, one-keeps, one-few, one-made}
 use borrow.Author.Needs.{needs}
 use Rattle.carried.proofs.recover.back_one.Statement.{statement}
 use Rattle.carried.proofs.recover.back_one.Tie as tie

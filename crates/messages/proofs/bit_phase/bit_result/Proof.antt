@@ -1,5 +1,6 @@
 -- `bit_result` meets its contract. Assumes nothing.
-use Rattle.messages.proofs.Cursor.{row-fits, part-low, low-more, moving-end}
+use Rattle.messages.proofs.Cursor.{row-fits, moving-end}
+use Rattle.messages.proofs.Row.{part-low, low-more}
 use Rattle.messages.proofs.Sends.{row-result}
 use native.Mathlib.Omega.{arith}
 use mathlib.Core.Path.{_∙_}

@@ -1,5 +1,6 @@
 -- `bit_sends` meets its contract. Assumes nothing.
-use Rattle.messages.proofs.Cursor.{laid-same, row-fits, moving-end}
+use Rattle.messages.proofs.Cursor.{row-fits, moving-end}
+use Rattle.messages.proofs.Row.{laid-same}
 use Rattle.messages.proofs.Sends.{bit-sent}
 use native.Mathlib.Omega.{arith}
 use mathlib.Core.Path.{_∙_}

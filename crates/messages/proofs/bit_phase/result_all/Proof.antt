@@ -1,5 +1,5 @@
 -- `result_all` meets its contract. Assumes nothing.
-use Rattle.messages.proofs.Cursor.{laid-same, low-none, low-more}
+use Rattle.messages.proofs.Row.{laid-same, low-none, low-more}
 use Rattle.messages.proofs.Sends.{result-at}
 use Rattle.soft.proofs.Places.{partly-start, partly-more, partly-all}
 use Rattle.soft.specs.Pass.{Partly}

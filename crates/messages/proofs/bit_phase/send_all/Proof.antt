@@ -1,5 +1,5 @@
 -- `send_all` meets its contract. Assumes nothing.
-use Rattle.messages.proofs.Cursor.{laid-same}
+use Rattle.messages.proofs.Row.{laid-same}
 use Rattle.messages.proofs.Sends.{sent-none, sent-more}
 use Rattle.messages.proofs.Places.{above-none, above-more}
 use Rattle.messages.specs.Memory.{across, held, Cursors, Above}

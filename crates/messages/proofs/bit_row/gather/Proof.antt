@@ -1,5 +1,6 @@
 -- `gather` meets its contract. Assumes nothing.
-use Rattle.messages.proofs.Cursor.{laid-same, gathering-none, gathering-end, gathering-now, gathering-more}
+use Rattle.messages.proofs.Cursor.{gathering-none, gathering-end, gathering-now, gathering-more}
+use Rattle.messages.proofs.Row.{laid-same}
 use Rattle.messages.specs.Memory.{across, Gathering}
 use Rattle.parity.specs.Matrix.{lent}
 use native.Mathlib.Omega.{arith}

@@ -1,5 +1,5 @@
 -- `scatter` meets its contract. Assumes nothing.
-use Rattle.messages.proofs.Cursor.{laid-same, none-counted, spread-none, spread-more, spread-end}
+use Rattle.messages.proofs.Row.{laid-same, none-counted, spread-none, spread-more, spread-end}
 use Rattle.messages.specs.Memory.{across, column, Spread}
 use Rattle.parity.specs.Finite.{count}
 use Rattle.parity.specs.Matrix.{lent}

@@ -1,6 +1,7 @@
 -- `scatter_word` meets its contract. Assumes nothing.
 use Rattle.messages.proofs.Word.{gap-count, Left, Taken, left-all, left-none, left-taken}
-use Rattle.messages.proofs.Cursor.{count-yes, place-small, place-before, spread-none, spread-gap, spread-one}
+use Rattle.messages.proofs.Cursor.{place-before}
+use Rattle.messages.proofs.Row.{count-yes, place-small, spread-none, spread-gap, spread-one}
 use Rattle.messages.specs.Memory.{place, across, column, Spread}
 use Rattle.parity.proofs.Finite.Sums.{count-bound}
 use Rattle.parity.proofs.Matrix.Rest.{rest-less}

@@ -5,7 +5,6 @@ use mathlib.Core.List.{List, [], _∷_}
 use Prim.Native.Nat.{ℕ, suc, _+_, _*_, _-_, _^_, _≤_, _<_}
 use native.Mathlib.Decide.{decLt}
 use native.Mathlib.Omega.{arith}
-use lib.Bits.{bitAnd}
 use lib.Count.{leadingZeros, leading-top}
 use lib.ListN.{getD}
 use Rattle.parity.specs.Finite.{any, least, greatest, outermost}
@@ -17,6 +16,7 @@ use Rattle.parity.proofs.Matrix.Clean.{no-bit, no-bits}
 use Rattle.parity.proofs.Matrix.Digits.{bit-and, bit-zero}
 use Rattle.parity.proofs.Matrix.Lent.{lent-word}
 use Rattle.parity.proofs.Matrix.Ones.{Lowest}
+use Rattle.rows.specs.Zeros.{both}
 use Rattle.rows.proofs.Next.{Clear}
 use Rattle.pairs.specs.Rows.{inBoth}
 
@@ -45,16 +45,15 @@ least-top T set C = sym (least-none T set (any-none T set (λ b l. C .none b (om
 pub greatest-zero : (T : ℕ) (set : ℕ → Bool) → Clear set 0 T → 0 ≡ greatest T set
 greatest-zero T set C = sym (greatest-none T set (any-none T set (λ b l. C .none b (omega arith) l)))
 
-module _ (W : ℕ) (a : List ℕ) (i : ℕ) (b : List ℕ) (j p : ℕ) (k : p < W) where
-  abbrev x : ℕ
-  x = bitAnd (getD a (i * W + p) 0) (getD b (j * W + p) 0)
-
+-- x is what word p of both rows have in common
+module _ (W : ℕ) (a : List ℕ) (i : ℕ) (b : List ℕ) (j p : ℕ) (k : p < W) (x : ℕ) (same : x ≡ both W a i b j p) where
   abbrev set : ℕ → Bool
   set = inBoth W a i b j
 
   -- word p of both rows has their common bits from 64 p on
   common-word : (t : ℕ) → t < 64 → set (p * 64 + t) ≡ bitOf x t
-  common-word t l = rw (lent-word W a i p t k l, lent-word W b j p t k l) (sym (bit-and (getD a (i * W + p) 0) (getD b (j * W + p) 0) t))
+  unfolding both
+  common-word t l = rw (lent-word W a i p t k l, lent-word W b j p t k l, same) (sym (bit-and (getD a (i * W + p) 0) (getD b (j * W + p) 0) t))
 
   common-at : (c : ℕ) → p * 64 ≤ c → c < p * 64 + 64 → set c ≡ bitOf x (c - p * 64)
   common-at c l m = let e : c ≡ p * 64 + (c - p * 64) = omega arith in ap set e ∙ common-word (c - p * 64) (omega arith)

@@ -1,12 +1,9 @@
 -- `lowest` meets its contract. Assumes nothing.
 use mathlib.Core.Path.{_≡_}
-use Prim.Native.Nat.{_+_, _*_, _-_, _≤_}
-use native.Mathlib.Nat.{lt-of-le-of-lt}
+use Prim.Native.Nat.{_*_, _-_, _≤_}
 use native.Mathlib.Omega.{arith}
 use borrow.Author.Needs.{needs}
-use lib.Bits.{bitAnd, and-le-r}
 use lib.Count.{trailing-le}
-use lib.ListN.{getD}
 use Rattle.parity.proofs.Matrix.Ones.{trailing-lowest}
 use Rattle.pairs.specs.Rows.{inBoth}
 use Rattle.rows.proofs.Next.{Clear, clear-none}
@@ -23,29 +20,8 @@ abbrev μ-loop : tie.MeasureT-loop
 loop-holds : tie.Need-loop-holds Inv-loop μ-loop
 loop-holds c = (omega arith, clear-none _ _ _ (omega arith))
 
-mul-x : tie.Need-mul-x Inv-loop μ-loop
-mul-x c = omega arith
-
-add-x : tie.Need-add-x Inv-loop μ-loop
-add-x c = omega arith
-
-mul-x-2 : tie.Need-mul-x-2 Inv-loop μ-loop
-mul-x-2 c = omega arith
-
-shared-slice-read-x : tie.Need-shared-slice-read-x Inv-loop μ-loop
-shared-slice-read-x c = omega arith
-
-mul-x-3 : tie.Need-mul-x-3 Inv-loop μ-loop
-mul-x-3 c = omega arith
-
-add-x-2 : tie.Need-add-x-2 Inv-loop μ-loop
-add-x-2 c = omega arith
-
-mul-x-4 : tie.Need-mul-x-4 Inv-loop μ-loop
-mul-x-4 c = omega arith
-
-shared-slice-read-x-2 : tie.Need-shared-slice-read-x-2 Inv-loop μ-loop
-shared-slice-read-x-2 c = omega arith
+both-at-requires : tie.Need-both-at-requires Inv-loop μ-loop
+both-at-requires c κs = let s = c .before .before .before .before in (s .pre .0, s .pre .1, omega arith)
 
 mul-result : tie.Need-mul-result Inv-loop μ-loop
 mul-result c = omega arith
@@ -54,19 +30,14 @@ wide-requires : tie.Need-wide-requires Inv-loop μ-loop
 wide-requires c κs = search needs
 
 add-result : tie.Need-add-result Inv-loop μ-loop
-add-result c =
-    let l = c .before .before .before .before .before .loop in
-    let s = c .before .before .before .before .before .before .before .before .args in
-    let x = bitAnd (getD (s .a .now) (s .i * s .width + l .p) 0) (getD (s .b .now) (s .j * s .width + l .p) 0) in
-    omega (arith, c .wide .ensures, trailing-le 64 x)
+add-result c = omega (arith, c .wide .ensures, trailing-le 64 (c .before .before .both-at .result))
 
 returns : tie.Need-returns Inv-loop μ-loop
 returns c =
-    let l = c .before .before .before .before .before .loop in
-    let s = c .before .before .before .before .before .before .before .before .args in
-    let x = bitAnd (getD (s .a .now) (s .i * s .width + l .p) 0) (getD (s .b .now) (s .j * s .width + l .p) 0) in
-    let fits = lt-of-le-of-lt (and-le-r (getD (s .a .now) (s .i * s .width + l .p) 0) (getD (s .b .now) (s .j * s .width + l .p) 0)) (c .before .before .shared-slice-known4 .given (s .j * s .width + l .p) .fits) in
-    rw (c .wide .ensures) (least-here (s .width) (s .a .now) (s .i) (s .b .now) (s .j) (l .p) (omega arith) _ (trailing-lowest 64 x fits (c .before .if1 .taken)) (l .inv .1))
+    let x = c .before .before .both-at in
+    let l = c .before .before .before .before .loop in
+    let s = c .before .before .before .before .before .before .before .args in
+    rw (c .wide .ensures) (least-here (s .width) (s .a .now) (s .i) (s .b .now) (s .j) (l .p) (omega arith) (x .result) (x .ensures .0) _ (trailing-lowest 64 (x .result) (x .ensures .1) (c .before .if1 .taken)) (l .inv .1))
 
 add-p : tie.Need-add-p Inv-loop μ-loop
 add-p c = omega arith
@@ -76,9 +47,10 @@ loop-less c = omega arith
 
 loop-again : tie.Need-loop-again Inv-loop μ-loop
 loop-again c =
-    let l = c .before .before .before .before .loop in
-    let s = c .before .before .before .before .before .before .before .args in
-    (omega arith, clear-up (s .width) (s .a .now) (s .i) (s .b .now) (s .j) (l .p) (omega arith) (c .if1 .left) (l .inv .1))
+    let x = c .before .both-at in
+    let l = c .before .before .before .loop in
+    let s = c .before .before .before .before .before .before .args in
+    (omega arith, clear-up (s .width) (s .a .now) (s .i) (s .b .now) (s .j) (l .p) (omega arith) (x .result) (x .ensures .0) (c .if1 .left) (l .inv .1))
 
 mul-result-2 : tie.Need-mul-result-2 Inv-loop μ-loop
 mul-result-2 c = omega arith
@@ -95,14 +67,7 @@ lowest-spec =
     Inv-loop
     μ-loop
     loop-holds
-    mul-x
-    add-x
-    mul-x-2
-    shared-slice-read-x
-    mul-x-3
-    add-x-2
-    mul-x-4
-    shared-slice-read-x-2
+    both-at-requires
     mul-result
     wide-requires
     add-result

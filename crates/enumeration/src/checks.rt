@@ -1,15 +1,17 @@
 // What a few members leave of the checks: `once` has those that contain exactly one of them, and `some` those that contain one or more.
 ghost use mathlib.Core.Path.{_≡_};
 ghost use mathlib.Core.Bool.{true};
-ghost use Prim.Native.Nat.{_*_, _<_};
+ghost use Prim.Native.Nat.{_+_, _*_, _<_};
 ghost use lib.ListN.{length, getD};
 ghost use Rattle.enumeration.specs.Search.{Sized, loneWord, decided, Among, completing, OnceWith, SomeWith};
 
-// The checks of a word that contain exactly one of the members and one more bit, whose checks are `d`.
-fn lone_word(once: u64, some: u64, d: u64) -> u64
-    ensures { λ r. ⌜ r ≡ loneWord once some d ⌝ }
+// The checks of word `i` that contain exactly one of the members and bit `d`.
+fn lone_at(cols: &[u64], once: &[u64], some: &[u64], d: usize, i: usize) -> u64
+    requires { ⌜ (length (now cols) ≡ 1024) × (length (now once) ≡ 8) × (length (now some) ≡ 8) × (d < 128) × (i < 8) ⌝ }
+    ensures { λ r. ⌜ r ≡ loneWord (getD (now (once .entry)) i 0) (getD (now (some .entry)) i 0) (getD (now (cols .entry)) (d * 8 + i) 0) ⌝ }
 {
-    (once & !d) | (d & !some)
+    let own = cols[d * 8 + i];
+    (once[i] & !own) | (own & !some[i])
 }
 
 // The same as `completes`, where the first word has no such check.
@@ -19,7 +21,7 @@ fn completes_further(cols: &[u64], once: &[u64], some: &[u64], used: usize, d: u
     ensures { λ r. ⌜ r ≡ completing (now (cols .entry)) (now (once .entry)) (now (some .entry)) (used * 64) d ⌝ }
 {
     for i in 1..used {
-        if lone_word(once[i], some[i], cols[d * 8 + i]) != 0 {
+        if lone_at(cols, once, some, d, i) != 0 {
             return false;
         }
     }
@@ -56,7 +58,7 @@ pub fn once_with(cols: &[u64], once: &[u64], some: &[u64], d: usize) -> [u64; 8]
 {
     let mut all = [0u64; 8];
     for i in 0..8 {
-        all[i] = lone_word(once[i], some[i], cols[d * 8 + i]);
+        all[i] = lone_at(cols, once, some, d, i);
     }
     all
 }

@@ -3,7 +3,6 @@ use mathlib.Core.Path.{_≡_, sym, _∙_}
 use mathlib.Core.Bool.{true}
 use Prim.Native.Nat.{_*_, _-_, _≤_}
 use native.Mathlib.Omega.{arith}
-use borrow.Author.Needs.{needs}
 use Rattle.enumeration.proofs.Lone.{noLone, none-more, none-not, completing-is}
 use Rattle.enumeration.proofs.checks.completes_further.Statement.{statement}
 use Rattle.enumeration.proofs.checks.completes_further.Tie as tie
@@ -17,38 +16,17 @@ abbrev μ-loop : tie.MeasureT-loop
 loop-holds : tie.Need-loop-holds Inv-loop μ-loop
 loop-holds c = let s = c .before .before .before in (omega arith, omega arith, sym (completing-is _ _ _ 64 (s .args .d)) ∙ s .pre .1)
 
-mul-lone-word : tie.Need-mul-lone-word Inv-loop μ-loop
-mul-lone-word c = omega arith
-
-shared-slice-read-lone-word : tie.Need-shared-slice-read-lone-word Inv-loop μ-loop
-shared-slice-read-lone-word c = omega arith
-
-mul-lone-word-2 : tie.Need-mul-lone-word-2 Inv-loop μ-loop
-mul-lone-word-2 c = omega arith
-
-shared-slice-read-lone-word-2 : tie.Need-shared-slice-read-lone-word-2 Inv-loop μ-loop
-shared-slice-read-lone-word-2 c = omega arith
-
-mul-lone-word-3 : tie.Need-mul-lone-word-3 Inv-loop μ-loop
-mul-lone-word-3 c = omega arith
-
-add-lone-word : tie.Need-add-lone-word Inv-loop μ-loop
-add-lone-word c = omega arith
-
-mul-lone-word-4 : tie.Need-mul-lone-word-4 Inv-loop μ-loop
-mul-lone-word-4 c = omega arith
-
-shared-slice-read-lone-word-3 : tie.Need-shared-slice-read-lone-word-3 Inv-loop μ-loop
-shared-slice-read-lone-word-3 c = omega arith
-
-lone-word-requires : tie.Need-lone-word-requires Inv-loop μ-loop
-lone-word-requires c κs = search needs
+lone-at-requires : tie.Need-lone-at-requires Inv-loop μ-loop
+lone-at-requires c κs =
+    let s = c .before .before .before .before .before in
+    let z = s .pre .0 .0 in
+    (z .columns, z .once, z .some, s .pre .0 .1, omega (arith, z .most))
 
 returns : tie.Need-returns Inv-loop μ-loop
 returns c =
-    let s = c .before .before .before .before .before .before .before .before .before .before in
-    let l = c .before .before .before .before .before .before .loop in
-    sym (completing-is _ _ _ (s .args .used * 64) (s .args .d) ∙ none-not 8 (s .args .cols .now) (s .args .once .now) (s .args .some .now) (s .args .d) (λ i. omega (arith, c .before .before .before .before .before .before .before .shared-slice-known3 .given i)) (λ i. omega (arith, c .before .before .before .before .before .before .before .before .before .shared-slice-known .given i)) (λ i. omega (arith, c .before .before .before .before .before .before .before .before .shared-slice-known2 .given i)) (l .i) (s .args .used) (omega arith) (omega arith) (λ e. c .if1 .taken (c .before .lone-word .ensures ∙ e)))
+    let s = c .before .before .before .before .before .before .before in
+    let l = c .before .before .before .loop in
+    sym (completing-is _ _ _ (s .args .used * 64) (s .args .d) ∙ none-not 8 (s .args .cols .now) (s .args .once .now) (s .args .some .now) (s .args .d) (λ i. omega (arith, c .before .before .before .before .shared-slice-known3 .given i)) (λ i. omega (arith, c .before .before .before .before .before .before .shared-slice-known .given i)) (λ i. omega (arith, c .before .before .before .before .before .shared-slice-known2 .given i)) (l .i) (s .args .used) (omega arith) (omega arith) (λ e. c .if1 .taken (c .before .lone-at .ensures ∙ e)))
 
 add-i : tie.Need-add-i Inv-loop μ-loop
 add-i c = omega arith
@@ -58,9 +36,9 @@ loop-less c = omega arith
 
 loop-again : tie.Need-loop-again Inv-loop μ-loop
 loop-again c =
-    let s = c .before .before .before .before .before .before .before .before .before .before in
-    let l = c .before .before .before .before .before .before .loop in
-    (omega arith, omega arith, none-more 8 (s .args .cols .now) (s .args .once .now) (s .args .some .now) (s .args .d) (λ i. omega (arith, c .before .before .before .before .before .before .before .shared-slice-known3 .given i)) (λ i. omega (arith, c .before .before .before .before .before .before .before .before .before .shared-slice-known .given i)) (l .i) (omega arith) (sym (c .before .lone-word .ensures) ∙ c .if1 .left) (l .inv .2))
+    let s = c .before .before .before .before .before .before .before in
+    let l = c .before .before .before .loop in
+    (omega arith, omega arith, none-more 8 (s .args .cols .now) (s .args .once .now) (s .args .some .now) (s .args .d) (λ i. omega (arith, c .before .before .before .before .shared-slice-known3 .given i)) (λ i. omega (arith, c .before .before .before .before .before .before .shared-slice-known .given i)) (l .i) (omega arith) (sym (c .before .lone-at .ensures) ∙ c .if1 .left) (l .inv .2))
 
 returns-2 : tie.Need-returns-2 Inv-loop μ-loop
 returns-2 c =
@@ -76,15 +54,7 @@ completes-further-spec =
     Inv-loop
     μ-loop
     loop-holds
-    mul-lone-word
-    shared-slice-read-lone-word
-    mul-lone-word-2
-    shared-slice-read-lone-word-2
-    mul-lone-word-3
-    add-lone-word
-    mul-lone-word-4
-    shared-slice-read-lone-word-3
-    lone-word-requires
+    lone-at-requires
     returns
     add-i
     loop-less

@@ -2,7 +2,6 @@
 use mathlib.Core.Path.{_≡_, refl}
 use Prim.Native.Nat.{_-_, _≤_}
 use native.Mathlib.Omega.{arith}
-use borrow.Author.Needs.{needs}
 use Rattle.parity.specs.Finite.{all}
 use Rattle.enumeration.proofs.Storing.{Filled, filled-none, filled-more}
 use Rattle.enumeration.proofs.Lone.{loneAt, once-law}
@@ -18,32 +17,8 @@ abbrev μ-loop : tie.MeasureT-loop
 loop-holds : tie.Need-loop-holds Inv-loop μ-loop
 loop-holds c = (omega arith, filled-none _ _ _ refl)
 
-mul-lone-word : tie.Need-mul-lone-word Inv-loop μ-loop
-mul-lone-word c = omega arith
-
-shared-slice-read-lone-word : tie.Need-shared-slice-read-lone-word Inv-loop μ-loop
-shared-slice-read-lone-word c = omega arith
-
-mul-lone-word-2 : tie.Need-mul-lone-word-2 Inv-loop μ-loop
-mul-lone-word-2 c = omega arith
-
-shared-slice-read-lone-word-2 : tie.Need-shared-slice-read-lone-word-2 Inv-loop μ-loop
-shared-slice-read-lone-word-2 c = omega arith
-
-mul-lone-word-3 : tie.Need-mul-lone-word-3 Inv-loop μ-loop
-mul-lone-word-3 c = omega arith
-
-add-lone-word : tie.Need-add-lone-word Inv-loop μ-loop
-add-lone-word c = omega arith
-
-mul-lone-word-4 : tie.Need-mul-lone-word-4 Inv-loop μ-loop
-mul-lone-word-4 c = omega arith
-
-shared-slice-read-lone-word-3 : tie.Need-shared-slice-read-lone-word-3 Inv-loop μ-loop
-shared-slice-read-lone-word-3 c = omega arith
-
-lone-word-requires : tie.Need-lone-word-requires Inv-loop μ-loop
-lone-word-requires c κs = search needs
+lone-at-requires : tie.Need-lone-at-requires Inv-loop μ-loop
+lone-at-requires c κs = let s = c .before .before .before .before .before in (s .pre .0, s .pre .1, s .pre .2, s .pre .3, omega arith)
 
 mul-all : tie.Need-mul-all Inv-loop μ-loop
 mul-all c = omega arith
@@ -60,8 +35,8 @@ loop-less c = omega arith
 
 loop-again : tie.Need-loop-again Inv-loop μ-loop
 loop-again c =
-    let l = c .before .before .before .before .before .loop in
-    (omega arith, filled-more _ _ _ _ _ (omega arith) (l .inv .1) (c .lone-word .ensures))
+    let l = c .before .before .loop in
+    (omega arith, filled-more _ _ _ _ _ (omega arith) (l .inv .1) (c .lone-at .ensures))
 
 returns : tie.Need-returns Inv-loop μ-loop
 returns c =
@@ -77,15 +52,7 @@ once-with-spec =
     Inv-loop
     μ-loop
     loop-holds
-    mul-lone-word
-    shared-slice-read-lone-word
-    mul-lone-word-2
-    shared-slice-read-lone-word-2
-    mul-lone-word-3
-    add-lone-word
-    mul-lone-word-4
-    shared-slice-read-lone-word-3
-    lone-word-requires
+    lone-at-requires
     mul-all
     array-write-all
     add-i

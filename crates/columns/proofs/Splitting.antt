@@ -15,7 +15,7 @@ use borrow.Author.Tests.{eq-eqb, ne-eqb, lt-ltb, le-ltb}
 use Rattle.parity.specs.Matrix.{Matrix, bitOf, lent}
 use Rattle.parity.specs.Cycles.{splitOf}
 use Rattle.parity.proofs.Matrix.Digits.{bit-and, bit-or, bit-not, bit-zero}
-use Rattle.parity.proofs.Matrix.Lent.{lent-in, lent-out}
+use Rattle.parity.proofs.Matrix.Lent.{lent-in, lent-out, row-room}
 use Rattle.columns.specs.Columns.{Columns}
 use Rattle.columns.specs.Splits.{parted, joined, InWord, InWords, Parted, Joined}
 
@@ -41,6 +41,10 @@ lent-set W ws r p w room k x b =
                 rw (getD-set-other ws (r * W + p) (x * W + b / 64) w 0 d, ne-eqb x r n)
           ])
     ]
+
+-- there is room for a column
+pub column-room : (W x : ℕ) {l : ℕ} → x < 512 → l ≡ 512 * W → x * W + W ≤ l
+column-room W x k e = rw e (row-room W x 512 k)
 
 -- Word i of the columns of u, v and z becomes a, b and d.
 module _ (W : ℕ) (ws : List ℕ) (u v z i : ℕ) (len : length ws ≡ 512 * W) (uv : u < v) (vz : v < z) (zl : z < 512) (il : i < W) where

@@ -17,7 +17,8 @@ use Rattle.parity.specs.Block.{bitsRecovered, bitsRemain, mended, eliminating, 
 use Rattle.parity.specs.declared.Refusal.{Refusal}
 use Rattle.parity.proofs.Causes.Refused.{refused-number, refused-same}
 use Rattle.parity.proofs.Words.Peeling.{peel-answered}
-use Rattle.parity.proofs.Lists.Block.{recovered-most, mended-as-determined}
+use Rattle.parity.proofs.Lists.Block.{mended-as-determined}
+use Rattle.parity.proofs.Lists.Answered.{recovered-most}
 use Rattle.word.specs.Answers.{admitReply}
 use Rattle.extended.specs.Answers.{Longer, inAll, copyReply, copyWord}
 use Rattle.word.specs.Solved.{solvedReply}

@@ -7,7 +7,7 @@ use native.Mathlib.Decide.{decLt}
 use lib.Dec.{ltb}
 use borrow.Author.Tests.{lt-ltb}
 use Rattle.parity.specs.Finite.{count, least}
-use Rattle.parity.proofs.Finite.Sums.{least-min}
+use Rattle.parity.proofs.Finite.Firsts.{least-min}
 use Rattle.parity.proofs.Splits.Undo.{lower-at, higher-at}
 use Rattle.rows.specs.Rows.{NextOne}
 

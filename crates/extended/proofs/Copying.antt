@@ -23,7 +23,7 @@ use Rattle.parity.proofs.Causes.Refused.{refused-number}
 use Rattle.parity.proofs.Splits.Splitting.{orthogonalises, orthogonal-accepted}
 use Rattle.parity.proofs.Words.Bytes.{right-bytes, longer-sent, longer-added, longer-size}
 use Rattle.parity.proofs.Words.Peeling.{peel-answered, after-size, losses-sent, losses-added}
-use Rattle.parity.proofs.Lists.Block.{recovered-most}
+use Rattle.parity.proofs.Lists.Answered.{recovered-most}
 use Rattle.rows.specs.Whole.{Written, wordFrom}
 use Rattle.extended.specs.Answers.{Longer, inAll, copyReply, copyWord}
 

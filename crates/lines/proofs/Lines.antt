@@ -10,8 +10,7 @@ use lib.ListN.{length, length-append, take-append-drop}
 use Rattle.parity.specs.Finite.{listFrom}
 use Rattle.parity.specs.Calls.{byteOf}
 use Rattle.parity.specs.Mend.{decimal, splitsHead, sumHead, residueHead, residueText, wordHead, shown, refusedLine, report}
-use Rattle.parity.proofs.Finite.Lists.{listFrom-snoc}
-use Rattle.parity.proofs.Matrix.Packing.{length-listFrom}
+use Rattle.parity.proofs.Finite.Lists.{length-listFrom, listFrom-snoc}
 use Rattle.lines.specs.Placed.{placed, Placed}
 use Rattle.lines.specs.Lines.{leftText, wordText, splitsLine, residueLine, wordLine}
 

@@ -9,7 +9,7 @@ use lib.Seq.{getD-set-same, getD-set-other, ext-getD}
 use lib.Ieee.{Float, nan}
 use Rattle.parity.specs.Finite.{listFrom}
 use Rattle.parity.proofs.Soft.Outcomes.{length-floats, at-floats}
-use Rattle.parity.proofs.Matrix.Packing.{length-listFrom, at-listFrom}
+use Rattle.parity.proofs.Finite.Lists.{length-listFrom, at-listFrom}
 use Rattle.parity.specs.Soft.{byteFor, floatFor}
 use Rattle.soft.specs.Pass.{Holding}
 use Rattle.parity.specs.SoftCall.{floatsFrom}

@@ -11,8 +11,8 @@ use Rattle.parity.specs.Finite.{any, least}
 use Rattle.parity.specs.Causes.{answer, refusal, refusalOf}
 use Rattle.parity.specs.SoftRange.{rangeTo, wrongSizes, unfit, crossed, minSumRangeReply, minSumRangeOutcome}
 use Rattle.parity.specs.declared.Refusal.{Refusal}
-use Rattle.parity.proofs.Finite.Sums.{is-true, is-false, is, least-at}
-use Rattle.parity.proofs.Finite.Firsts.{least-in, least-out}
+use Rattle.parity.proofs.Finite.Sums.{is-true, is-false, is}
+use Rattle.parity.proofs.Finite.Firsts.{least-at, least-in, least-out}
 use Rattle.parity.proofs.Causes.Refused.{refused-number}
 use Rattle.min_sum_range.specs.Answers.{rangingOutcome}
 use Rattle.min_sum_range.specs.declared.Ranging.the-variants.{SureZero, Within, Refused}

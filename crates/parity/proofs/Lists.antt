@@ -6,4 +6,5 @@ pub mod Holders
 pub mod Demand3
 pub mod Determined
 pub mod Theorems
+pub mod Answered
 pub mod Block

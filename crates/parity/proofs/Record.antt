@@ -4,6 +4,7 @@ pub mod Writing
 pub mod Records
 pub mod ReadPart
 pub mod ReadWritten
+pub mod ChecksBack
 pub mod ReadBack
 pub mod Performed
 pub mod SecondForm

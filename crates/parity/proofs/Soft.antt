@@ -9,5 +9,6 @@ pub mod Sound
 pub mod Fits
 pub mod Rounds
 pub mod Standing
+pub mod Right
 pub mod AsPeeling
 pub mod Outcomes

@@ -15,7 +15,7 @@ use Rattle.parity.specs.Causes.{Reply, answer, refusal, refusalOf, Outcome}
 use Rattle.parity.specs.Calls.{byteOf, wrongByte, wrongPlace, loadOutcome, orthogonalising, orthogonalisedReply, orthogonaliseOutcome, peelReply, peelOutcome}
 use Rattle.parity.specs.Mend.{refusedLine, report, unlessRefused}
 use Rattle.parity.specs.declared.Refusal.{Refusal}
-use Rattle.parity.proofs.Matrix.Packing.{length-listFrom, at-listFrom}
+use Rattle.parity.proofs.Finite.Lists.{length-listFrom, at-listFrom}
 use Rattle.parity.proofs.Matrix.Accept.{Accepted, accepts, accepting-answers, accepting-refuses}
 use Rattle.parity.proofs.Splits.Splitting.{orthogonalises, orthogonal-accepted}
 use Rattle.parity.proofs.Record.RoundTrip.{load-accepted}

@@ -10,7 +10,7 @@ use Rattle.parity.specs.declared.Form.{Form}
 use Rattle.parity.specs.declared.Form.the-variants.{Second, Third}
 use Rattle.parity.specs.Sound.{Sound}
 use Rattle.parity.proofs.Record.Reading.{split-none}
-use Rattle.parity.proofs.Record.ReadBack.{checks-sound}
+use Rattle.parity.proofs.Record.ChecksBack.{checks-sound}
 use Rattle.reading.specs.Judge.{ChecksRight, Ends, Breaks}
 use Rattle.carried.specs.Perform.{Performs}
 use Rattle.record.specs.Fill.{Filled}

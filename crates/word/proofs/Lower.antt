@@ -17,7 +17,7 @@ use Rattle.parity.specs.Matrix.{Matrix}
 use Rattle.parity.specs.Words.{isOne, inside, odd, extended}
 use Rattle.parity.specs.Calls.{byteOf}
 use Rattle.parity.proofs.Finite.Sums.{is-true, is-false, is, one≤1, count-at, count-suc, count-mono, count-end, sum-two, sum-zero, byte-one, eqb-one}
-use Rattle.parity.proofs.Matrix.Packing.{length-listFrom, at-listFrom}
+use Rattle.parity.proofs.Finite.Lists.{length-listFrom, at-listFrom}
 use Rattle.parity.proofs.Matrix.Rule.{Rule}
 use Rattle.parity.proofs.Words.Extend.{inside-cong}
 use Rattle.rows.specs.Rows.{NextOne}

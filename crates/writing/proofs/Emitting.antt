@@ -21,13 +21,12 @@ use Rattle.parity.specs.Record.{headKind, bitWords, opening, checkWords, splitt
 use Rattle.parity.specs.declared.Form.{Form}
 use Rattle.parity.specs.Sound.{Sound}
 use Rattle.parity.proofs.Finite.Sums.{count-mono}
-use Rattle.parity.proofs.Finite.Lists.{listFrom-snoc, sets-append}
+use Rattle.parity.proofs.Finite.Lists.{length-listFrom, listFrom-snoc, sets-append}
 use Rattle.parity.proofs.Matrix.Digits.{bit-zero}
 use Rattle.parity.proofs.Matrix.Lent.{lent-word}
 use Rattle.parity.proofs.Matrix.Ones.{Lowest}
 use Rattle.parity.proofs.Matrix.Rest.{rest-bit}
 use Rattle.parity.proofs.Record.Writing.{length-one, length-bits, length-check, length-checks, checks-wider}
-use Rattle.parity.proofs.Matrix.Packing.{length-listFrom}
 use Rattle.parity.proofs.Matrix.Sound.{sound-rule}
 use Rattle.parity.proofs.Splits.Undo.{higher-at}
 use Rattle.parity.proofs.Lists.Rebuilt.{built-recovers, all-sound, written-built, recovered-words}

@@ -15,7 +15,7 @@ use Rattle.parity.specs.Calls.{byteOf, encodeOutcome}
 use Rattle.parity.specs.MessageBits.{messageBitsReply, messageBitsOutcome}
 use Rattle.parity.specs.MessageBitsPromises.{RankOfMarks, atMarks, MessageMarked}
 use Rattle.parity.proofs.Finite.Sums.{is-true, is-false, is, byte-one, count-cong, count-suc, count-mono}
-use Rattle.parity.proofs.Matrix.Packing.{at-listFrom}
+use Rattle.parity.proofs.Finite.Lists.{at-listFrom}
 use Rattle.parity.proofs.Matrix.Accept.{Accepted, passes}
 use Rattle.parity.proofs.Causes.Admit.{accepted-number}
 use Rattle.parity.proofs.Words.Bytes.{list-bytes}

@@ -17,7 +17,7 @@ use Rattle.parity.specs.Encoding.{dependent, rankOf, encoded}
 use Rattle.parity.specs.Causes.{answer}
 use Rattle.parity.specs.Calls.{byteOf, verifyReply, encodeReply, encodeOutcome, rankReply}
 use Rattle.parity.proofs.Finite.Sums.{is-true, is-false, is, one≤1, any-of, any-at, byte-one, eqb-one}
-use Rattle.parity.proofs.Matrix.Packing.{length-listFrom, at-listFrom}
+use Rattle.parity.proofs.Finite.Lists.{length-listFrom, at-listFrom}
 use Rattle.parity.proofs.Splits.Split.{Even}
 use Rattle.parity.proofs.Words.Extend.{inside-cong}
 use Rattle.parity.proofs.Matrix.Accept.{Accepted, passes}

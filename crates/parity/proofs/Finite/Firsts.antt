@@ -1,11 +1,50 @@
--- The smallest number that passes a test, the one that passes after t others, and tests that agree. Assumes nothing.
+-- The largest of some numbers, the smallest that passes a test, the one that passes after t others, and tests that agree. Assumes nothing.
 use mathlib.Core.Path.{_≡_, refl, sym, _∙_}
-use mathlib.Core.Bool.{Bool, true, false, true≢false}
-use Prim.Native.Nat.{ℕ, zero, suc, _<_}
+use mathlib.Core.Bool.{Bool, true, false, true≢false, false≢true}
+use native.Mathlib.Nat.{not-suc-le-zero}
+use Prim.Native.Nat.{ℕ, zero, suc, _≤_, _<_}
 use native.Mathlib.Omega.{arith}
-use native.Mathlib.Decide.{ℕ-discrete, decLt}
-use Rattle.parity.specs.Finite.{count, all, any, least}
-use Rattle.parity.proofs.Finite.Sums.{is-true, is-false, is, any-of, any-at, least-at, least-min, count-suc, count-mono, count-bound}
+use native.Mathlib.Decide.{ℕ-discrete, decLe, decLt}
+use Rattle.parity.specs.Finite.{count, all, any, most, least}
+use Rattle.parity.proofs.Finite.Sums.{is-true, is-false, is, any-of, any-at, count-suc, count-mono, count-bound}
+
+-- the largest
+pub most-le : (n : ℕ) (f : ℕ → ℕ) (i : ℕ) → i < n → f i ≤ most n f
+unfolding most
+most-le zero f i k = absurd (not-suc-le-zero k)
+most-le (suc n) f i k =
+    elim (ℕ-discrete i n) [ yes q ↦ rw q (omega arith) | no d ↦ omega (arith, most-le n f i (omega arith)) ]
+
+pub most-at : (n : ℕ) (f : ℕ → ℕ) → 0 < most n f → (i : ℕ) × (i < n) × (f i ≡ most n f)
+unfolding most
+most-at zero f k = absurd (not-suc-le-zero k)
+most-at (suc n) f k =
+    elim (decLe (most n f) (f n)) [
+      | yes l ↦ (n, omega arith, omega arith)
+      | no l ↦ let (i, j, e) = most-at n f (omega arith) in (i, omega arith, omega arith)
+    ]
+
+-- the smallest
+pub least-at : (n : ℕ) (p : ℕ → Bool) → any n p ≡ true → (least n p < n) × (p (least n p) ≡ true)
+unfolding any least
+least-at zero p e = absurd (false≢true e)
+least-at (suc n) p e =
+    elim (is (any n p)) [
+      | is-true q ↦ let (k, r) = least-at n p q in rw q (omega arith, r)
+      | is-false q ↦ let r : p n ≡ true = rw q at e in rw (q, r) (omega arith, r)
+    ]
+
+pub least-min : (n : ℕ) (p : ℕ → Bool) (i : ℕ) → i < n → p i ≡ true → least n p ≤ i
+unfolding any least
+least-min zero p i k e = absurd (not-suc-le-zero k)
+least-min (suc n) p i k e =
+    elim (ℕ-discrete i n) [
+      | yes q ↦ elim (is (any n p)) [
+        | is-true r ↦ rw r (omega (arith, least-at n p r .0))
+        | is-false r ↦ rw (r, ← q, e) (omega arith)
+      ]
+      | no d ↦ rw (any-of n p i (omega arith) e) (least-min n p i (omega arith) e)
+    ]
 
 pub all-cong : (n : ℕ) {p q : ℕ → Bool} → ((i : ℕ) → i < n → p i ≡ q i) → all n p ≡ all n q
 unfolding all

@@ -1,12 +1,32 @@
 -- Laws of lists that a function gives, and of numbers stored one after another. Assumes nothing.
-use mathlib.Core.Path.{_≡_, ap, _∙_}
+use mathlib.Core.Path.{_≡_, refl, sym, ap, _∙_}
 use mathlib.Core.List.{List, [], _∷_, _++_}
-use Prim.Native.Nat.{ℕ, zero, suc, _+_}
-use native.Mathlib.Nat.{add-zero}
+use Prim.Native.Nat.{ℕ, zero, suc, _+_, _<_}
+use native.Mathlib.Nat.{not-suc-le-zero, add-zero}
 use native.Mathlib.Omega.{arith}
-use lib.ListN.{length, set}
-use lib.Seq.{sets}
+use lib.ListN.{getD, length, set}
+use lib.Seq.{sets, ext-getD}
 use Rattle.parity.specs.Finite.{listFrom}
+
+-- the entries of a list that a function gives
+pub length-listFrom : (i n : ℕ) (f : ℕ → ℕ) → length (listFrom i n f) ≡ n
+unfolding listFrom
+length-listFrom i zero f = refl
+length-listFrom i (suc n) f = ap suc (length-listFrom (suc i) n f)
+
+pub at-listFrom : (i n : ℕ) (f : ℕ → ℕ) (j : ℕ) → j < n → getD (listFrom i n f) j 0 ≡ f (i + j)
+unfolding listFrom
+at-listFrom i zero f j k = absurd (not-suc-le-zero k)
+at-listFrom i (suc n) f zero k = ap f (sym (add-zero i))
+at-listFrom i (suc n) f (suc j) k =
+    let e : suc i + j ≡ i + suc j = omega arith in
+    at-listFrom (suc i) n f j (omega arith) ∙ ap f e
+
+pub listFrom-cong : (i n : ℕ) (f g : ℕ → ℕ) → ((j : ℕ) → j < n → f (i + j) ≡ g (i + j)) → listFrom i n f ≡ listFrom i n g
+listFrom-cong i n f g h =
+    ext-getD 0 (listFrom i n f) (listFrom i n g) (length-listFrom i n f ∙ sym (length-listFrom i n g)) (λ j k.
+    let l : j < n = rw (length-listFrom i n f) at k in
+    at-listFrom i n f j l ∙ h j l ∙ sym (at-listFrom i n g j l))
 
 -- the last entry
 pub listFrom-snoc : (i n : ℕ) (f : ℕ → ℕ) → listFrom i (suc n) f ≡ listFrom i n f ++ (f (i + n) ∷ [])

@@ -8,8 +8,8 @@ use native.Mathlib.Omega.{arith}
 use native.Mathlib.Decide.{ℕ-discrete}
 use Rattle.parity.specs.Finite.{any, least, greatest, outermost}
 use Rattle.parity.specs.CyclesPromises.{Names}
-use Rattle.parity.proofs.Finite.Sums.{is-true, is-false, is, any-of, any-at, least-at, least-min}
-use Rattle.parity.proofs.Finite.Firsts.{any-none, least-is}
+use Rattle.parity.proofs.Finite.Sums.{is-true, is-false, is, any-of, any-at}
+use Rattle.parity.proofs.Finite.Firsts.{least-at, least-min, any-none, least-is}
 
 -- the largest
 pub greatest-at : (n : ℕ) (p : ℕ → Bool) → any n p ≡ true → (greatest n p < n) × (p (greatest n p) ≡ true)

@@ -18,7 +18,7 @@ use Rattle.parity.specs.Causes.{Outcome}
 use Rattle.parity.specs.Calls.{byteOf, extendOutcome, peelOutcome}
 use Rattle.parity.specs.Demand3.{orthogonalises, Stand, runs, start, Verifies, erasing, Left, Recovered, Peelings, BeginsOne, Keeps, Demand3}
 use Rattle.parity.proofs.Finite.Sums.{one≤1, byte-one, eqb-one}
-use Rattle.parity.proofs.Matrix.Packing.{length-listFrom, at-listFrom}
+use Rattle.parity.proofs.Finite.Lists.{length-listFrom, at-listFrom}
 use Rattle.parity.proofs.Splits.Split.{Even}
 use Rattle.parity.proofs.Matrix.Accept.{Accepted, accepts, other-k}
 use Rattle.parity.proofs.Words.Extend.{inside-cong, extend-base, extend-added}

@@ -17,14 +17,14 @@ use Rattle.parity.specs.Splits.{Pair, splitAll, splitRight, splitsRight,
 use Rattle.parity.specs.Record.{splitting, splitWords}
 use Rattle.parity.specs.Sound.{Clean, Sound}
 use Rattle.parity.proofs.Finite.Bools.{beq-same, beq-refl}
-use Rattle.parity.proofs.Finite.Sums.{is-true, is-false, is, all-at, all-of, any-of, least-at, least-min}
+use Rattle.parity.proofs.Finite.Sums.{is-true, is-false, is, all-at, all-of, any-of}
+use Rattle.parity.proofs.Finite.Firsts.{least-at, least-min}
 use Rattle.parity.proofs.Splits.Cycles.{share-comm, new-u, new-v}
 use Rattle.parity.proofs.Matrix.Rule.{place, first, second, new}
-use Rattle.parity.proofs.Matrix.Packing.{listFrom-cong}
 use Rattle.parity.proofs.Splits.Given.{back-added}
 use Rattle.parity.proofs.Splits.Back.{back-clean, split-back, back-sound}
 use Rattle.parity.proofs.Lists.Built.{Built, given, more, good}
-use Rattle.parity.proofs.Finite.Lists.{listFrom-snoc}
+use Rattle.parity.proofs.Finite.Lists.{listFrom-cong, listFrom-snoc}
 
 -- the split of v and u is that of u and v
 split-swap : (h : Matrix) (N M u v : ℕ) → splitOf h N M u v ≡ splitOf h N M v u

@@ -3,7 +3,7 @@ use mathlib.Core.Path.{_≡_, refl, sym, ap, _∙_, fun-ext}
 use mathlib.Core.Bool.{Bool, true, false, and-false}
 use mathlib.Core.List.{List}
 use Prim.Native.Nat.{ℕ, zero, suc, _+_, _*_, _-_, _/_, _%_, _^_, _≤_, _<_}
-use native.Mathlib.Nat.{not-suc-le-zero, add-zero, div-add-mod', mod-lt, mul-add-div-right, mul-assoc, pow-suc, zero-div, mul-le-mul-right}
+use native.Mathlib.Nat.{not-suc-le-zero, div-add-mod', mod-lt, mul-add-div-right, mul-assoc, pow-suc, zero-div, mul-le-mul-right}
 use native.Mathlib.Omega.{arith}
 use native.Mathlib.Decide.{ℕ-discrete, decLt}
 use lib.Dec.{eqb}
@@ -12,31 +12,12 @@ use lib.Seq.{ext-getD}
 use lib.Arith.{digits-div, digits-mod, digits-lt}
 use lib.Pow.{pow-add, pow-pos, high}
 use borrow.Author.Tests.{lt-ltb}
-use Rattle.parity.specs.Finite.{one, sum, listFrom}
+use Rattle.parity.specs.Finite.{one, sum}
 use Rattle.parity.specs.Matrix.{Matrix, bitOf, lent, wordOf, pack}
 use Rattle.parity.proofs.Finite.Sums.{one≤1}
+pub use Rattle.parity.proofs.Finite.Lists.{length-listFrom, at-listFrom, listFrom-cong}
 use Rattle.parity.proofs.Matrix.Digits.{same-bits}
 use Rattle.parity.proofs.Matrix.Lent.{lent-out, lent-word}
-
--- the entries of a list that a function gives
-pub length-listFrom : (i n : ℕ) (f : ℕ → ℕ) → length (listFrom i n f) ≡ n
-unfolding listFrom
-length-listFrom i zero f = refl
-length-listFrom i (suc n) f = ap suc (length-listFrom (suc i) n f)
-
-pub at-listFrom : (i n : ℕ) (f : ℕ → ℕ) (j : ℕ) → j < n → getD (listFrom i n f) j 0 ≡ f (i + j)
-unfolding listFrom
-at-listFrom i zero f j k = absurd (not-suc-le-zero k)
-at-listFrom i (suc n) f zero k = ap f (sym (add-zero i))
-at-listFrom i (suc n) f (suc j) k =
-    let e : suc i + j ≡ i + suc j = omega arith in
-    at-listFrom (suc i) n f j (omega arith) ∙ ap f e
-
-pub listFrom-cong : (i n : ℕ) (f g : ℕ → ℕ) → ((j : ℕ) → j < n → f (i + j) ≡ g (i + j)) → listFrom i n f ≡ listFrom i n g
-listFrom-cong i n f g h =
-    ext-getD 0 (listFrom i n f) (listFrom i n g) (length-listFrom i n f ∙ sym (length-listFrom i n g)) (λ j k.
-    let l : j < n = rw (length-listFrom i n f) at k in
-    at-listFrom i n f j l ∙ h j l ∙ sym (at-listFrom i n g j l))
 
 -- a binary number, by its digits
 pub binary-lt : (n : ℕ) (p : ℕ → Bool) → sum n (λ b. one (p b) * 2 ^ b) < 2 ^ n

@@ -26,7 +26,7 @@ use Rattle.parity.proofs.Finite.Bools.{or-false-both}
 use Rattle.parity.proofs.Finite.Sums.{is-true, is-false, is}
 use Rattle.parity.proofs.Finite.Firsts.{any-none, none-at}
 use Rattle.parity.proofs.Matrix.Accept.{Accepted, passes}
-use Rattle.parity.proofs.Matrix.Packing.{listFrom-cong}
+use Rattle.parity.proofs.Finite.Lists.{listFrom-cong}
 use Rattle.parity.proofs.Causes.Admit.{accepted-number}
 use Rattle.parity.proofs.Words.Bytes.{Codeword, word-right, erased-at, erased-got, erased-size}
 use Rattle.parity.proofs.Words.Verifying.{verifies}

@@ -10,7 +10,8 @@ use borrow.Author.Tests.{eq-eqb, eqb-true, lt-ltb, ltb-true}
 use Rattle.parity.specs.Finite.{sum, any, most}
 use Rattle.parity.specs.Matrix.{Matrix}
 use Rattle.parity.specs.Cycles.{share, pairs, cycles, largestShare, lowerBit, higherBit}
-use Rattle.parity.proofs.Finite.Sums.{sum-zero, sum-ge, most-le, most-at, any-of, least-at, least-min}
+use Rattle.parity.proofs.Finite.Sums.{sum-zero, sum-ge, any-of}
+use Rattle.parity.proofs.Finite.Firsts.{most-le, most-at, least-at, least-min}
 use Rattle.parity.proofs.Splits.Pairs.{pairs-two}
 
 -- The pair of the largest share, then of the smallest lower bit, then of the smallest higher bit.

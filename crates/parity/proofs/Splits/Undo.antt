@@ -10,7 +10,8 @@ use Rattle.parity.specs.Finite.{one, count, least}
 use Rattle.parity.specs.Matrix.{Matrix}
 use Rattle.parity.specs.Cycles.{share, splitOf, takenBack, others, lowerOf, higherOf}
 use Rattle.parity.specs.Sound.{Sound, Newest}
-use Rattle.parity.proofs.Finite.Sums.{is-true, is-false, is, sum-point, sum-two, sum-ge, count-cong, count-suc, count-pos, count-at, any-of, least-at, least-min}
+use Rattle.parity.proofs.Finite.Sums.{is-true, is-false, is, sum-point, sum-two, sum-ge, count-cong, count-suc, count-pos, count-at, any-of}
+use Rattle.parity.proofs.Finite.Firsts.{least-at, least-min}
 use Rattle.parity.proofs.Splits.Split.{at-new-bit, at-other, at-apart, at-u, at-v}
 use Rattle.parity.proofs.Splits.Cycles.{new-other, new-u, new-v, new-z}
 use Rattle.parity.proofs.Matrix.Sound.{sound-rule, split-clean}

@@ -18,7 +18,7 @@ use Rattle.parity.specs.Causes.{Reply}
 use Rattle.parity.specs.Calls.{byteOf, wrongByte, checkingBytes}
 use Rattle.parity.specs.Demand3.{erasing}
 use Rattle.parity.proofs.Finite.Sums.{is-true, is-false, is, one≤1, eqb-one, eqb-two, byte-known}
-use Rattle.parity.proofs.Matrix.Packing.{length-listFrom, at-listFrom}
+use Rattle.parity.proofs.Finite.Lists.{length-listFrom, at-listFrom}
 use Rattle.parity.proofs.Splits.Split.{Stops, Even}
 use Rattle.parity.proofs.Words.Extend.{inside-cong}
 use Rattle.parity.proofs.Finite.Firsts.{none-at, any-none}

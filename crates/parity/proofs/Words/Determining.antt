@@ -20,7 +20,7 @@ use Rattle.parity.specs.Calls.{byteOf, wrongByte, checkingBytes, verifyR
 use Rattle.parity.specs.Demand3.{Verifies, erasing, Left}
 use Rattle.parity.specs.DeterminingPromises.{Agreeing, Determines, WritesOneValue, RefusedIfNone, PeeledIsDetermined, RefusedWithPeeling, ErasedCodeword, DeterminedTwice, NothingErased}
 use Rattle.parity.proofs.Finite.Sums.{is-true, is-false, is, one≤1, sum-zero, byte-one, eqb-one, byte-known}
-use Rattle.parity.proofs.Matrix.Packing.{length-listFrom, at-listFrom}
+use Rattle.parity.proofs.Finite.Lists.{length-listFrom, at-listFrom}
 use Rattle.parity.proofs.Matrix.Accept.{Accepted, accepts, accepting-answers, accepting-refuses, passes}
 use Rattle.parity.proofs.Causes.Admit.{accepted-number}
 use Rattle.parity.proofs.Words.Extend.{inside-cong}

@@ -24,7 +24,8 @@ use Rattle.parity.specs.DeterminingPromises.{Agreeing}
 use Rattle.parity.proofs.Finite.Bools.{same-test, xor-self, xor-false}
 use Rattle.parity.proofs.Finite.Sums.{is-true, is-false, is, byte-one, sum-zero}
 use Rattle.parity.proofs.Matrix.Digits.{same-bits}
-use Rattle.parity.proofs.Matrix.Packing.{length-listFrom, at-listFrom, word-lt, word-bit, lent-flat}
+use Rattle.parity.proofs.Matrix.Packing.{word-lt, word-bit, lent-flat}
+use Rattle.parity.proofs.Finite.Lists.{length-listFrom, at-listFrom}
 use Rattle.parity.proofs.Matrix.Accept.{Accepted}
 use Rattle.parity.proofs.Causes.Admit.{accepted-number}
 use Rattle.parity.proofs.Words.Residue.{inside-xor}

@@ -23,7 +23,7 @@ use Rattle.parity.specs.DeterminingPromises.{Agreeing}
 use Rattle.parity.proofs.Finite.Bools.{or-false-both}
 use Rattle.parity.proofs.Finite.Sums.{is-true, is-false, is, one≤1, eqb-one, eqb-two, count-cong, count-never}
 use Rattle.parity.proofs.Matrix.Lent.{lent-empty}
-use Rattle.parity.proofs.Matrix.Packing.{length-listFrom, listFrom-cong}
+use Rattle.parity.proofs.Finite.Lists.{length-listFrom, listFrom-cong}
 use Rattle.parity.proofs.Matrix.Accept.{Accepted, passes}
 use Rattle.parity.proofs.Words.Agreeing.{Agree, some-of, none-of, known-value}
 use Rattle.parity.proofs.Words.Bytes.{Word, word-right}

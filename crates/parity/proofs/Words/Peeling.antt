@@ -16,7 +16,7 @@ use Rattle.parity.specs.Words.{erased, isOne, inside, residue, peels, pe
 use Rattle.parity.specs.Causes.{Reply, answer, Outcome, refusal}
 use Rattle.parity.specs.Calls.{byteOf, verifyReply, isStoppingReply, peelReply, peelOutcome}
 use Rattle.parity.proofs.Finite.Sums.{is-true, is-false, is, one≤1, all-of, count-cong, count-part, byte-one, eqb-one, eqb-two, byte-known, count-never}
-use Rattle.parity.proofs.Matrix.Packing.{length-listFrom, at-listFrom, listFrom-cong}
+use Rattle.parity.proofs.Finite.Lists.{length-listFrom, at-listFrom, listFrom-cong}
 use Rattle.parity.proofs.Words.Extend.{inside-cong}
 use Rattle.parity.proofs.Words.Residue.{outside, anySet-at, residue-of, residue-within, residue-stops, Solves, solve}
 use Rattle.parity.proofs.Words.Peel.{peels-solved, peeled-left, peeled-value, right-value}

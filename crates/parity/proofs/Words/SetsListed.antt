@@ -20,7 +20,7 @@ use Rattle.parity.specs.declared.Refusal.{Refusal}
 use Rattle.parity.specs.StoppingSetsPromises.{bytesOf, SmallStoppingSets, LengthNeeded}
 use Rattle.parity.proofs.Finite.Sums.{is-true, is-false, is, one≤1, eqb-one, byte-one, count-pos}
 use Rattle.parity.proofs.Finite.Firsts.{all-cong}
-use Rattle.parity.proofs.Matrix.Packing.{length-listFrom, at-listFrom}
+use Rattle.parity.proofs.Finite.Lists.{length-listFrom, at-listFrom}
 use Rattle.parity.proofs.Matrix.Accept.{Accepted, accepts, accepting-answers, accepting-refuses}
 use Rattle.parity.proofs.Causes.Refused.{refused-number, refused-same}
 use Rattle.parity.proofs.Splits.Split.{stops}

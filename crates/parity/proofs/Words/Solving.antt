@@ -20,7 +20,7 @@ use Rattle.parity.specs.Solving.{ready, solving, solvingAll, isRun, isCo
 use Rattle.parity.specs.SolvingPromises.{AnyOrder, SolvedInAnyOrder}
 use Rattle.parity.proofs.Finite.Sums.{is-true, is-false, is, byte-one, eqb-one, eqb-two, any-of, any-at, count-at, count-two, count-part, sum-point, byte-known}
 use Rattle.parity.proofs.Matrix.Lent.{count-add}
-use Rattle.parity.proofs.Matrix.Packing.{length-listFrom, at-listFrom}
+use Rattle.parity.proofs.Finite.Lists.{length-listFrom, at-listFrom}
 use Rattle.parity.proofs.Splits.Split.{Stops}
 use Rattle.parity.proofs.Words.Extend.{odd-added}
 use Rattle.parity.proofs.Words.Steps.{solved-at, solved-other, Stage, stage-start, step, fewer, ended}

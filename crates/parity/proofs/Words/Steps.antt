@@ -10,7 +10,8 @@ use Rattle.parity.specs.Finite.{one, count, any}
 use Rattle.parity.specs.Matrix.{Matrix}
 use Rattle.parity.specs.Words.{solved, loneCheck, loneBit, steps, agrees, inside, odd, residue, erased, isOne, peels, peeled}
 use Rattle.parity.proofs.Finite.Bools.{or-false-both, or-else, same-test}
-use Rattle.parity.proofs.Finite.Sums.{is-true, is-false, is, one≤1, byte-one, eqb-one, eqb-two, all-at, all-not, count-two, count-cong, count-le, count-bound, any-of, least-at, count-at, sum-point}
+use Rattle.parity.proofs.Finite.Sums.{is-true, is-false, is, one≤1, byte-one, eqb-one, eqb-two, all-at, all-not, count-two, count-cong, count-le, count-bound, any-of, count-at, sum-point}
+use Rattle.parity.proofs.Finite.Firsts.{least-at}
 use Rattle.parity.proofs.Splits.Split.{Stops}
 use Rattle.parity.proofs.Words.Extend.{odd-only, inside-cong}
 use Rattle.parity.proofs.Words.Residue.{Within, inside-le, inside-pos, outside, anySet-at, residue-of, residue-within, residue-stops, Solves, solve}

@@ -15,7 +15,7 @@ use Rattle.parity.specs.Words.{isOne, evenChecks, codeword, extended, st
 use Rattle.parity.specs.Causes.{answer}
 use Rattle.parity.specs.Calls.{byteOf, checkingBytes, verifyReply, extendReply, extendOutcome, isStoppingReply}
 use Rattle.parity.proofs.Finite.Sums.{all-at, all-of, byte-one}
-use Rattle.parity.proofs.Matrix.Packing.{length-listFrom, at-listFrom}
+use Rattle.parity.proofs.Finite.Lists.{length-listFrom, at-listFrom}
 use Rattle.parity.proofs.Splits.Split.{Stops, stops, evens}
 use Rattle.parity.proofs.Matrix.Accept.{Accepted, passes}
 use Rattle.parity.proofs.Words.Extend.{extend-only}

@@ -4,7 +4,7 @@ use Prim.Native.Nat.{_+_, _*_, _≤_, _<_}
 use native.Mathlib.Omega.{arith}
 use lib.ListN.{length, length-set}
 use Rattle.parity.specs.Matrix.{lent}
-use Rattle.parity.proofs.Matrix.Packing.{length-listFrom}
+use Rattle.parity.proofs.Finite.Lists.{length-listFrom}
 use Rattle.writing.specs.Write.{splitOfCheck}
 use Rattle.writing.proofs.Emitting.{wrote-length, plain-length, wrote-plain}
 use Rattle.writing.proofs.emit.put_record.Reads as reads

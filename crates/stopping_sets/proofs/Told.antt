@@ -1,14 +1,14 @@
 -- What listing answers: the sets that the search finds over the columns are those of the matrix. Assumes nothing.
-use mathlib.Core.Path.{_≡_, sym, _∙_}
+use mathlib.Core.Path.{_≡_, refl, sym, _∙_}
 use mathlib.Core.Bool.{Bool, true, false, _&&_, and-eq-true-iff}
-use mathlib.Core.List.{List}
+use mathlib.Core.List.{List, [], _∷_, _++_}
 use Prim.Native.Nat.{ℕ, _+_, _*_, _/_, _≤_, _<_}
-use native.Mathlib.Nat.{add-zero}
+use native.Mathlib.Nat.{add-zero, zero-div}
 use native.Mathlib.Omega.{arith}
 use native.Mathlib.Decide.{decLt}
 use lib.Arith.{digits-div}
 use lib.Dec.{leb}
-use lib.ListN.{length}
+use lib.ListN.{length, drop}
 use borrow.Author.Tests.{lt-ltb, le-ltb, leb-true, not-false}
 use Rattle.parity.specs.Finite.{one, count}
 use Rattle.parity.specs.Matrix.{Matrix, lent}
@@ -85,3 +85,11 @@ unfolding wrongSize
 right-size t e =
     let (x, y) = and-eq-true-iff (leb 1 t) (leb t 4) .0 (not-false (leb 1 t && leb t 4) e) in
     (leb-true 1 t x, leb-true t 4 y)
+
+-- where they take no place, there are none, and nothing changes
+pub none-found : (ws : List ℕ) (n m k t : ℕ) → 1 ≤ t → length (flat (found ws n m k t)) ≡ 0 → 0 ≡ length (found ws n m k t)
+none-found ws n m k t l z = sym (zero-div t) ∙ rw z at (found-count ws n m k t l)
+
+pub none-stored : (xs old : List ℕ) → length xs ≡ 0 → old ≡ xs ++ drop (length xs) old
+none-stored [] old z = refl
+none-stored (x ∷ xs) old z = absurd (omega arith)

@@ -37,7 +37,8 @@ fn words_used(checks: usize) -> usize
     words_of(checks)
 }
 
-// Lists every stopping set of exactly `t` sent bits in the first places of `sets`. They are counted first, so that a refusal leaves everything.
+// Lists every stopping set of exactly `t` sent bits in the first places of `sets`. They are counted first, so that a refusal leaves everything, and where there
+// are none, they are not sought again.
 pub fn list(words: &[u64], n: usize, m: usize, k: usize, t: usize, sets: &mut [u16]) -> Listing
     ensures { λ r. ⌜ listingReply r ≡ stoppingSetsOutcome (now (words .entry)) n m k t (now (sets .entry)) .reply ⌝ }
     ensures { λ r. ⌜ now (sets .exit) ≡ stoppingSetsOutcome (now (words .entry)) n m k t (now (sets .entry)) .after ⌝ }
@@ -54,6 +55,9 @@ pub fn list(words: &[u64], n: usize, m: usize, k: usize, t: usize, sets: &mut [u
     let needed = list_all(&cols, n, used, t, sets, false);
     if sets.len() < needed {
         return Listing::Refused(Refusal::SetsTooShort { needed });
+    }
+    if needed == 0 {
+        return Listing::Listed { sets: 0 };
     }
     list_all(&cols, n, used, t, sets, true);
     Listing::Listed { sets: needed / t }

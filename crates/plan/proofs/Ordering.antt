@@ -2,10 +2,10 @@
 use mathlib.Core.Path.{_≡_, refl, sym, ap, _∙_, fun-ext}
 use mathlib.Core.Bool.{Bool, true, false, not, _&&_, _||_, and-true, and-false, or-true, or-false, and-eq-true-iff, true≢false, false≢true}
 use mathlib.Core.List.{List}
-use Prim.Native.Nat.{ℕ, zero, suc, _+_, _%_, _<_}
+use Prim.Native.Nat.{ℕ, zero, suc, _+_, _%_, _≤_, _<_}
 use native.Mathlib.Numerals.{add-one}
 use native.Mathlib.Omega.{arith}
-use native.Mathlib.Decide.{ℕ-discrete}
+use native.Mathlib.Decide.{ℕ-discrete, decLt}
 use lib.Dec.{eqb}
 use lib.ListN.{getD, length, set}
 use lib.Seq.{getD-set-same, getD-set-other}
@@ -17,9 +17,11 @@ use Rattle.parity.proofs.Finite.Sums.{is-true, is-false, is, sum-point, count-c
 use Rattle.parity.proofs.Matrix.Lent.{put-here, put-place}
 use Rattle.parity.proofs.Words.Extend.{odd-added}
 use Rattle.parity.proofs.Words.Residue.{outside, inside-le}
-use Rattle.steps.specs.Next.{Lone}
-use Rattle.steps.specs.Steps.{Solved, start, next}
-use Rattle.steps.proofs.Held.{fewer}
+use Rattle.steps.specs.Next.{Lone, NoSingle}
+use Rattle.steps.specs.Live.{Live}
+use Rattle.steps.specs.Steps.{Solved, Short, start, next}
+use Rattle.steps.proofs.Held.{fewer, inside-short}
+use Rattle.steps.proofs.Listing.{live-solved}
 use Rattle.rows.specs.Rows.{Empty}
 use Rattle.lanes.specs.Lanes.{ran, solvedBy}
 use Rattle.plan.specs.Order.{Free, Even, Ordered, Joined}
@@ -138,6 +140,29 @@ ordered-noted h B M e E E′ D D′ cs bs cs′ bs′ s c b O L p q u v k l =
 -- and leaves less to do
 pub noted-less : (h : Matrix) (B M : ℕ) (E E′ : Matrix) (c b : ℕ) → Lone h B M (E 0) c b → E′ ≡ put 0 b false E → count B (E 0) ≡ suc (count B (E′ 0))
 noted-less h B M E E′ c b L p = fewer h B M c b (E 0) (λ a. false) (E′ 0) (λ a. false || (eqb a b && odd (inside h B c (λ a. false)))) L record { gone = put-out b E E′ p; value = λ a. refl }
+
+-- what the search finds among N bits is among the first B, where none is erased from B on
+pub lone-narrow : (h : Matrix) (B N M c b : ℕ) (e : ℕ → Bool) → B ≤ N → Short B e → Lone h N M e c b → Lone h B M e c b
+lone-narrow h B N M c b e few f L = record {
+  check = L .check;
+  bit = elim (decLt b B) [ yes l ↦ l | no l ↦ absurd (false≢true (sym (f .none b (omega arith)) ∙ L .gone)) ];
+  has = L .has;
+  gone = L .gone;
+  only = sym (inside-short h N B c e few (f .none)) ∙ L .only;
+}
+
+-- and so is what it does not find
+pub single-narrow : (h : Matrix) (B N M from : ℕ) (e : ℕ → Bool) → B ≤ N → Short B e → NoSingle h N M from e → NoSingle h B M from e
+single-narrow h B N M from e few f S = record { none = λ c i k q. S .none c i k (inside-short h N B c e few (f .none) ∙ q) }
+
+-- what a noted step leaves of the erased bits, and of the list of checks
+pub short-noted : (B b : ℕ) (E E′ : Matrix) → Short B (E 0) → E′ ≡ put 0 b false E → Short B (E′ 0)
+short-noted B b E E′ f p = record { none = λ a k. put-out b E E′ p a ∙ rw (f .none a k) }
+
+pub live-noted : (h : Matrix) (N M : ℕ) (E E′ : Matrix) (c b : ℕ) (l : List ℕ) (k a n : ℕ) → Lone h N M (E 0) c b → E′ ≡ put 0 b false E → getD l a 0 ≡ c → Live h N M (E 0) l k a n
+    → Live h N M (E′ 0) l k (a + 1) n
+live-noted h N M E E′ c b l k a n L p =
+    live-solved h N M c b (E 0) (λ a. false) (E′ 0) (λ a. false || (eqb a b && odd (inside h N c (λ a. false)))) L record { gone = put-out b E E′ p; value = λ a. refl } l k a n
 
 -- the checks that have one of the bits
 pub joined-none : (h : Matrix) (B : ℕ) (e done : ℕ → Bool) → Joined h B 0 e done done

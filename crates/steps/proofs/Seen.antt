@@ -18,7 +18,7 @@ use Rattle.parity.proofs.Matrix.Digits.{bit-zero}
 use Rattle.parity.proofs.Matrix.Ones.{Lowest}
 use Rattle.parity.proofs.Matrix.Rest.{rest-bit}
 use Rattle.parity.proofs.Words.Sets.{common, common-bit}
-use Rattle.steps.specs.Next.{Lone, NoSingle}
+use Rattle.steps.specs.Next.{Lone}
 
 -- bit b is an erased bit of check c
 abbrev pub hole : ℕ → List ℕ → List ℕ → ℕ → ℕ → Bool
@@ -120,16 +120,3 @@ module _ (W U : ℕ) (ws es : List ℕ) (c at i : ℕ) (e : i ≡ U) (R : Row W 
   pub row-zero : (at < U * 64 → ⊥) → inside (lent W ws) (U * 64) c (lent W es 0) ≡ 0
   unfolding inside count
   row-zero n = sum-zero (U * 64) {f = λ b. one (hole W ws es c b)} (λ b k. rw (R .none b (omega arith) (λ r. n (omega arith))))
-
-  pub row-none : (at < U * 64 → ⊥) → inside (lent W ws) (U * 64) c (lent W es 0) ≡ 1 → ⊥
-  row-none n q = let z : _≡_ {A = ℕ} 0 1 = sym (row-zero n) ∙ q in omega arith
-
--- one check more without exactly one erased bit
-pub none-more : (h : Matrix) (N c from : ℕ) (e : ℕ → Bool) → NoSingle h N c from e → (inside h N c e ≡ 1 → ⊥) → NoSingle h N (c + 1) from e
-none-more h N c from e S n = record {
-  none = λ d k l. elim (ℕ-discrete d c) [ yes q ↦ rw q n | no m ↦ S .none d k (omega arith) ];
-}
-
--- and so for fewer checks
-pub none-all : (h : Matrix) (N c M from : ℕ) (e : ℕ → Bool) → M ≤ c → NoSingle h N c from e → NoSingle h N M from e
-none-all h N c M from e l S = record { none = λ d k m. S .none d k (omega arith) }

@@ -1,11 +1,9 @@
--- The next check with exactly one erased bit, of N bits and M checks. Assumes nothing.
+-- A check with exactly one erased bit, of N bits and M checks. Assumes nothing.
 use mathlib.Core.Path.{_≡_}
 use mathlib.Core.Bool.{Bool, true}
 use Prim.Native.Nat.{ℕ, _≤_, _<_}
 use Rattle.parity.specs.Matrix.{Matrix}
 use Rattle.parity.specs.Words.{inside}
-use Rattle.steps.specs.declared.scan.Single.{Single}
-use Rattle.steps.specs.declared.scan.Single.the-variants.{Found, Nothing}
 
 -- Check c has exactly one of the erased bits e, namely b.
 pub record Lone (h : Matrix) (N M : ℕ) (e : ℕ → Bool) (c b : ℕ) : Type 0 where
@@ -18,8 +16,3 @@ pub record Lone (h : Matrix) (N M : ℕ) (e : ℕ → Bool) (c b : ℕ) : Type 0
 -- No check from `from` on has exactly one erased bit.
 pub record NoSingle (h : Matrix) (N M from : ℕ) (e : ℕ → Bool) : Type 0 where
   pub none : (c : ℕ) → from ≤ c → c < M → inside h N c e ≡ 1 → ⊥
-
--- the answer names a check from `from` on with exactly one erased bit, and that bit, or says that there is none
-abbrev pub NextSingle : Matrix → ℕ → ℕ → ℕ → (ℕ → Bool) → Single → Type 0
-NextSingle h N M from e Nothing = NoSingle h N M from e
-NextSingle h N M from e (Found c b) = Lone h N M e (c .0) (b .0)

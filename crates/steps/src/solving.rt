@@ -47,7 +47,7 @@ fn solve(words: &[u64], used: usize, c: Check, b: Bit, erased: &mut [u64], ones:
 }
 
 // The next check to solve: the number of words in use, or a few more, is known beforehand, and the search is quicker.
-fn next_in(
+pub fn next_in(
     words: &[u64],
     used: usize,
     checks: usize,

@@ -2,6 +2,7 @@
 use mathlib.Core.Path.{refl, sym, _∙_}
 use Rattle.parity.proofs.Matrix.Lent.{lent-empty}
 use borrow.Author.Needs.{needs}
+use Rattle.steps.proofs.Held.{short-wider}
 use Rattle.packets.proofs.lost.mend_lost.Statement.{statement}
 use Rattle.packets.proofs.lost.mend_lost.Tie as tie
 
@@ -20,7 +21,7 @@ slice-aggregate-settle-4 c = search needs
 settle-requires : tie.Need-settle-requires
 settle-requires c κs =
     let q = c .before .before .before .before .before .before .before .pre .0 in
-    ((q .0, q .3, q .4, refl, q .1, refl, refl), record { at = λ c b. lent-empty 8 8 _ refl c b })
+    ((q .0, q .3, q .4, refl, q .1, refl, refl, short-wider _ _ _ (q .2) (q .6)), record { at = λ c b. lent-empty 8 8 _ refl c b })
 
 slice-aggregate-join-touched : tie.Need-slice-aggregate-join-touched
 slice-aggregate-join-touched c = search needs

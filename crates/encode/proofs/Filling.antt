@@ -17,7 +17,7 @@ use Rattle.parity.specs.Words.{isOne, inside, odd}
 use Rattle.parity.specs.Calls.{byteOf}
 use Rattle.parity.proofs.Finite.Sums.{is-true, is-false, is, one≤1, eqb-one, sum-point, count-suc, count-not, count-mono, count-cong}
 use Rattle.parity.proofs.Words.Extend.{odd-added}
-use Rattle.parity.proofs.Matrix.Packing.{length-listFrom, at-listFrom}
+use Rattle.parity.proofs.Finite.Lists.{length-listFrom, at-listFrom}
 use Rattle.elimination.specs.Reduction.{pivot}
 use Rattle.elimination.proofs.Reduced.{pivot-at, pivot-of, pivot-count}
 use Rattle.sets.specs.Sets.{SetOf}

@@ -27,7 +27,7 @@ use Rattle.parity.proofs.Matrix.Accept.{Accepted, passes}
 use Rattle.parity.proofs.Causes.Refused.{refused-number, refused-same}
 use Rattle.parity.proofs.Words.Bytes.{right-bytes}
 use Rattle.parity.proofs.Encoding.Messages.{ranks}
-use Rattle.parity.proofs.Matrix.Packing.{length-listFrom, at-listFrom}
+use Rattle.parity.proofs.Finite.Lists.{length-listFrom, at-listFrom}
 use Rattle.rows.specs.Whole.{RowsCopied}
 use Rattle.rows.proofs.Writing.{rows-lent}
 use Rattle.elimination.specs.Reduction.{Same, Reduced, pivot, everyBit, Echelon}

@@ -10,7 +10,7 @@ use lib.ListN.{length, length-append, take-append-drop}
 use Rattle.parity.specs.Finite.{listFrom}
 use Rattle.parity.specs.Calls.{byteOf}
 use Rattle.parity.specs.Mend.{decimal, splitsHead, sumHead, residueHead, residueText, wordHead, shown, refusedLine, report}
-use Rattle.parity.proofs.Finite.Lists.{length-listFrom, listFrom-snoc}
+use Rattle.parity.proofs.Finite.Lists.{length-listFrom, listFrom-more}
 use Rattle.lines.specs.Placed.{placed, Placed}
 use Rattle.lines.specs.Lines.{leftText, wordText, splitsLine, residueLine, wordLine}
 
@@ -36,9 +36,6 @@ left-known x b d = rw (ne-eqb x 2 d)
 pub residue-more : (w : List ℕ) (n : ℕ) → residueText w (n + 1) ≡ residueText w n ++ leftText (byteOf w n) n
 unfolding residueText leftText
 residue-more w n = rw add-one
-
-pub listFrom-more : (n : ℕ) (f : ℕ → ℕ) → listFrom 0 (n + 1) f ≡ listFrom 0 n f ++ (f n ∷ [])
-listFrom-more n f = rw add-one (listFrom-snoc 0 n f ∙ ap (λ (j : ℕ). listFrom 0 n f ++ (f j ∷ [])) {x = 0 + n} {y = n} (omega arith))
 
 pub word-more : (w : List ℕ) (n : ℕ) → wordText w (n + 1) ≡ wordText w n ++ (shown (byteOf w n) ∷ [])
 unfolding wordText

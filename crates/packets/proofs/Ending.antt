@@ -18,7 +18,7 @@ use Rattle.parity.specs.Calls.{byteOf, wrongByte}
 use Rattle.parity.specs.Packets.{laneWord, lostWord, oddLane, mendedBit, stillLost, wordsOf, wrongLengths, packetsReply, packetsOutcome}
 use Rattle.parity.proofs.Finite.Sums.{is-true, is-false, is, eqb-one, eqb-two, count-cong}
 use Rattle.parity.proofs.Matrix.Accept.{Accepted, passes}
-use Rattle.parity.proofs.Matrix.Packing.{listFrom-cong}
+use Rattle.parity.proofs.Finite.Lists.{listFrom-cong}
 use Rattle.parity.proofs.Words.Bytes.{right-bytes, erasable-bit}
 use Rattle.parity.proofs.Words.Determining.{Taken, determine-made, determine-refused, after-at}
 use Rattle.parity.proofs.Words.Packets.{words-made, zeros-agree, lane-at, lane-size, lane-word, lost-at, lost-size, lost-word}

@@ -10,8 +10,8 @@ use lib.ListN.{length, take, drop, length-drop}
 use lib.Seq.{take-at, take-all}
 use Rattle.parity.specs.Mend.{wordAt, wrongInput, recordIn, wordIn, refusedLine, mend}
 use Rattle.parity.proofs.Finite.Bools.{or-false-both}
+use Rattle.parity.proofs.Finite.Lists.{listFrom-more}
 use Rattle.lines.specs.Placed.{placed, Placed}
-use Rattle.lines.proofs.Lines.{listFrom-more}
 use Rattle.receiver.specs.declared.Mending.the-variants.{Written, TooShort}
 use Rattle.receiver.specs.Answers.{mendingAnswer, mendingOutput}
 use Rattle.receiver.specs.Stages.{wordsIn, Size, peelText, orthogonaliseText, loadInto, loadText}

@@ -13,7 +13,7 @@ use Rattle.parity.specs.Matrix.{Matrix, lent}
 use Rattle.parity.specs.Words.{erased, within, losses}
 use Rattle.parity.specs.Calls.{byteOf, wrongByte}
 use Rattle.parity.proofs.Finite.Sums.{is-true, is-false, is}
-use Rattle.parity.proofs.Matrix.Packing.{listFrom-cong}
+use Rattle.parity.proofs.Finite.Lists.{listFrom-cong}
 use Rattle.parity.proofs.Words.Residue.{withins}
 use Rattle.parity.proofs.Words.Steps.{stage-start}
 use Rattle.parity.proofs.Words.Bytes.{right-bytes, erasable-of}

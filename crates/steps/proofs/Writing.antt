@@ -17,7 +17,7 @@ use Rattle.parity.specs.Calls.{byteOf}
 use Rattle.parity.proofs.Matrix.Digits.{bit-zero, bit-and, bit-not}
 use Rattle.parity.proofs.Matrix.Lent.{lent-word, lent-out}
 use Rattle.parity.proofs.Matrix.Ones.{Lowest}
-use Rattle.parity.proofs.Matrix.Packing.{length-listFrom, at-listFrom}
+use Rattle.parity.proofs.Finite.Lists.{length-listFrom, at-listFrom}
 use Rattle.parity.proofs.Matrix.Rest.{rest-bit}
 use Rattle.steps.specs.Steps.{filled, Short, Reaching, WordWritten}
 

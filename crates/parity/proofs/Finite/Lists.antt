@@ -3,6 +3,7 @@ use mathlib.Core.Path.{_≡_, refl, sym, ap, _∙_}
 use mathlib.Core.List.{List, [], _∷_, _++_}
 use Prim.Native.Nat.{ℕ, zero, suc, _+_, _<_}
 use native.Mathlib.Nat.{not-suc-le-zero, add-zero}
+use native.Mathlib.Numerals.{add-one}
 use native.Mathlib.Omega.{arith}
 use lib.ListN.{getD, length, set}
 use lib.Seq.{sets, ext-getD}
@@ -33,6 +34,9 @@ pub listFrom-snoc : (i n : ℕ) (f : ℕ → ℕ) → listFrom i (suc n) f ≡ l
 unfolding listFrom
 listFrom-snoc i zero f = rw (add-zero i)
 listFrom-snoc i (suc n) f = let e : suc i + n ≡ i + suc n = omega arith in ap (f i ∷_) (listFrom-snoc (suc i) n f ∙ rw e)
+
+pub listFrom-more : (n : ℕ) (f : ℕ → ℕ) → listFrom 0 (n + 1) f ≡ listFrom 0 n f ++ (f n ∷ [])
+listFrom-more n f = rw add-one (listFrom-snoc 0 n f ∙ ap (λ (j : ℕ). listFrom 0 n f ++ (f j ∷ [])) {x = 0 + n} {y = n} (omega arith))
 
 -- stores, one list after another
 pub sets-append : (l : List ℕ) (p : ℕ) (vs us : List ℕ) → sets l p (vs ++ us) ≡ sets (sets l p vs) (p + length vs) us

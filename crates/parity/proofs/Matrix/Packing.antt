@@ -15,7 +15,7 @@ use borrow.Author.Tests.{lt-ltb}
 use Rattle.parity.specs.Finite.{one, sum}
 use Rattle.parity.specs.Matrix.{Matrix, bitOf, lent, wordOf, pack}
 use Rattle.parity.proofs.Finite.Sums.{one≤1}
-pub use Rattle.parity.proofs.Finite.Lists.{length-listFrom, at-listFrom, listFrom-cong}
+use Rattle.parity.proofs.Finite.Lists.{length-listFrom, at-listFrom}
 use Rattle.parity.proofs.Matrix.Digits.{same-bits}
 use Rattle.parity.proofs.Matrix.Lent.{lent-out, lent-word}
 

@@ -12,6 +12,7 @@ use borrow.Author.Tests.{eq-eqb, ne-eqb}
 use Rattle.parity.specs.Finite.{one, sum, count}
 use Rattle.parity.specs.Matrix.{Matrix, bitOf, lent}
 use Rattle.parity.specs.Words.{inside, odd}
+use Rattle.parity.proofs.Finite.Bools.{xor-false}
 use Rattle.parity.proofs.Finite.Sums.{sum-point, sum-zero, count-cong}
 use Rattle.parity.proofs.Matrix.Digits.{bit-zero}
 use Rattle.parity.proofs.Matrix.Lent.{lent-word, lent-empty, count-add}
@@ -20,7 +21,7 @@ use Rattle.parity.proofs.Matrix.Rest.{rest-bit}
 use Rattle.rows.specs.Whole.{plus}
 use Rattle.rows.proofs.Writing.{combined-at}
 use Rattle.lanes.specs.Lanes.{WordAdded, SumOf}
-use Rattle.lanes.proofs.Parity.{xor-assoc, xor-none, odd-of, odd-add}
+use Rattle.lanes.proofs.Parity.{xor-assoc, odd-of, odd-add}
 
 -- the rows at the ones of `rest` are still to be added
 pub record Rest (x : Matrix) (i w rest : ℕ) (a a′ : ℕ → Bool) : Type 0 where
@@ -34,7 +35,7 @@ pub rest-none : (x : Matrix) (i w rest : ℕ) (a a′ : ℕ → Bool) → rest �
 rest-none x i w rest a a′ e R = record { at = λ j. sym (none j) ∙ R .at j }
   where
     none : (j : ℕ) → xor (a′ j) (odd (count 64 (λ t. bitOf rest t && x (i * 64 + t) j))) ≡ a′ j
-    none j = rw (zero-count j) (xor-none (a′ j))
+    none j = rw (zero-count j) (xor-false (a′ j))
       where
         zeros : (n j : ℕ) → count n (λ t. bitOf rest t && x (i * 64 + t) j) ≡ 0
         zeros n j = unfold count in sum-zero n {f = λ t. one (bitOf rest t && x (i * 64 + t) j)} (λ t l. rw (e, bit-zero t))

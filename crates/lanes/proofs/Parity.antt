@@ -19,11 +19,6 @@ xor-assoc false true false = refl
 xor-assoc false false true = refl
 xor-assoc false false false = refl
 
-pub xor-none : (p : Bool) → xor p false ≡ p
-unfolding xor
-xor-none true = refl
-xor-none false = refl
-
 pub odd-of : (b : Bool) → odd (one b) ≡ b
 unfolding odd
 odd-of true = refl

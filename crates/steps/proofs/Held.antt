@@ -1,7 +1,7 @@
 -- The word that the sets of its erased bits and of its ones hold, and what solving steps do to it. Assumes nothing.
 use mathlib.Core.Path.{_≡_, refl, sym, ap, _∙_, fun-ext}
 use mathlib.Core.Bool.{Bool, true, false, not, cond, _&&_, and-true, and-false, or-true, or-false, and-eq-true-iff, true≢false, false≢true}
-use Prim.Native.Nat.{ℕ, suc, _≤_, _<_}
+use Prim.Native.Nat.{ℕ, suc, _+_, _*_, _≤_, _<_}
 use native.Mathlib.Omega.{arith}
 use native.Mathlib.Decide.{ℕ-discrete, decLt}
 use lib.Dec.{eqb, ltb}
@@ -9,8 +9,9 @@ use borrow.Author.Tests.{eq-eqb, ne-eqb, lt-ltb, le-ltb}
 use Rattle.parity.specs.Finite.{one, count}
 use Rattle.parity.specs.Matrix.{Matrix, put}
 use Rattle.parity.specs.Words.{erased, isOne, inside, odd, solved, agrees}
-use Rattle.parity.proofs.Finite.Sums.{sum-point, count-at, count-pos}
+use Rattle.parity.proofs.Finite.Sums.{sum-point, count-at, count-pos, one≤1}
 use Rattle.parity.proofs.Matrix.Lent.{put-here, put-place}
+use Rattle.parity.proofs.Words.Bytes.{erasable-erased}
 use Rattle.parity.proofs.Words.Steps.{Stage, step, Ended, ended}
 use Rattle.parity.proofs.Finite.Firsts.{all-cong}
 use Rattle.parity.proofs.Words.Sets.{inside-below}
@@ -53,14 +54,13 @@ pub fewer : (h : Matrix) (N M c b : ℕ) (e o e' o' : ℕ → Bool) → Lone h N
 fewer h N M c b e o e' o' L S =
     one-less N b e e' (L .bit) (λ i d. S .gone i ∙ rw (ne-eqb i b d, and-true)) (L .gone) (S .gone b ∙ rw (eq-eqb b b refl, and-false))
 
+-- so the work that is left falls, wherever the next search starts
+pub less-work : (a b : ℕ) (x y : Bool) → a ≡ suc b → 2 * b + one x < 2 * a + one y
+less-work a b x y e = omega (arith, one≤1 x)
+
 -- the erased bits of the word, and its ones
 pub erased-held : (e o : ℕ → Bool) → erased (held e o) ≡ e
-erased-held e o = fun-ext (λ a. go (e a) (o a))
-  where
-    go : (x y : Bool) → eqb (cond x 2 (one y)) 2 ≡ x
-    go true y = refl
-    go false true = refl
-    go false false = refl
+erased-held e o = fun-ext (λ a. erasable-erased (e a) (o a))
 
 pub ones-held : (e o : ℕ → Bool) → ((a : ℕ) → e a ≡ true → o a ≡ false) → isOne (held e o) ≡ o
 ones-held e o f = fun-ext (λ a. go (e a) (o a) (f a))

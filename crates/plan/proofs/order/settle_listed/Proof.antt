@@ -1,15 +1,15 @@
 -- `order::settle_listed` meets its contract. Assumes nothing.
 use mathlib.Core.Path.{_≡_, sym, _∙_}
-use mathlib.Core.Bool.{Bool}
-use Prim.Native.Nat.{ℕ, suc, _+_, _*_, _<_, _≤_}
+use Prim.Native.Nat.{ℕ, _+_, _*_, _<_, _≤_}
 use borrow.Author.Tests.{lt-ltb}
 use lib.Dec.{ltb}
 use lib.ListN.{length}
 use Rattle.parity.specs.Finite.{one, count as countOf}
 use Rattle.parity.specs.Matrix.{lent}
-use Rattle.parity.proofs.Finite.Sums.{one≤1, count-pos, count-bound}
+use Rattle.parity.proofs.Finite.Sums.{count-pos, count-bound}
 use Rattle.steps.specs.Steps.{Short}
 use Rattle.steps.specs.Live.{Live}
+use Rattle.steps.proofs.Held.{less-work}
 use Rattle.steps.proofs.Listing.{live-listed, live-again, live-over}
 use Rattle.plan.specs.Order.{Ordered}
 use Rattle.plan.proofs.Ordering.{ordered-none, ordered-noted, noted-less, lone-narrow, single-narrow, short-noted, live-noted}
@@ -17,9 +17,6 @@ use native.Mathlib.Omega.{arith}
 use borrow.Author.Needs.{needs}
 use Rattle.plan.proofs.order.settle_listed.Statement.{statement}
 use Rattle.plan.proofs.order.settle_listed.Tie as tie
-
-less-work : (a b : ℕ) (x y : Bool) → a ≡ suc b → 2 * b + one x < 2 * a + one y
-less-work a b x y e = omega (arith, one≤1 x)
 
 room : (s a b n : ℕ) → s + a ≡ b → b ≤ n → 0 < a → s < n
 room s a b n e k l = omega arith

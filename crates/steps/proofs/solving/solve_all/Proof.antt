@@ -1,7 +1,6 @@
 -- `solving::solve_all` meets its contract. Assumes nothing.
 use mathlib.Core.Path.{_≡_, sym, _∙_}
-use mathlib.Core.Bool.{Bool}
-use Prim.Native.Nat.{ℕ, suc, _+_, _*_, _≤_, _<_}
+use Prim.Native.Nat.{_+_, _*_, _≤_, _<_}
 use native.Mathlib.Omega.{arith}
 use borrow.Author.Needs.{needs}
 use borrow.Author.Tests.{lt-ltb}
@@ -9,16 +8,12 @@ use lib.Dec.{ltb}
 use lib.ListN.{length}
 use Rattle.parity.specs.Finite.{one, count as countOf}
 use Rattle.parity.specs.Matrix.{lent}
-use Rattle.parity.proofs.Finite.Sums.{one≤1}
 use Rattle.steps.specs.Steps.{Reached, start, next, Short}
 use Rattle.steps.specs.Live.{Live}
-use Rattle.steps.proofs.Held.{fewer, short-solved, short-valued}
+use Rattle.steps.proofs.Held.{fewer, less-work, short-solved, short-valued}
 use Rattle.steps.proofs.Listing.{live-listed, live-solved, live-again, live-over}
 use Rattle.steps.proofs.solving.solve_all.Statement.{statement}
 use Rattle.steps.proofs.solving.solve_all.Tie as tie
-
-less-work : (a b : ℕ) (x y : Bool) → a ≡ suc b → 2 * b + one x < 2 * a + one y
-less-work a b x y e = omega (arith, one≤1 x)
 
 abbrev Inv-loop : tie.InvT-loop
 Inv-loop words used checks live₀ erased₀ ones₀ count₀ from₀ kept₀ live erased ones count from kept =

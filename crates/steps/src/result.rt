@@ -28,12 +28,48 @@ fn agree_in(words: &[u64], used: usize, checks: usize, erased: &[u64], ones: &[u
     true
 }
 
-// The same of sets whose bits are in the first `used` words. Where these are one, two or all, their number is known beforehand.
+// The same. Where a bit is erased, the processor does not foresee which checks are odd, and so both are asked before it is decided.
+fn agree_left(words: &[u64], used: usize, checks: usize, erased: &[u64], ones: &[u64]) -> bool
+    requires { ⌜ (length (now words) ≡ 4096) × (checks ≤ 512) × (length (now erased) ≡ 8) × (length (now ones) ≡ 8) × (used ≤ 8) ⌝ }
+    ensures { λ r. ⌜ r ≡ agreeing (lent 8 (now (words .entry))) (used * 64) checks (lent 8 (now (erased .entry)) 0) (lent 8 (now (ones .entry)) 0) ⌝ }
+{
+    for c in 0..checks {
+        let odd = is_odd(words, used, Check(c), ones);
+        let touched = touches(words, used, Check(c), erased);
+        if odd & !touched {
+            return false;
+        }
+    }
+    true
+}
+
+// The same of sets whose bits are in the first `used` words, where a bit is erased. Where these are one, two or all, their number is known beforehand.
+fn agree_beside(words: &[u64], used: usize, checks: usize, erased: &[u64], ones: &[u64]) -> bool
+    requires { ⌜ (length (now words) ≡ 4096) × (checks ≤ 512) × (length (now erased) ≡ 8) × (length (now ones) ≡ 8) × (used ≤ 8) ⌝ }
+    requires { ⌜ Short (used * 64) (lent 8 (now erased) 0) × Short (used * 64) (lent 8 (now ones) 0) ⌝ }
+    ensures { λ r. ⌜ r ≡ agreeing (lent 8 (now (words .entry))) 512 checks (lent 8 (now (erased .entry)) 0) (lent 8 (now (ones .entry)) 0) ⌝ }
+{
+    if used == 1 {
+        return agree_left(words, 1, checks, erased, ones);
+    }
+    if used == 2 {
+        return agree_left(words, 2, checks, erased, ones);
+    }
+    if used == 8 {
+        return agree_left(words, 8, checks, erased, ones);
+    }
+    agree_left(words, used, checks, erased, ones)
+}
+
+// The same, whether a bit is erased or none. Where the words are one, two or all, their number is known beforehand.
 pub fn agree(words: &[u64], used: usize, checks: usize, erased: &[u64], ones: &[u64]) -> bool
     requires { ⌜ (length (now words) ≡ 4096) × (checks ≤ 512) × (length (now erased) ≡ 8) × (length (now ones) ≡ 8) × (used ≤ 8) ⌝ }
     requires { ⌜ Short (used * 64) (lent 8 (now erased) 0) × Short (used * 64) (lent 8 (now ones) 0) ⌝ }
     ensures { λ r. ⌜ r ≡ agreeing (lent 8 (now (words .entry))) 512 checks (lent 8 (now (erased .entry)) 0) (lent 8 (now (ones .entry)) 0) ⌝ }
 {
+    if rows::touches(erased, 0, erased, 0, 8, 8) {
+        return agree_beside(words, used, checks, erased, ones);
+    }
     if used == 1 {
         return agree_in(words, 1, checks, erased, ones);
     }

@@ -40,6 +40,13 @@ fails : (s : tie.Start) (pairs : List ℕ) → ruleAt (lent 8 (s .args .words .n
     → Judged (s .args .width) (lent 8 (s .args .words .now)) (s .args .n) (s .args .m) (s .args .k) (s .args .j) pairs false
 fails s pairs = let a = s .args in judged-no (a .width) (lent 8 (a .words .now)) (a .n) (a .m) (a .k) (a .j) pairs
 
+returns : tie.Need-returns
+returns c =
+    let w = c .before in
+    let s = w .before .before .before .before in
+    let a = s .args in
+    fails s _ (not-three 512 (lent 8 (a .words .now)) (a .n) (a .m) (a .k) (a .j) (added s) (end s) (few s) (λ e. c .if1 .taken (w .weight .ensures ∙ e)))
+
 -- its ones: three of them, and these, if the second is below its own bit
 three : (e : tie.Else1) → let a = e .before .before .before .before .before .args in count 512 (lent 8 (a .words .now) (a .m + a .j)) ≡ 3
 three e = sym (e .before .weight .ensures) ∙ e .if1 .left
@@ -58,13 +65,6 @@ these g =
     let a = s .args in
     these-three 512 (lent 8 (a .words .now)) (a .n) (a .m) (a .k) (a .j) (added s) (end s) (few s) (three e) (x .next-one .result) (x .next-one .ensures) (y .next-one2 .result) (y .next-one2 .ensures)
     (sym (q .before .has .ensures) ∙ not-false (q .before .has .result) (q .if2 .left)) (omega (arith, g .if3 .left))
-
-returns : tie.Need-returns
-returns c =
-    let w = c .before in
-    let s = w .before .before .before .before in
-    let a = s .args in
-    fails s _ (not-three 512 (lent 8 (a .words .now)) (a .n) (a .m) (a .k) (a .j) (added s) (end s) (few s) (λ e. c .if1 .taken (w .weight .ensures ∙ e)))
 
 has-requires : tie.Need-has-requires
 has-requires c κs = search needs

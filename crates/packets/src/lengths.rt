@@ -1,13 +1,12 @@
 // The lists that are lent: causes 10 and 11, and the lanes that are flagged.
 use matrix::Accepting;
 use parity::Refusal;
-use rows::wide;
+use rows::ones_of;
 use sets::bytes::first_above;
 ghost use mathlib.Core.Path.{_≡_};
 ghost use mathlib.Core.List.{[]};
 ghost use Prim.Native.Nat.{_*_, _^_, _≤_, _<_};
 ghost use lib.Dec.{eqb};
-ghost use lib.Count.{ones as onesOf};
 ghost use lib.ListN.{length};
 ghost use Rattle.parity.specs.Finite.{count};
 ghost use Rattle.parity.specs.Matrix.{lent};
@@ -45,13 +44,6 @@ pub fn admit_lists(bits: usize, lost: &[u8], packets: &[u64], len: usize) -> Acc
         return Accepting::Refused(Refusal::WrongByte { place: place });
     }
     Accepting::Accepted
-}
-
-// How many ones a word has.
-fn ones_of(x: u64) -> usize
-    ensures { λ r. ⌜ (r ≡ onesOf x) × (r ≤ 64) ⌝ }
-{
-    wide(u64::count_ones(x))
 }
 
 // How many lanes are flagged.

@@ -45,7 +45,7 @@ pub fn words_of(bits: usize) -> usize
 }
 
 // How many ones a word has.
-fn ones_of(x: u64) -> usize
+pub fn ones_of(x: u64) -> usize
     ensures { λ r. ⌜ (r ≡ onesOf x) × (r ≤ 64) ⌝ }
 {
     wide(u64::count_ones(x))

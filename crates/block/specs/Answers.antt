@@ -4,6 +4,7 @@ use mathlib.Core.Path.{_≡_}
 use mathlib.Core.List.{List, [], _∷_}
 use mathlib.Core.Bool.{false}
 use lib.ListN.{length}
+use Rattle.parity.specs.Matrix.{cause}
 use Rattle.parity.specs.Calls.{wrongByte}
 use Rattle.parity.specs.Causes.{Reply, answer, refusalOf, Outcome}
 use Rattle.parity.specs.Block.{mended, eliminating, blockOutcome}
@@ -11,6 +12,10 @@ use Rattle.block.specs.declared.Mending.{Mending}
 use Rattle.block.specs.declared.Mending.the-variants.{Made, Refused}
 use Rattle.block.specs.declared.Peelings.{Peelings}
 use Rattle.block.specs.declared.Peelings.the-variants.{Whole, Stopped, Remaining}
+
+-- an accepted matrix with k = 0, and a word for it
+abbrev pub Admitted : List ℕ → ℕ → ℕ → List ℕ → Type 0
+Admitted ws n m word = (cause ws n m 0 ≡ 0) × (length word ≡ n) × (wrongByte 2 word ≡ false)
 
 abbrev pub mendingReply : Mending → Reply
 mendingReply (Made stage recovered) = answer (stage ∷ recovered ∷ [])

@@ -19,7 +19,7 @@ ghost use lib.ListN.{length, replicate};
 ghost use Rattle.parity.specs.Matrix.{cause};
 ghost use Rattle.parity.specs.Calls.{wrongByte};
 ghost use Rattle.parity.specs.Block.{eliminating, peelingCopy, peelingGiven, blockOutcome};
-ghost use Rattle.block.specs.Answers.{mendingReply, staged, Kept, Ready, Refusing};
+ghost use Rattle.block.specs.Answers.{Admitted, mendingReply, staged, Kept, Ready, Refusing};
 
 // What mending answers: the last stage to run, and how many bits the two peelings recovered together.
 pub enum Mending {
@@ -36,7 +36,7 @@ enum Peelings {
 
 // Stage 3: elimination on the given matrix.
 fn eliminate(words: &[u64], n: usize, m: usize, word: &mut [u8], recovered: u64) -> Mending
-    requires { ⌜ (cause (now words) n m 0 ≡ 0) × (length (now word) ≡ n) × (wrongByte 2 (now word) ≡ false) ⌝ }
+    requires { ⌜ Admitted (now words) n m (now word) ⌝ }
     ensures { λ r. ⌜ mendingReply r ≡ eliminating (now (words .entry)) n m (now (word .entry)) recovered .reply ⌝ }
     ensures { λ r. ⌜ now (word .exit) ≡ eliminating (now (words .entry)) n m (now (word .entry)) recovered .after ⌝ }
 {
@@ -84,7 +84,7 @@ fn peel_copy(
 
 // Stage 1: the given matrix is peeled; if sent bits remain, stage 2 follows, from the received word.
 fn peel_given(words: &[u64], n: usize, m: usize, word: &mut [u8]) -> Peelings
-    requires { ⌜ (cause (now words) n m 0 ≡ 0) × (length (now word) ≡ n) × (wrongByte 2 (now word) ≡ false) ⌝ }
+    requires { ⌜ Admitted (now words) n m (now word) ⌝ }
     ensures { λ r. ⌜ staged (now (words .entry)) n m r (now (word .exit)) ≡ peelingGiven (now (words .entry)) n m (now (word .entry)) ⌝ }
     ensures { λ r. ⌜ Kept r (now (word .entry)) (now (word .exit)) ⌝ }
 {
@@ -122,7 +122,7 @@ fn finish(words: &[u64], n: usize, m: usize, word: &mut [u8], peelings: Peelings
 // All stages. The copy is on the stack in the peelings, and must not be while the matrix is accepted or eliminated: called at two places, their function
 // is left by itself by the compiler.
 fn mend_admitted(words: &[u64], n: usize, m: usize, word: &mut [u8]) -> Mending
-    requires { ⌜ (cause (now words) n m 0 ≡ 0) × (length (now word) ≡ n) × (wrongByte 2 (now word) ≡ false) ⌝ }
+    requires { ⌜ Admitted (now words) n m (now word) ⌝ }
     ensures { λ r. ⌜ mendingReply r ≡ peelingGiven (now (words .entry)) n m (now (word .entry)) .reply ⌝ }
     ensures { λ r. ⌜ now (word .exit) ≡ peelingGiven (now (words .entry)) n m (now (word .entry)) .after ⌝ }
 {

@@ -3,10 +3,16 @@ use mathlib.Core.Path.{_≡_}
 use mathlib.Core.Bool.{Bool, true, false, not, cond, _&&_}
 use Prim.Native.Nat.{ℕ, _+_, _≤_, _<_}
 use lib.Dec.{ltb}
+use mathlib.Core.List.{List}
+use lib.ListN.{length}
 use Rattle.parity.specs.Matrix.{Matrix}
 use Rattle.parity.specs.Cycles.{takenBack, others}
 use Rattle.parity.specs.Splits.{allBack, notBuilt}
 use Rattle.parity.specs.Sound.{Clean, Sound, Newest}
+
+-- the words of a matrix, and columns of two words
+abbrev pub WithColumns : List ℕ → List ℕ → Type 0
+WithColumns ws cols = (length ws ≡ 4096) × (length cols ≡ 1024)
 
 -- the matrix with m given checks, which have the columns g, and with the k added ones of h
 unfoldable pub standing : Matrix → Matrix → ℕ → ℕ → Matrix

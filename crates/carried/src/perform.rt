@@ -15,6 +15,7 @@ ghost use Rattle.parity.specs.Matrix.{lent};
 ghost use Rattle.parity.specs.Sound.{Sound};
 ghost use Rattle.columns.specs.Columns.{Columns};
 ghost use Rattle.carried.specs.Perform.{Performed, Performs};
+ghost use Rattle.carried.specs.Recover.{WithColumns};
 
 // Performs the split that a kind 6 word with the payload `x` carries, if it would not be refused; says whether it is made.
 fn perform_split(
@@ -25,7 +26,7 @@ fn perform_split(
     k: usize,
     x: usize,
 ) -> bool
-    requires { ⌜ (length (now words) ≡ 4096) × (length (now cols) ≡ 1024) ⌝ }
+    requires { ⌜ WithColumns (now words) (now cols) ⌝ }
     requires { ⌜ Sound (lent 8 (now words)) n m k × Columns m (lent 8 (now words)) (lent 2 (now cols)) ⌝ }
     ensures { λ r. ⌜ Performed (lent 8 (now (words .entry))) (lent 8 (now (words .exit))) (lent 2 (now (cols .exit))) n m k x r ⌝ }
 {

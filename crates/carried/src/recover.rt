@@ -15,11 +15,11 @@ ghost use Rattle.parity.specs.Matrix.{lent};
 ghost use Rattle.parity.specs.Sound.{Sound};
 ghost use Rattle.rows.specs.Rows.{Empty};
 ghost use Rattle.columns.specs.Columns.{Columns};
-ghost use Rattle.carried.specs.Recover.{standing, Raw, BackOne, AllBack};
+ghost use Rattle.carried.specs.Recover.{WithColumns, standing, Raw, BackOne, AllBack};
 
 // Takes back the newest of `j + 1` splits, if its check keeps rule A and two or more other checks contain its bit; says whether it does.
 fn back_one(words: &[u64], cols: &mut [u64], n: usize, m: usize, j: usize) -> bool
-    requires { ⌜ (length (now words) ≡ 4096) × (length (now cols) ≡ 1024) ⌝ }
+    requires { ⌜ WithColumns (now words) (now cols) ⌝ }
     requires { ⌜ Raw (standing (lent 8 (now words)) (lent 2 (now cols)) m (j + 1)) n m (j + 1) × Columns m (standing (lent 8 (now words)) (lent 2 (now cols)) m (j + 1)) (lent 2 (now cols)) ⌝ }
     ensures { λ r. ⌜ BackOne (standing (lent 8 (now (words .entry))) (lent 2 (now (cols .entry))) m (j + 1)) (standing (lent 8 (now (words .entry))) (lent 2 (now (cols .exit))) m j) (n + j) (m + j) r ⌝ }
     ensures { λ r. ⌜ Columns m (standing (lent 8 (now (words .entry))) (lent 2 (now (cols .exit))) m j) (lent 2 (now (cols .exit))) ⌝ }
@@ -40,7 +40,7 @@ fn back_one(words: &[u64], cols: &mut [u64], n: usize, m: usize, j: usize) -> bo
 
 // Takes back all splits, the newest first; says whether splits made the matrix.
 fn each_back(words: &[u64], cols: &mut [u64], n: usize, m: usize, k: usize) -> bool
-    requires { ⌜ (length (now words) ≡ 4096) × (length (now cols) ≡ 1024) ⌝ }
+    requires { ⌜ WithColumns (now words) (now cols) ⌝ }
     requires { ⌜ Sound (lent 8 (now words)) n m k × Columns m (lent 8 (now words)) (lent 2 (now cols)) ⌝ }
     ensures { λ r. ⌜ AllBack (lent 8 (now (words .entry))) (standing (lent 8 (now (words .entry))) (lent 2 (now (cols .exit))) m 0) n m k r ⌝ }
     ensures { λ r. ⌜ Columns m (standing (lent 8 (now (words .entry))) (lent 2 (now (cols .exit))) m 0) (lent 2 (now (cols .exit))) ⌝ }

@@ -69,6 +69,10 @@ pub record Longer (p : List ℕ) (d : ℕ) (r : List ℕ) : Type 0 where
 pub record Under (p : List ℕ) (a : ℕ) : Type 0 where
   pub at : (i : ℕ) → i < length p → getD p i 0 < a
 
+-- the members p, all below a, with what their words hold
+abbrev pub Begun : List ℕ → List ℕ → List ℕ → List ℕ → ℕ → Type 0
+Begun cols p x u a = Seen (across cols) p x u × Under p a
+
 -- f a, f (a + 1), .., r of them one after the other
 unfoldable pub joined : ℕ → ℕ → (ℕ → List ℕ) → List ℕ
 joined zero a f = []

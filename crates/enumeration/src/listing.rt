@@ -10,7 +10,7 @@ ghost use mathlib.Core.Path.{_≡_};
 ghost use Prim.Native.Nat.{_+_, _*_, _^_, _≤_, _<_};
 ghost use lib.ListN.{length, getD};
 ghost use Rattle.parity.specs.StoppingSets.{stoppingSets, flat};
-ghost use Rattle.enumeration.specs.Search.{Sized, across, decided, Seen, Under, lastOf, listed, Put, roomFor};
+ghost use Rattle.enumeration.specs.Search.{Begun, Sized, across, decided, Seen, Under, lastOf, listed, Put, roomFor};
 
 // Lists the members and `d` if they are a stopping set, and answers the place behind.
 fn list_with(
@@ -50,7 +50,7 @@ fn list_last(
     at: usize,
 ) -> usize
     requires { ⌜ Sized (now cols) (now once) (now some) (search .used) × (search .bits ≤ 128) × (length (now first) < 4) ⌝ }
-    requires { ⌜ Seen (across (now cols)) (now first) (now once) (now some) × Under (now first) from ⌝ }
+    requires { ⌜ Begun (now cols) (now first) (now once) (now some) from ⌝ }
     requires { ⌜ at + length (listed (across (now cols)) (search .used * 64) (search .bits) 1 (now first) from) < 2 ^ 40 ⌝ }
     requires { ⌜ roomFor (search .write) (at + length (listed (across (now cols)) (search .used * 64) (search .bits) 1 (now first) from)) ≤ length (now sets) ⌝ }
     ensures { λ r. ⌜ Put (search .write) (now (sets .entry)) (now (sets .exit)) at (listed (across (now (cols .entry))) (search .used * 64) (search .bits) 1 (now (first .entry)) from) r ⌝ }
@@ -78,7 +78,7 @@ fn list_pairs(
     at: usize,
 ) -> usize
     requires { ⌜ Sized (now cols) (now once) (now some) (search .used) × (search .bits ≤ 128) × (length (now first) < 3) ⌝ }
-    requires { ⌜ Seen (across (now cols)) (now first) (now once) (now some) × Under (now first) from ⌝ }
+    requires { ⌜ Begun (now cols) (now first) (now once) (now some) from ⌝ }
     requires { ⌜ at + length (listed (across (now cols)) (search .used * 64) (search .bits) 2 (now first) from) < 2 ^ 40 ⌝ }
     requires { ⌜ roomFor (search .write) (at + length (listed (across (now cols)) (search .used * 64) (search .bits) 2 (now first) from)) ≤ length (now sets) ⌝ }
     ensures { λ r. ⌜ Put (search .write) (now (sets .entry)) (now (sets .exit)) at (listed (across (now (cols .entry))) (search .used * 64) (search .bits) 2 (now (first .entry)) from) r ⌝ }
@@ -110,7 +110,7 @@ fn list_from(
     at: usize,
 ) -> usize
     requires { ⌜ Sized (now cols) (now once) (now some) (search .used) × (search .bits ≤ 128) × (length (now first) + left < 3) ⌝ }
-    requires { ⌜ Seen (across (now cols)) (now first) (now once) (now some) × Under (now first) from ⌝ }
+    requires { ⌜ Begun (now cols) (now first) (now once) (now some) from ⌝ }
     requires { ⌜ at + length (listed (across (now cols)) (search .used * 64) (search .bits) (left + 2) (now first) from) < 2 ^ 40 ⌝ }
     requires { ⌜ roomFor (search .write) (at + length (listed (across (now cols)) (search .used * 64) (search .bits) (left + 2) (now first) from)) ≤ length (now sets) ⌝ }
     ensures { λ r. ⌜ Put (search .write) (now (sets .entry)) (now (sets .exit)) at (listed (across (now (cols .entry))) (search .used * 64) (search .bits) (left + 2) (now (first .entry)) from) r ⌝ }

@@ -10,11 +10,12 @@ ghost use Prim.Native.Nat.{_≤_, _<_};
 ghost use lib.ListN.{length};
 ghost use Rattle.parity.specs.Matrix.{lent, put};
 ghost use Rattle.parity.specs.Cycles.{takenBack, others};
+ghost use Rattle.exchange.specs.Merge.{Numbers};
 ghost use Rattle.exchange.specs.Back.{RestoredAt, Restored, Newer};
 
 // Check `c` gets `u` and `v` in the place of `z`.
 fn restore_check(words: &mut [u64], c: Check, u: Bit, v: Bit, z: Bit)
-    requires { ⌜ (length (now words) ≡ 4096) × (c .0 < 512) × (u .0 < 512) × (v .0 < 512) × (z .0 < 512) ⌝ }
+    requires { ⌜ Numbers (now words) (c .0) (u .0) (v .0) (z .0) ⌝ }
     ensures { λ r. ⌜ lent 8 (now (words .exit)) ≡ put (c .0) (v .0) true (put (c .0) (u .0) true (put (c .0) (z .0) false (lent 8 (now (words .entry))))) ⌝ }
 {
     take_out(words, c, z);
@@ -24,7 +25,7 @@ fn restore_check(words: &mut [u64], c: Check, u: Bit, v: Bit, z: Bit)
 
 // Check `c` gets them if it contains `z`; answers whether it does, as 1 or 0.
 fn restore_at(words: &mut [u64], c: Check, u: Bit, v: Bit, z: Bit) -> u64
-    requires { ⌜ (length (now words) ≡ 4096) × (c .0 < 512) × (u .0 < 512) × (v .0 < 512) × (z .0 < 512) ⌝ }
+    requires { ⌜ Numbers (now words) (c .0) (u .0) (v .0) (z .0) ⌝ }
     ensures { λ r. ⌜ RestoredAt (lent 8 (now (words .entry))) (lent 8 (now (words .exit))) (c .0) (u .0) (v .0) (z .0) r ⌝ }
 {
     if has(words, c, z) {
@@ -48,7 +49,7 @@ fn restore(words: &mut [u64], m: usize, u: Bit, v: Bit, z: Bit) -> u64
 
 // The bits `u`, `v` and `z` leave check `c`.
 fn remove_check(words: &mut [u64], c: Check, u: Bit, v: Bit, z: Bit)
-    requires { ⌜ (length (now words) ≡ 4096) × (c .0 < 512) × (u .0 < 512) × (v .0 < 512) × (z .0 < 512) ⌝ }
+    requires { ⌜ Numbers (now words) (c .0) (u .0) (v .0) (z .0) ⌝ }
     ensures { λ r. ⌜ lent 8 (now (words .exit)) ≡ put (c .0) (z .0) false (put (c .0) (v .0) false (put (c .0) (u .0) false (lent 8 (now (words .entry))))) ⌝ }
 {
     take_out(words, c, u);

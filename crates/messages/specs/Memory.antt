@@ -7,7 +7,7 @@ use mathlib.Core.List.{List}
 use lib.ListN.{length, getD}
 use lib.Ieee.{Float}
 use Rattle.parity.specs.Finite.{sum, count}
-use Rattle.parity.specs.Matrix.{Matrix}
+use Rattle.parity.specs.Matrix.{Matrix, lent}
 use Rattle.parity.specs.Soft.{Messages, messageAt, toBits, toChecks, bitSends, sound, but}
 use Rattle.parity.specs.declared.Channel.{Channel}
 
@@ -83,6 +83,10 @@ pub record Answering (h : Matrix) (N M c : ℕ) (old : Messages) (ts : List ℕ)
 abbrev pub across : Matrix → Matrix
 across g c b = g b c
 
+-- messages of the matrix whose columns are lent, all of its checks below M
+abbrev pub LaidAcross : List ℕ → List ℕ → List Float → ℕ → Type 0
+LaidAcross cols ts xs M = Laid cols (across (lent 8 cols)) ts xs × Within (across (lent 8 cols)) M
+
 -- the checks that contain bit b
 abbrev pub column : Matrix → ℕ → ℕ → Bool
 column h b c = h c b
@@ -95,6 +99,10 @@ pub record Above (h : Matrix) (N : ℕ) (ts : List ℕ) (xs : List Float) (ts' :
 pub record Cursors (h : Matrix) (N b : ℕ) (at : List ℕ) : Type 0 where
   pub size : length at ≡ 512
   pub is : (c a : ℕ) → h c a ≡ true → getD at c 0 ≡ place h N c b
+
+-- cursors at bit b of the matrix whose columns are lent
+abbrev pub AtBit : List ℕ → ℕ → List ℕ → Type 0
+AtBit cols b at = (b < 512) × Cursors (across (lent 8 cols)) 512 b at
 
 -- The cursors of the checks below c are those of the next bit.
 pub record Moving (h : Matrix) (N b c : ℕ) (at : List ℕ) : Type 0 where

@@ -6,12 +6,12 @@ use parity::Channel;
 use soft::store::message;
 use soft::store::put;
 ghost use mathlib.Core.Path.{_≡_};
-ghost use Prim.Native.Nat.{_+_, _<_};
+ghost use Prim.Native.Nat.{_+_};
 ghost use lib.ListN.{length};
 ghost use Rattle.parity.specs.Matrix.{lent};
 ghost use Rattle.parity.specs.Soft.{messageAt, bitSends};
 ghost use Rattle.soft.specs.Pass.{Holding};
-ghost use Rattle.messages.specs.Memory.{Laid, Within, Inner, Low, across, column, Cursors, held, heldAt, Above, BitSent, resultOf};
+ghost use Rattle.messages.specs.Memory.{AtBit, LaidAcross, Inner, Low, across, column, Cursors, held, heldAt, Above, BitSent, resultOf};
 ghost use Rattle.messages.specs.Loops.{SentAll};
 
 // Bit `b` sends to its checks.
@@ -24,8 +24,8 @@ fn bit_sends(
     tags: &mut [u8],
     values: &mut [f32],
 )
-    requires { ⌜ Laid (now cols) (across (lent 8 (now cols))) (now tags) (now values) × Within (across (lent 8 (now cols))) checks ⌝ }
-    requires { ⌜ (b < 512) × Cursors (across (lent 8 (now cols))) 512 b (now at) ⌝ }
+    requires { ⌜ LaidAcross (now cols) (now tags) (now values) checks ⌝ }
+    requires { ⌜ AtBit (now cols) b (now at) ⌝ }
     ensures { λ r. ⌜ Cursors (across (lent 8 (now (cols .entry)))) 512 (b + 1) (now (at .exit)) ⌝ }
     ensures { λ r. ⌜ BitSent (across (lent 8 (now (cols .entry)))) 512 checks b channel (now (tags .entry)) (now (values .entry)) (now (tags .exit)) (now (values .exit)) ⌝ }
 {
@@ -44,8 +44,8 @@ fn bit_result(
     tags: &mut [u8],
     values: &mut [f32],
 ) -> Channel
-    requires { ⌜ Laid (now cols) (across (lent 8 (now cols))) (now tags) (now values) × Within (across (lent 8 (now cols))) checks ⌝ }
-    requires { ⌜ (b < 512) × Cursors (across (lent 8 (now cols))) 512 b (now at) ⌝ }
+    requires { ⌜ LaidAcross (now cols) (now tags) (now values) checks ⌝ }
+    requires { ⌜ AtBit (now cols) b (now at) ⌝ }
     ensures { λ r. ⌜ r ≡ bitSends channel checks (column (across (lent 8 (now (cols .entry)))) b) (heldAt (across (lent 8 (now (cols .entry)))) 512 (now (tags .entry)) (now (values .entry)) b) ⌝ }
     ensures { λ r. ⌜ Cursors (across (lent 8 (now (cols .entry)))) 512 (b + 1) (now (at .exit)) ⌝ }
     ensures { λ r. ⌜ Low (now (tags .entry)) (now (values .entry)) (now (tags .exit)) (now (values .exit)) ⌝ }
@@ -64,7 +64,7 @@ pub fn send_all(
     tags: &mut [u8],
     values: &mut [f32],
 )
-    requires { ⌜ Laid (now cols) (across (lent 8 (now cols))) (now tags) (now values) × Within (across (lent 8 (now cols))) checks ⌝ }
+    requires { ⌜ LaidAcross (now cols) (now tags) (now values) checks ⌝ }
     requires { ⌜ Inner (across (lent 8 (now cols))) (now word) (now floats) × Cursors (across (lent 8 (now cols))) 512 0 (now at) ⌝ }
     ensures { λ r. ⌜ SentAll (across (lent 8 (now (cols .entry)))) checks (length (now (word .entry))) (messageAt (now (word .entry)) (now (floats .entry))) (held (across (lent 8 (now (cols .entry)))) 512 (now (tags .entry)) (now (values .entry))) (now (tags .exit)) (now (values .exit)) ⌝ }
     ensures { λ r. ⌜ Above (across (lent 8 (now (cols .entry)))) 512 (now (tags .entry)) (now (values .entry)) (now (tags .exit)) (now (values .exit)) ⌝ }
@@ -86,7 +86,7 @@ pub fn result_all(
     tags: &mut [u8],
     values: &mut [f32],
 )
-    requires { ⌜ Laid (now cols) (across (lent 8 (now cols))) (now tags) (now values) × Within (across (lent 8 (now cols))) checks ⌝ }
+    requires { ⌜ LaidAcross (now cols) (now tags) (now values) checks ⌝ }
     requires { ⌜ Inner (across (lent 8 (now cols))) (now word) (now floats) × Cursors (across (lent 8 (now cols))) 512 0 (now at) ⌝ }
     ensures { λ r. ⌜ Holding (length (now (word .entry))) (resultOf (across (lent 8 (now (cols .entry)))) 512 checks (messageAt (now (word .entry)) (now (floats .entry))) (now (tags .entry)) (now (values .entry))) (now (word .exit)) (now (floats .exit)) ⌝ }
 {

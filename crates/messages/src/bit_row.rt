@@ -10,7 +10,7 @@ ghost use Rattle.parity.specs.Finite.{count};
 ghost use Rattle.parity.specs.Matrix.{lent};
 ghost use Rattle.parity.specs.Soft.{bitSends};
 ghost use Rattle.soft.specs.Pass.{bitAnswer, every};
-ghost use Rattle.messages.specs.Memory.{Laid, Within, Part, from, across, column, Cursors, Gathering, Spread};
+ghost use Rattle.messages.specs.Memory.{AtBit, LaidAcross, Laid, Part, from, across, column, Cursors, Gathering, Spread};
 
 // The messages of bit `b` with the checks of word `i` of its column are read into the row from its place `first` on, and these checks' cursors go on to the
 // next bit. Returns the row's place after them.
@@ -49,8 +49,8 @@ pub fn gather(
     tags: &mut [u8],
     values: &mut [f32],
 ) -> usize
-    requires { ⌜ Laid (now cols) (across (lent 8 (now cols))) (now tags) (now values) × Within (across (lent 8 (now cols))) checks ⌝ }
-    requires { ⌜ (b < 512) × Cursors (across (lent 8 (now cols))) 512 b (now at) ⌝ }
+    requires { ⌜ LaidAcross (now cols) (now tags) (now values) checks ⌝ }
+    requires { ⌜ AtBit (now cols) b (now at) ⌝ }
     ensures { λ r. ⌜ Gathering (across (lent 8 (now (cols .entry)))) 512 b checks (now (tags .entry)) (now (values .entry)) r (now (at .exit)) (now (tags .exit)) (now (values .exit)) ⌝ }
 {
     let mut d: usize = 0;
@@ -108,7 +108,7 @@ pub fn scatter(
     tags: &mut [u8],
     values: &mut [f32],
 )
-    requires { ⌜ Laid (now cols) (across (lent 8 (now cols))) (now tags) (now values) × Within (across (lent 8 (now cols))) checks ⌝ }
+    requires { ⌜ LaidAcross (now cols) (now tags) (now values) checks ⌝ }
     requires { ⌜ (b < 512) × Cursors (across (lent 8 (now cols))) 512 (b + 1) (now at) ⌝ }
     ensures { λ r. ⌜ Spread (across (lent 8 (now (cols .entry)))) 512 b 0 checks (now (tags .entry)) (now (values .entry)) (now (tags .exit)) (now (values .exit)) ⌝ }
 {

@@ -3,12 +3,16 @@ use mathlib.Core.Path.{_≡_}
 use mathlib.Core.Bool.{Bool, true, false}
 use mathlib.Core.List.{List}
 use Prim.Native.Nat.{ℕ, zero, suc, _+_, _-_, _≤_, _<_}
-use lib.ListN.{getD, drop}
+use lib.ListN.{getD, drop, length}
 use Rattle.parity.specs.Matrix.{Matrix, put}
 use Rattle.parity.specs.Record.{kindOf, payload, headKind, bitWord, reading}
 use Rattle.parity.specs.declared.Form.{Form}
 use Rattle.reading.specs.declared.words.Word.{Word}
 use Rattle.reading.specs.declared.words.Word.the-variants.{Head, Open, Bit, Split, End, Faulty}
+
+-- words of a record behind its first, fewer than 256
+abbrev pub Run : List ℕ → ℕ → ℕ → Type 0
+Run source from count = (from + count ≤ length source) × (1 ≤ from) × (count < 256)
 
 -- a word of none of the kinds
 pub record Kindless (w : ℕ) : Type 0 where

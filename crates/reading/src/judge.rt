@@ -7,7 +7,7 @@ use parity::Check;
 use parity::Form;
 ghost use Prim.Native.Nat.{_+_, _≤_, _<_};
 ghost use lib.ListN.{length};
-ghost use Rattle.reading.specs.Read.{BitsRead, Fault, Rises, AllBits};
+ghost use Rattle.reading.specs.Read.{Run, BitsRead, Fault, Rises, AllBits};
 ghost use Rattle.reading.specs.Judge.{HeadRead, CheckRead, Reached, Judges, EndRead};
 
 // What comes of judging the first word and the checks of a record: `place` is the one behind them, or that of a faulty word.
@@ -56,7 +56,7 @@ fn fault(before: u32, w: u32) -> u32
 // How many of `count` words from place `from` on are not bits above the word before, which for the first is the one that opens the check. It has no way out
 // before the last word, so that several are decided at once.
 fn faults(source: &[u32], from: usize, count: usize) -> u32
-    requires { ⌜ (from + count ≤ length (now source)) × (1 ≤ from) × (count < 256) ⌝ }
+    requires { ⌜ Run (now source) from count ⌝ }
     ensures { λ r. ⌜ Rises (now (source .entry)) from count r ⌝ }
 {
     let mut wrong: u32 = 0;
@@ -68,7 +68,7 @@ fn faults(source: &[u32], from: usize, count: usize) -> u32
 
 // Whether `count` words from place `from` on, one at least, are bits below `n`, each above the one before.
 fn all_bits(source: &[u32], n: usize, from: usize, count: usize) -> bool
-    requires { ⌜ (from + count ≤ length (now source)) × (1 ≤ from) × (count < 256) ⌝ }
+    requires { ⌜ Run (now source) from count ⌝ }
     ensures { λ r. ⌜ AllBits n (now (source .entry)) from count r ⌝ }
 {
     if count == 0 {
@@ -103,7 +103,7 @@ fn bits_singly(source: &[u32], n: usize, from: usize, count: usize) -> usize
 
 // The same. Where they all are, it is found without looking for the first that is not; for fewer than eight, which are decided at once, word by word is quicker.
 fn bits(source: &[u32], n: usize, from: usize, count: usize) -> usize
-    requires { ⌜ (from + count ≤ length (now source)) × (1 ≤ from) × (count < 256) ⌝ }
+    requires { ⌜ Run (now source) from count ⌝ }
     ensures { λ r. ⌜ BitsRead n (now (source .entry)) from count r ⌝ }
 {
     if count < 8 {

@@ -6,13 +6,12 @@ use parity::Bit;
 use parity::Check;
 ghost use mathlib.Core.Path.{_≡_};
 ghost use mathlib.Core.Bool.{true, false};
-ghost use Prim.Native.Nat.{_<_};
-ghost use lib.ListN.{length};
 ghost use Rattle.parity.specs.Matrix.{lent, put};
+ghost use Rattle.rows.specs.Rows.{HasPlace};
 
 // Whether check `c` contains bit `b`.
 pub fn has(words: &[u64], c: Check, b: Bit) -> bool
-    requires { ⌜ (length (now words) ≡ 4096) × (c .0 < 512) × (b .0 < 512) ⌝ }
+    requires { ⌜ HasPlace (now words) (c .0) (b .0) ⌝ }
     ensures { λ r. ⌜ r ≡ lent 8 (now (words .entry)) (c .0) (b .0) ⌝ }
 {
     contains(words, 8, c.0, b.0)
@@ -20,7 +19,7 @@ pub fn has(words: &[u64], c: Check, b: Bit) -> bool
 
 // Bit `b` is put into check `c`.
 pub fn put_in(words: &mut [u64], c: Check, b: Bit)
-    requires { ⌜ (length (now words) ≡ 4096) × (c .0 < 512) × (b .0 < 512) ⌝ }
+    requires { ⌜ HasPlace (now words) (c .0) (b .0) ⌝ }
     ensures { λ r. ⌜ lent 8 (now (words .exit)) ≡ put (c .0) (b .0) true (lent 8 (now (words .entry))) ⌝ }
 {
     raise(words, 8, c.0, b.0);
@@ -28,7 +27,7 @@ pub fn put_in(words: &mut [u64], c: Check, b: Bit)
 
 // Bit `b` is taken out of check `c`.
 pub fn take_out(words: &mut [u64], c: Check, b: Bit)
-    requires { ⌜ (length (now words) ≡ 4096) × (c .0 < 512) × (b .0 < 512) ⌝ }
+    requires { ⌜ HasPlace (now words) (c .0) (b .0) ⌝ }
     ensures { λ r. ⌜ lent 8 (now (words .exit)) ≡ put (c .0) (b .0) false (lent 8 (now (words .entry))) ⌝ }
 {
     lower(words, 8, c.0, b.0);

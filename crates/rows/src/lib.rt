@@ -12,7 +12,7 @@ ghost use lib.ListN.{length};
 ghost use Rattle.parity.specs.Finite.{count};
 ghost use Rattle.parity.specs.Matrix.{lent, put};
 ghost use Rattle.parity.specs.Words.{inside, odd};
-ghost use Rattle.rows.specs.Rows.{NextOne};
+ghost use Rattle.rows.specs.Rows.{HasBit, NextOne};
 ghost use Rattle.rows.specs.Zeros.{Zeros, both, Zeroed};
 
 // A count of bits, as a number of a bit.
@@ -53,7 +53,7 @@ pub fn ones_of(x: u64) -> usize
 
 // Whether row `c` contains bit `b`.
 pub fn contains(rows: &[u64], width: usize, c: usize, b: usize) -> bool
-    requires { ⌜ (c * width + width ≤ length (now rows)) × (b < width * 64) ⌝ }
+    requires { ⌜ HasBit (now rows) width c b ⌝ }
     ensures { λ r. ⌜ r ≡ lent width (now (rows .entry)) c b ⌝ }
 {
     rows[c * width + b / 64] & (1 << (b % 64)) != 0
@@ -61,7 +61,7 @@ pub fn contains(rows: &[u64], width: usize, c: usize, b: usize) -> bool
 
 // Bit `b` is put into row `c`.
 pub fn raise(rows: &mut [u64], width: usize, c: usize, b: usize)
-    requires { ⌜ (c * width + width ≤ length (now rows)) × (b < width * 64) ⌝ }
+    requires { ⌜ HasBit (now rows) width c b ⌝ }
     ensures { λ r. ⌜ lent width (now (rows .exit)) ≡ put c b true (lent width (now (rows .entry))) ⌝ }
 {
     let i = c * width + b / 64;
@@ -70,7 +70,7 @@ pub fn raise(rows: &mut [u64], width: usize, c: usize, b: usize)
 
 // Bit `b` is taken out of row `c`.
 pub fn lower(rows: &mut [u64], width: usize, c: usize, b: usize)
-    requires { ⌜ (c * width + width ≤ length (now rows)) × (b < width * 64) ⌝ }
+    requires { ⌜ HasBit (now rows) width c b ⌝ }
     ensures { λ r. ⌜ lent width (now (rows .exit)) ≡ put c b false (lent width (now (rows .entry))) ⌝ }
 {
     let i = c * width + b / 64;

@@ -2,11 +2,15 @@
 use mathlib.Core.Path.{_≡_}
 use mathlib.Core.Bool.{Bool, _&&_}
 use mathlib.Core.List.{List}
-use Prim.Native.Nat.{ℕ, _+_, _*_, _^_, _<_}
+use Prim.Native.Nat.{ℕ, _+_, _*_, _^_, _<_, _≤_}
 use lib.Dec.{eqb, ltb}
 use lib.ListN.{length}
 use Rattle.parity.specs.Matrix.{bitOf, lent}
 use Rattle.parity.specs.Calls.{byteOf}
+
+-- the words of a matrix, a check of it, and a set of bits, of which the first words are in use
+abbrev pub Asked : List ℕ → ℕ → List ℕ → ℕ → Type 0
+Asked ws c set used = (length ws ≡ 4096) × (c < 512) × (length set ≡ 8) × (used ≤ 8)
 
 -- the bits whose byte is v
 abbrev pub withByte : List ℕ → ℕ → ℕ → Bool

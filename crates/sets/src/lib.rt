@@ -12,7 +12,7 @@ ghost use lib.ListN.{length};
 ghost use Rattle.parity.specs.Finite.{count};
 ghost use Rattle.parity.specs.Matrix.{lent};
 ghost use Rattle.parity.specs.Words.{inside, odd};
-ghost use Rattle.sets.specs.Sets.{WordOf, SetOf};
+ghost use Rattle.sets.specs.Sets.{Asked, WordOf, SetOf};
 
 // The lesser of two numbers.
 pub fn lesser(a: usize, b: usize) -> usize
@@ -62,7 +62,7 @@ pub fn set_of(bytes: &[u8], value: u8) -> [u64; 8]
 
 // Whether check `c` contains an odd number of the set's bits in its first `used` words.
 pub fn is_odd(words: &[u64], used: usize, c: Check, set: &[u64]) -> bool
-    requires { ⌜ (length (now words) ≡ 4096) × (c .0 < 512) × (length (now set) ≡ 8) × (used ≤ 8) ⌝ }
+    requires { ⌜ Asked (now words) (c .0) (now set) used ⌝ }
     ensures { λ r. ⌜ r ≡ odd (inside (lent 8 (now (words .entry))) (used * 64) (c .0) (lent 8 (now (set .entry)) 0)) ⌝ }
 {
     rows::is_odd(words, 8, used, c.0, set)
@@ -70,7 +70,7 @@ pub fn is_odd(words: &[u64], used: usize, c: Check, set: &[u64]) -> bool
 
 // Whether check `c` contains a bit of the set in its first `used` words.
 pub fn touches(words: &[u64], used: usize, c: Check, set: &[u64]) -> bool
-    requires { ⌜ (length (now words) ≡ 4096) × (c .0 < 512) × (length (now set) ≡ 8) × (used ≤ 8) ⌝ }
+    requires { ⌜ Asked (now words) (c .0) (now set) used ⌝ }
     ensures { λ r. ⌜ r ≡ not (eqb (inside (lent 8 (now (words .entry))) (used * 64) (c .0) (lent 8 (now (set .entry)) 0)) 0) ⌝ }
 {
     rows::touches(words, c.0, set, 0, 8, used)
@@ -79,7 +79,7 @@ pub fn touches(words: &[u64], used: usize, c: Check, set: &[u64]) -> bool
 // Whether check `c` contains exactly one of the set's bits in its first `used` words: which places of a word these bits take, and which of
 // them twice.
 pub fn is_single(words: &[u64], used: usize, c: Check, set: &[u64]) -> bool
-    requires { ⌜ (length (now words) ≡ 4096) × (c .0 < 512) × (length (now set) ≡ 8) × (used ≤ 8) ⌝ }
+    requires { ⌜ Asked (now words) (c .0) (now set) used ⌝ }
     ensures { λ r. ⌜ r ≡ eqb (inside (lent 8 (now (words .entry))) (used * 64) (c .0) (lent 8 (now (set .entry)) 0)) 1 ⌝ }
 {
     let d = c.0;

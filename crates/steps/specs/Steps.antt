@@ -6,10 +6,14 @@ use Prim.Native.Nat.{ℕ, _+_, _*_, _/_, _%_, _≤_, _<_}
 use lib.Dec.{eqb}
 use lib.ListN.{length}
 use Rattle.parity.specs.Finite.{one, all, listFrom}
-use Rattle.parity.specs.Matrix.{Matrix, bitOf}
+use Rattle.parity.specs.Matrix.{Matrix, bitOf, lent}
 use Rattle.parity.specs.Words.{inside, odd}
 use Rattle.parity.specs.Calls.{byteOf}
 use Rattle.steps.specs.Next.{Lone, NoSingle}
+
+-- the words of a matrix, its first checks, and the sets of erased bits and of ones, of which the first words are in use
+abbrev pub WithSets : List ℕ → ℕ → List ℕ → List ℕ → ℕ → Type 0
+WithSets ws checks es os used = (length ws ≡ 4096) × (checks ≤ 512) × (length es ≡ 8) × (length os ≡ 8) × (used ≤ 8)
 
 -- the word whose erased bits are e, and whose ones are o
 abbrev pub held : (ℕ → Bool) → (ℕ → Bool) → ℕ → ℕ
@@ -41,6 +45,10 @@ filled s e o w b = cond (s b && not (e b)) (one (o b)) (w b)
 -- a set that has no bit from N on
 pub record Short (N : ℕ) (s : ℕ → Bool) : Type 0 where
   pub none : (b : ℕ) → N ≤ b → s b ≡ false
+
+-- the erased bits and the ones are in the first words
+abbrev pub BothShort : ℕ → List ℕ → List ℕ → Type 0
+BothShort used es os = Short (used * 64) (lent 8 es 0) × Short (used * 64) (lent 8 os 0)
 
 -- x, word i of a set, has none either
 pub record Reaching (N i x : ℕ) : Type 0 where

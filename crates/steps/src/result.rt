@@ -10,12 +10,12 @@ ghost use lib.ListN.{length};
 ghost use Rattle.parity.specs.Finite.{one, listFrom};
 ghost use Rattle.parity.specs.Matrix.{lent};
 ghost use Rattle.parity.specs.Calls.{byteOf};
-ghost use Rattle.steps.specs.Steps.{agreeing, filled, Short, Reaching, WordWritten, Finished};
+ghost use Rattle.steps.specs.Steps.{BothShort, WithSets, agreeing, filled, Short, Reaching, WordWritten, Finished};
 
 // Whether each of the first `checks` checks without an erased bit is even, by their first `used` words. Where nothing is erased, no check is odd but for a
 // contradiction, and so this is asked first.
 fn agree_in(words: &[u64], used: usize, checks: usize, erased: &[u64], ones: &[u64]) -> bool
-    requires { ⌜ (length (now words) ≡ 4096) × (checks ≤ 512) × (length (now erased) ≡ 8) × (length (now ones) ≡ 8) × (used ≤ 8) ⌝ }
+    requires { ⌜ WithSets (now words) checks (now erased) (now ones) used ⌝ }
     ensures { λ r. ⌜ r ≡ agreeing (lent 8 (now (words .entry))) (used * 64) checks (lent 8 (now (erased .entry)) 0) (lent 8 (now (ones .entry)) 0) ⌝ }
 {
     for c in 0..checks {
@@ -30,7 +30,7 @@ fn agree_in(words: &[u64], used: usize, checks: usize, erased: &[u64], ones: &[u
 
 // The same. Where a bit is erased, the processor does not foresee which checks are odd, and so both are asked before it is decided.
 fn agree_left(words: &[u64], used: usize, checks: usize, erased: &[u64], ones: &[u64]) -> bool
-    requires { ⌜ (length (now words) ≡ 4096) × (checks ≤ 512) × (length (now erased) ≡ 8) × (length (now ones) ≡ 8) × (used ≤ 8) ⌝ }
+    requires { ⌜ WithSets (now words) checks (now erased) (now ones) used ⌝ }
     ensures { λ r. ⌜ r ≡ agreeing (lent 8 (now (words .entry))) (used * 64) checks (lent 8 (now (erased .entry)) 0) (lent 8 (now (ones .entry)) 0) ⌝ }
 {
     for c in 0..checks {
@@ -45,8 +45,8 @@ fn agree_left(words: &[u64], used: usize, checks: usize, erased: &[u64], ones: &
 
 // The same of sets whose bits are in the first `used` words, where a bit is erased. Where these are one, two or all, their number is known beforehand.
 fn agree_beside(words: &[u64], used: usize, checks: usize, erased: &[u64], ones: &[u64]) -> bool
-    requires { ⌜ (length (now words) ≡ 4096) × (checks ≤ 512) × (length (now erased) ≡ 8) × (length (now ones) ≡ 8) × (used ≤ 8) ⌝ }
-    requires { ⌜ Short (used * 64) (lent 8 (now erased) 0) × Short (used * 64) (lent 8 (now ones) 0) ⌝ }
+    requires { ⌜ WithSets (now words) checks (now erased) (now ones) used ⌝ }
+    requires { ⌜ BothShort used (now erased) (now ones) ⌝ }
     ensures { λ r. ⌜ r ≡ agreeing (lent 8 (now (words .entry))) 512 checks (lent 8 (now (erased .entry)) 0) (lent 8 (now (ones .entry)) 0) ⌝ }
 {
     if used == 1 {
@@ -63,8 +63,8 @@ fn agree_beside(words: &[u64], used: usize, checks: usize, erased: &[u64], ones:
 
 // The same, whether a bit is erased or none. Where the words are one, two or all, their number is known beforehand.
 pub fn agree(words: &[u64], used: usize, checks: usize, erased: &[u64], ones: &[u64]) -> bool
-    requires { ⌜ (length (now words) ≡ 4096) × (checks ≤ 512) × (length (now erased) ≡ 8) × (length (now ones) ≡ 8) × (used ≤ 8) ⌝ }
-    requires { ⌜ Short (used * 64) (lent 8 (now erased) 0) × Short (used * 64) (lent 8 (now ones) 0) ⌝ }
+    requires { ⌜ WithSets (now words) checks (now erased) (now ones) used ⌝ }
+    requires { ⌜ BothShort used (now erased) (now ones) ⌝ }
     ensures { λ r. ⌜ r ≡ agreeing (lent 8 (now (words .entry))) 512 checks (lent 8 (now (erased .entry)) 0) (lent 8 (now (ones .entry)) 0) ⌝ }
 {
     if rows::touches(erased, 0, erased, 0, 8, 8) {
@@ -128,7 +128,7 @@ pub fn finish(
     ones: &[u64],
 ) -> bool
     requires { ⌜ (length (now words) ≡ 4096) × (checks ≤ 512) × (length (now lost) ≡ 8) × (length (now erased) ≡ 8) × (length (now ones) ≡ 8) × (used ≤ 8) × Short (length (now word)) (lent 8 (now lost) 0) ⌝ }
-    requires { ⌜ Short (used * 64) (lent 8 (now erased) 0) × Short (used * 64) (lent 8 (now ones) 0) ⌝ }
+    requires { ⌜ BothShort used (now erased) (now ones) ⌝ }
     ensures { λ r. ⌜ Finished (lent 8 (now (words .entry))) 512 checks (lent 8 (now (lost .entry)) 0) (lent 8 (now (erased .entry)) 0) (lent 8 (now (ones .entry)) 0) (now (word .entry)) r (now (word .exit)) ⌝ }
 {
     let agreed = agree(words, used, checks, erased, ones);

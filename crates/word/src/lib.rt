@@ -19,6 +19,7 @@ ghost use Rattle.parity.specs.Calls.{byteOf, verifyReply, extendOutcome, isStop
 ghost use Rattle.matrix.specs.Answers.{acceptingReply};
 ghost use Rattle.word.specs.Answers.{admitReply, verifyingReply, stoppingReply};
 ghost use Rattle.word.specs.Answers.{extendingReply};
+ghost use Rattle.word.specs.Added.{AllAsked};
 
 // What verifying answers.
 pub enum Verifying {
@@ -62,7 +63,7 @@ pub fn admit(words: &[u64], n: usize, m: usize, k: usize, bytes: &[u8], top: u8)
 
 // Whether each of the first `checks` checks contains an even number of the set's bits in its first `used` words.
 fn all_even(words: &[u64], used: usize, checks: usize, set: &[u64]) -> bool
-    requires { ⌜ (length (now words) ≡ 4096) × (checks ≤ 512) × (length (now set) ≡ 8) × (used ≤ 8) ⌝ }
+    requires { ⌜ AllAsked (now words) checks (now set) used ⌝ }
     ensures { λ r. ⌜ r ≡ evenChecks (lent 8 (now (words .entry))) (used * 64) checks (lent 8 (now (set .entry)) 0) ⌝ }
 {
     for c in 0..checks {
@@ -75,7 +76,7 @@ fn all_even(words: &[u64], used: usize, checks: usize, set: &[u64]) -> bool
 
 // The same. Where these are one, two or all words, their number is known beforehand.
 fn even_in(words: &[u64], used: usize, checks: usize, set: &[u64]) -> bool
-    requires { ⌜ (length (now words) ≡ 4096) × (checks ≤ 512) × (length (now set) ≡ 8) × (used ≤ 8) ⌝ }
+    requires { ⌜ AllAsked (now words) checks (now set) used ⌝ }
     ensures { λ r. ⌜ r ≡ evenChecks (lent 8 (now (words .entry))) (used * 64) checks (lent 8 (now (set .entry)) 0) ⌝ }
 {
     if used == 1 {
@@ -152,7 +153,7 @@ pub fn extend(
 
 // Whether none of the first `checks` checks contains exactly one of the set's bits in its first `used` words.
 fn none_single(words: &[u64], used: usize, checks: usize, set: &[u64]) -> bool
-    requires { ⌜ (length (now words) ≡ 4096) × (checks ≤ 512) × (length (now set) ≡ 8) × (used ≤ 8) ⌝ }
+    requires { ⌜ AllAsked (now words) checks (now set) used ⌝ }
     ensures { λ r. ⌜ r ≡ stopping (lent 8 (now (words .entry))) (used * 64) checks (lent 8 (now (set .entry)) 0) ⌝ }
 {
     for d in 0..checks {

@@ -285,15 +285,21 @@ fn load_back(target: &[u32], used: usize, words: &[u64]) {
 }
 
 // The records of the bench's matrices with k = 0, of both forms, and an empty record.
-fn bench() {
+fn bench_a_and_c() {
     round_trip(b"A: ", &A, &A2);
     round_trip(b"A, second form: ", &A2, &A2);
     round_trip(b"C: ", &C, &C2);
     round_trip(b"C, second form: ", &C2, &C2);
+}
+
+fn bench_e_and_f() {
     round_trip(b"E: ", &E, &E2);
     round_trip(b"E, second form: ", &E2, &E2);
     round_trip(b"F: ", &F, &F2);
     round_trip(b"F, second form: ", &F2, &F2);
+}
+
+fn bench_i_and_k() {
     round_trip(b"I: ", &I, &I2);
     round_trip(b"I, second form: ", &I2, &I2);
     let none: [u32; 0] = [];
@@ -307,6 +313,10 @@ fn firsts() {
     load_case(b"n = 0: ", &[0x1000_0000, 0xf000_0000]);
     load_case(b"m = 121: ", &[0x1000_7901, 0xf000_0000]);
     load_case(b"only the first word: ", &[0x1000_0001]);
+}
+
+// Checks and ends that are not as the first word has them.
+fn counts() {
     load_case(
         b"n = 3, count 3, first bit 2: ",
         &[
@@ -359,6 +369,10 @@ fn numbers() {
         b"second form, a number skipped: ",
         &[0x4000_0203, 0x2000_0000, 0x2000_0200, 0xf000_0000],
     );
+}
+
+// The second form's ends.
+fn seconds() {
     load_case(
         b"second form, bit 16 of a kind 2 word: ",
         &[0x4000_0103, 0x2001_0000, 0xf000_0000],
@@ -382,24 +396,35 @@ fn third_case(head: &[u8], at: usize, word: u32)
     load_case(head, &source);
 }
 
-// Splits: in the third form, in the others, before the checks are complete, after the end; each fault of the first and of the last.
+// Splits: in the third form, in the others, before the checks are complete, after the end.
 fn splits() {
     round_trip(b"E with its splits: ", &E3, &E3);
     round_trip(b"C, third form without splits: ", &C3, &C2);
     third_case(b"in the second form: ", 0, 0x4000_0203);
     third_case(b"in the first form: ", 0, 0x1000_0203);
     third_case(b"before check 1: ", 5, 0x6000_0200);
+}
+
+// Each fault of the first split,
+fn first_splits() {
     third_case(b"first split, bits exchanged: ", 9, 0x6000_0001);
     third_case(b"first split, equal bits: ", 9, 0x6000_0201);
     third_case(b"first split, bit 3 is not there: ", 9, 0x6000_0600);
     third_case(b"first split, bit 18 set: ", 9, 0x6004_0200);
     third_case(b"first split, bit 27 set: ", 9, 0x6800_0200);
     third_case(b"first split, another pair: ", 9, 0x6000_0400);
+}
+
+// and of the last.
+fn last_splits() {
     third_case(b"last split, bits exchanged: ", 10, 0x6000_0403);
     third_case(b"last split, bit 4 is not there: ", 10, 0x6000_0802);
     third_case(b"last split, share 1: ", 10, 0x6000_0200);
     third_case(b"last split, share 0: ", 10, 0x6000_0400);
     third_case(b"last split, bit 18 set: ", 10, 0x6004_0602);
+}
+
+fn ends_of_splits() {
     third_case(b"no last split: ", 10, 0xf000_0000);
     third_case(b"a third split, and no end: ", 11, 0x6000_0803);
     load_case(
@@ -540,8 +565,7 @@ fn with_word(head: &[u8], w: u64, n: usize, m: usize, k: usize) {
     write_case(head, &words, n, m, k);
 }
 
-fn main() {
-    bench();
+fn large() {
     let l = samples::cases::l();
     write_case(b"L: ", &l, 23, 23, 0);
     let all = full();
@@ -549,10 +573,21 @@ fn main() {
     rooms(&all);
     too_long(&all);
     last_numbers(&all);
+}
+
+fn faults() {
     firsts();
+    counts();
     numbers();
+    seconds();
     splits();
+    first_splits();
+    last_splits();
+    ends_of_splits();
     short_thirds();
+}
+
+fn replaced_and_cut() {
     io::write_all(1, b"C with\n");
     all_replaced(false);
     io::write_all(1, b"C, second form, with\n");
@@ -562,10 +597,23 @@ fn main() {
     io::write_all(1, b"\nC, second form, cut:");
     all_cut(&C2);
     end_line();
+}
+
+fn written() {
     lengths();
     with_word(b"n = 121 to write: ", 0, 121, 0, 0);
     with_word(b"a one outside: ", 2, 1, 1, 0);
     with_word(b"rule A broken: ", 1, 1, 0, 1);
     with_word(b"k = 1: ", 7, 2, 0, 1);
     with_word(b"n = 1, m = 1, empty: ", 0, 1, 1, 0);
+}
+
+fn main() {
+    bench_a_and_c();
+    bench_e_and_f();
+    bench_i_and_k();
+    large();
+    faults();
+    replaced_and_cut();
+    written();
 }

@@ -20,8 +20,8 @@ use Rattle.parity.proofs.Finite.Sums.{is-true, is-false, is, eqb-one, eqb-two, 
 use Rattle.parity.proofs.Matrix.Accept.{Accepted, passes}
 use Rattle.parity.proofs.Finite.Lists.{listFrom-cong}
 use Rattle.parity.proofs.Words.Bytes.{right-bytes, erasable-bit}
-use Rattle.parity.proofs.Words.Determining.{Taken, determine-made, determine-refused, after-at}
-use Rattle.parity.proofs.Words.Packets.{words-made, zeros-agree, lane-at, lane-size, lane-word, lost-at, lost-size, lost-word}
+use Rattle.parity.proofs.Words.Determine.{Taken, determine-made, determine-refused, after-at}
+use Rattle.parity.proofs.Words.Lanes.{words-made, zeros-agree, lane-at, lane-size, lane-word, lost-at, lost-size, lost-word}
 use Rattle.parity.proofs.Words.Residue.{withins}
 use Rattle.sets.specs.Sets.{SetOf}
 use Rattle.steps.specs.Steps.{held, filled}

@@ -15,7 +15,7 @@ use Rattle.parity.specs.Determining.{someAgrees, determined}
 use Rattle.parity.proofs.Finite.Sums.{is-true, is-false, is, count-pos}
 use Rattle.parity.proofs.Matrix.Lent.{lent-empty, lent-out}
 use Rattle.parity.proofs.Words.Agreeing.{known-value}
-use Rattle.parity.proofs.Words.Packets.{zeros-agree}
+use Rattle.parity.proofs.Words.Lanes.{zeros-agree}
 use Rattle.steps.specs.Steps.{held, Short}
 use Rattle.steps.proofs.Held.{erased-held, ones-held}
 use Rattle.residue.specs.Sets.{Apart}

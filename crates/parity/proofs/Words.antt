@@ -9,9 +9,11 @@ pub mod Agreeing
 pub mod Bytes
 pub mod Verifying
 pub mod Peeling
+pub mod Determine
 pub mod Determining
 pub mod Solving
 pub mod StoppingSets
 pub mod SetsListed
+pub mod Lanes
 pub mod Packets
 pub mod PacketsMended

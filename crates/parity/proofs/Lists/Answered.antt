@@ -22,7 +22,7 @@ use Rattle.parity.proofs.Words.Bytes.{word-right}
 use Rattle.parity.proofs.Words.Agreeing.{whole-agrees, peeled-determined}
 use Rattle.parity.proofs.Words.Peeling.{Answered, peel-answered}
 use Rattle.parity.proofs.Words.Residue.{residue-stops}
-use Rattle.parity.proofs.Words.Determining.{Taken, determine-made}
+use Rattle.parity.proofs.Words.Determine.{Taken, determine-made}
 use Rattle.parity.proofs.Lists.Theorems.{added-stop}
 
 -- A peeling that answers.

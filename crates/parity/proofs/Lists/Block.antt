@@ -21,7 +21,8 @@ use Rattle.parity.proofs.Finite.Sums.{is-true, is-false, is}
 use Rattle.parity.proofs.Matrix.Accept.{Accepted, accepts, accepting-refuses}
 use Rattle.parity.proofs.Causes.Admit.{accepted-number}
 use Rattle.parity.proofs.Words.Bytes.{right-bytes}
-use Rattle.parity.proofs.Words.Determining.{Taken, verify-taken, answered, determine-made, determine-refused, refused-if-none, refused-with-peeling}
+use Rattle.parity.proofs.Words.Determine.{Taken, verify-taken, answered, determine-made, determine-refused}
+use Rattle.parity.proofs.Words.Determining.{refused-if-none, refused-with-peeling}
 use Rattle.parity.proofs.Splits.Splitting.{orthogonalises as orthogonalise-made}
 use Rattle.parity.proofs.Lists.Chain.{reply-k}
 use Rattle.parity.proofs.Lists.Demand3.{demand3}

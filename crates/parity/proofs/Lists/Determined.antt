@@ -18,7 +18,7 @@ use Rattle.parity.proofs.Finite.Sums.{is-true, is-false, is}
 use Rattle.parity.proofs.Matrix.Accept.{accepts}
 use Rattle.parity.proofs.Words.Agreeing.{some-of, some-at, none-of}
 use Rattle.parity.proofs.Words.Bytes.{longer-sent, longer-added, longer-size}
-use Rattle.parity.proofs.Words.Determining.{Taken, agreeing-at, listed, agreeing-of, determine-made, determine-refused, after-size, determines}
+use Rattle.parity.proofs.Words.Determine.{Taken, agreeing-at, listed, agreeing-of, determine-made, determine-refused, after-size, determines}
 use Rattle.parity.proofs.Lists.Demand3.{demand3}
 
 module _ (given : List ℕ) (n m : ℕ) (a₀ : cause given n m 0 ≡ 0) (s : Stand) (K : Keeps given n m s) (w : List ℕ) (size : length w ≡ n) (small : (b : ℕ) → b < n → byteOf w b ≤ 2) where

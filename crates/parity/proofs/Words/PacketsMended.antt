@@ -27,8 +27,10 @@ use Rattle.parity.proofs.Finite.Lists.{length-listFrom, listFrom-cong}
 use Rattle.parity.proofs.Matrix.Accept.{Accepted, passes}
 use Rattle.parity.proofs.Words.Agreeing.{Agree, some-of, none-of, known-value}
 use Rattle.parity.proofs.Words.Bytes.{Word, word-right}
-use Rattle.parity.proofs.Words.Determining.{Taken, determine-made, determine-refused, answered, after-size, after-at, agreeing-at, again, writes-one-value}
-use Rattle.parity.proofs.Words.Packets.{words-length, words-made, words-cong, zero-or-open, lane-at, lane-bit, lane-word, lane-erased, lost-at, lost-size, lost-erased, lost-zero, mending-accepted, lost-is, packets-is, odd-is, zeros-taken, zeros-agreed, still, lane-taken, bit-is, flag-is, packets-as-lanes}
+use Rattle.parity.proofs.Words.Determine.{Taken, determine-made, determine-refused, answered, after-size, after-at, agreeing-at, again}
+use Rattle.parity.proofs.Words.Determining.{writes-one-value}
+use Rattle.parity.proofs.Words.Lanes.{words-length, words-made, words-cong, zero-or-open, lane-at, lane-bit, lane-word, lane-erased, lost-at, lost-size, lost-erased, lost-zero}
+use Rattle.parity.proofs.Words.Packets.{mending-accepted, lost-is, packets-is, odd-is, zeros-taken, zeros-agreed, still, lane-taken, bit-is, flag-is, packets-as-lanes}
 
 module _ (ws : List ℕ) (n m k : ℕ) (lost packets odd : List ℕ) where
   abbrev N : ℕ

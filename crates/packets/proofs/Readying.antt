@@ -10,7 +10,7 @@ use Rattle.parity.specs.Finite.{count}
 use Rattle.parity.specs.Matrix.{Matrix, lent}
 use Rattle.parity.specs.Words.{inside}
 use Rattle.parity.proofs.Finite.Sums.{count-le, count-mono, count-bound}
-use Rattle.steps.specs.Steps.{Short}
+use Rattle.sets.specs.Sets.{Short}
 use Rattle.elimination.specs.Reduction.{Reduction}
 use Rattle.residue.specs.Rows.{Gathered}
 use Rattle.residue.proofs.Gathering.{narrow}

@@ -16,7 +16,8 @@ use Rattle.parity.proofs.Finite.Sums.{is-true, is-false, is, count-pos}
 use Rattle.parity.proofs.Matrix.Lent.{lent-empty, lent-out}
 use Rattle.parity.proofs.Words.Agreeing.{known-value}
 use Rattle.parity.proofs.Words.Lanes.{zeros-agree}
-use Rattle.steps.specs.Steps.{held, Short}
+use Rattle.sets.specs.Sets.{Short}
+use Rattle.steps.specs.Steps.{held}
 use Rattle.steps.proofs.Held.{erased-held, ones-held}
 use Rattle.residue.specs.Sets.{Apart}
 use Rattle.lanes.specs.Lanes.{Lists, mending, contradicted}

@@ -13,7 +13,7 @@ ghost use Prim.Native.Nat.{_*_, _≤_, _<_};
 ghost use lib.ListN.{length};
 ghost use Rattle.parity.specs.Finite.{count};
 ghost use Rattle.parity.specs.Matrix.{lent};
-ghost use Rattle.steps.specs.Steps.{Short};
+ghost use Rattle.sets.specs.Sets.{Short};
 ghost use Rattle.plan.specs.Order.{Peeled};
 ghost use Rattle.packets.specs.Sets.{SetMended, Rooms};
 

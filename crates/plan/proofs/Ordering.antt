@@ -17,10 +17,12 @@ use Rattle.parity.proofs.Finite.Sums.{is-true, is-false, is, sum-point, count-c
 use Rattle.parity.proofs.Matrix.Lent.{put-here, put-place}
 use Rattle.parity.proofs.Words.Extend.{odd-added}
 use Rattle.parity.proofs.Words.Residue.{outside, inside-le}
-use Rattle.steps.specs.Next.{Lone, NoSingle}
-use Rattle.steps.specs.Live.{Live}
-use Rattle.steps.specs.Steps.{Solved, Short, start, next}
-use Rattle.steps.proofs.Held.{fewer, inside-short}
+use Rattle.search.specs.Next.{Lone, NoSingle}
+use Rattle.search.specs.Live.{Live}
+use Rattle.sets.specs.Sets.{Short}
+use Rattle.sets.proofs.Short.{inside-short}
+use Rattle.steps.specs.Steps.{Solved, start, next}
+use Rattle.steps.proofs.Held.{fewer}
 use Rattle.steps.proofs.Listing.{live-solved}
 use Rattle.rows.specs.Rows.{Empty}
 use Rattle.lanes.specs.Lanes.{ran, solvedBy}

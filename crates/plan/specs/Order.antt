@@ -8,7 +8,7 @@ use lib.ListN.{getD}
 use Rattle.parity.specs.Finite.{count}
 use Rattle.parity.specs.Matrix.{Matrix}
 use Rattle.parity.specs.Words.{inside, odd}
-use Rattle.steps.specs.Next.{NoSingle}
+use Rattle.search.specs.Next.{NoSingle}
 use Rattle.steps.specs.Steps.{Reached}
 use Rattle.lanes.specs.Lanes.{ran, Low}
 use Rattle.residue.specs.Rows.{PivotsWritten}

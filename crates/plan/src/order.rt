@@ -2,17 +2,17 @@
 use crate::note;
 use parity::Check;
 use rows::raise;
+use search::Alone;
+use search::list;
+use search::next_in;
 use sets::touches;
-use steps::live::Alone;
-use steps::live::list;
-use steps::solving::next_in;
 ghost use mathlib.Core.Path.{_≡_};
 ghost use Prim.Native.Nat.{_*_, _≤_};
 ghost use lib.ListN.{length};
 ghost use Rattle.parity.specs.Matrix.{lent};
 ghost use Rattle.rows.specs.Rows.{Empty};
-ghost use Rattle.steps.specs.Live.{Listed};
-ghost use Rattle.steps.specs.Steps.{Short};
+ghost use Rattle.search.specs.Live.{Listed};
+ghost use Rattle.sets.specs.Sets.{Short};
 ghost use Rattle.plan.specs.Order.{Settling, Joined};
 
 // Notes steps as long as one of the checks listed, the first `checks`, has exactly one erased bit, in the first `used` words. The answer is their number; `done` gets the checks

@@ -12,7 +12,7 @@ use steps::result::write;
 ghost use mathlib.Core.Path.{_≡_};
 ghost use lib.ListN.{length};
 ghost use Rattle.parity.specs.Matrix.{lent};
-ghost use Rattle.steps.specs.Steps.{Short};
+ghost use Rattle.sets.specs.Sets.{Short};
 ghost use Rattle.residue.specs.Sets.{Given, Posed, Finished};
 
 // Elimination, in rows of as many words as are good for the bits, and writing. `eliminate` is called at two places, so that the compiler leaves it a

@@ -3,3 +3,4 @@ pub mod Making
 pub mod Eights
 pub mod Single
 pub mod Sizes
+pub mod Short

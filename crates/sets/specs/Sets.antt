@@ -1,6 +1,6 @@
 -- Sets of bits that are given by bytes, as words of 64 bits. Assumes nothing.
 use mathlib.Core.Path.{_≡_}
-use mathlib.Core.Bool.{Bool, _&&_}
+use mathlib.Core.Bool.{Bool, false, _&&_}
 use mathlib.Core.List.{List}
 use Prim.Native.Nat.{ℕ, _+_, _*_, _^_, _<_, _≤_}
 use lib.Dec.{eqb, ltb}
@@ -37,3 +37,7 @@ fourBytes w b = byteOf w b + byteOf w (b + 1) * 256 + byteOf w (b + 2) * 65536 +
 pub record SetOf (W : ℕ) (w : List ℕ) (v : ℕ) (r : List ℕ) : Type 0 where
   pub size : length r ≡ W
   pub at : (b : ℕ) → lent W r 0 b ≡ withByte w v b
+
+-- a set that has no bit from N on
+pub record Short (N : ℕ) (s : ℕ → Bool) : Type 0 where
+  pub none : (b : ℕ) → N ≤ b → s b ≡ false

@@ -4,8 +4,8 @@ use mathlib.Core.Bool.{Bool, true, false, not, cond, _&&_, and-true, and-false, 
 use Prim.Native.Nat.{ℕ, suc, _+_, _*_, _≤_, _<_}
 use native.Mathlib.Omega.{arith}
 use native.Mathlib.Decide.{ℕ-discrete, decLt}
-use lib.Dec.{eqb, ltb}
-use borrow.Author.Tests.{eq-eqb, ne-eqb, lt-ltb, le-ltb}
+use lib.Dec.{eqb}
+use borrow.Author.Tests.{eq-eqb, ne-eqb}
 use Rattle.parity.specs.Finite.{one, count}
 use Rattle.parity.specs.Matrix.{Matrix, put}
 use Rattle.parity.specs.Words.{erased, isOne, inside, odd, solved, agrees}
@@ -14,9 +14,10 @@ use Rattle.parity.proofs.Matrix.Lent.{put-here, put-place}
 use Rattle.parity.proofs.Words.Bytes.{erasable-erased}
 use Rattle.parity.proofs.Words.Steps.{Stage, step, Ended, ended}
 use Rattle.parity.proofs.Finite.Firsts.{all-cong}
-use Rattle.parity.proofs.Words.Sets.{inside-below}
-use Rattle.steps.specs.Next.{Lone, NoSingle}
-use Rattle.steps.specs.Steps.{held, Solved, Reached, start, next, agreeing, Short}
+use Rattle.sets.specs.Sets.{Short}
+use Rattle.sets.proofs.Short.{inside-short}
+use Rattle.search.specs.Next.{Lone, NoSingle}
+use Rattle.steps.specs.Steps.{held, Solved, Reached, start, next, agreeing}
 
 -- the machine's two sets, after the bit leaves the one and, where the check's ones are odd, enters the other
 module _ (h : Matrix) (N c b : ℕ) (E O E' O' : Matrix) (p : E' ≡ put 0 b false E) where
@@ -69,16 +70,6 @@ ones-held e o f = fun-ext (λ a. go (e a) (o a) (f a))
     go true y f = sym (f refl)
     go false true f = refl
     go false false f = refl
-
--- a set that has no bit from N on
-pub short-below : (N : ℕ) (s : ℕ → Bool) → ((a : ℕ) → N ≤ a → s a ≡ false) → (b : ℕ) → s b ≡ (ltb b N && s b)
-short-below N s f b = elim (decLt b N) [ yes k ↦ rw (lt-ltb b N k) | no k ↦ rw (le-ltb b N (omega arith), f b (omega arith)) ]
-
-pub inside-short : (h : Matrix) (B N c : ℕ) (s : ℕ → Bool) → N ≤ B → ((a : ℕ) → N ≤ a → s a ≡ false) → inside h B c s ≡ inside h N c s
-inside-short h B N c s l f = inside-below h B N c s s l (short-below N s f)
-
-pub short-wider : (N B : ℕ) (s : ℕ → Bool) → N ≤ B → Short N s → Short B s
-short-wider N B s l f = record { none = λ b k. f .none b (omega arith) }
 
 -- sets of the first N bits agree by these bits
 pub agreeing-wider : (h : Matrix) (N B M : ℕ) (e o : ℕ → Bool) → N ≤ B → Short N e → Short N o → agreeing h N M e o ≡ agreeing h B M e o

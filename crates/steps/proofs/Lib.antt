@@ -1,5 +1,3 @@
-pub mod Offsets
-pub mod Seen
 pub mod Held
 pub mod Start
 pub mod Writing

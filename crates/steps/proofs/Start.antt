@@ -17,15 +17,12 @@ use Rattle.parity.proofs.Finite.Lists.{listFrom-cong}
 use Rattle.parity.proofs.Words.Residue.{withins}
 use Rattle.parity.proofs.Words.Steps.{stage-start}
 use Rattle.parity.proofs.Words.Bytes.{right-bytes, erasable-of}
-use Rattle.sets.specs.Sets.{SetOf}
+use Rattle.sets.specs.Sets.{SetOf, Short}
 use Rattle.sets.specs.Losses.{setLosses}
 use Rattle.sets.proofs.Sizes.{losses-sets}
-use Rattle.steps.specs.Steps.{held, filled, Settled, Short}
+use Rattle.sets.proofs.Short.{set-short}
+use Rattle.steps.specs.Steps.{held, filled, Settled}
 use Rattle.steps.proofs.Held.{Held, erased-held, held-reached}
-
--- a set that bytes make has none of their number or above
-pub set-short : (W : ℕ) (w : List ℕ) (v : ℕ) (r : List ℕ) → SetOf W w v r → Short (length w) (lent W r 0)
-set-short W w v r S = record { none = λ b l. S .at b ∙ rw (le-ltb b (length w) l) }
 
 -- the set of the lost bits
 lost-is : (W : ℕ) (w es : List ℕ) → SetOf W w 2 es → (b : ℕ) → b < length w → erased (byteOf w) b ≡ lent W es 0 b

@@ -19,7 +19,8 @@ use Rattle.parity.proofs.Matrix.Lent.{lent-word, lent-out}
 use Rattle.parity.proofs.Matrix.Ones.{Lowest}
 use Rattle.parity.proofs.Finite.Lists.{length-listFrom, at-listFrom}
 use Rattle.parity.proofs.Matrix.Rest.{rest-bit}
-use Rattle.steps.specs.Steps.{filled, Short, Reaching, WordWritten}
+use Rattle.sets.specs.Sets.{Short}
+use Rattle.steps.specs.Steps.{filled, Reaching, WordWritten}
 
 -- Of the bits that x, word i of a set, has, those that are not in rest have got their bytes.
 pub record Writing (i x rest : ℕ) (o : ℕ → Bool) (w w' : List ℕ) : Type 0 where

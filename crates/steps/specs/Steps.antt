@@ -1,6 +1,6 @@
 -- Peeling on the sets of a word's erased bits and of its ones, with N bits and M checks. Assumes nothing.
 use mathlib.Core.Path.{_≡_}
-use mathlib.Core.Bool.{Bool, true, false, not, cond, _&&_, _||_}
+use mathlib.Core.Bool.{Bool, true, not, cond, _&&_, _||_}
 use mathlib.Core.List.{List}
 use Prim.Native.Nat.{ℕ, _+_, _*_, _/_, _%_, _≤_, _<_}
 use lib.Dec.{eqb}
@@ -9,7 +9,8 @@ use Rattle.parity.specs.Finite.{one, all, listFrom}
 use Rattle.parity.specs.Matrix.{Matrix, bitOf, lent}
 use Rattle.parity.specs.Words.{inside, odd}
 use Rattle.parity.specs.Calls.{byteOf}
-use Rattle.steps.specs.Next.{Lone, NoSingle}
+use Rattle.sets.specs.Sets.{Short}
+use Rattle.search.specs.Next.{Lone, NoSingle}
 
 -- the words of a matrix, its first checks, and the sets of erased bits and of ones, of which the first words are in use
 abbrev pub WithSets : List ℕ → ℕ → List ℕ → List ℕ → ℕ → Type 0
@@ -42,15 +43,11 @@ agreeing h N M e o = all M (λ c. not (eqb (inside h N c e) 0) || eqb (inside h 
 abbrev pub filled : (ℕ → Bool) → (ℕ → Bool) → (ℕ → Bool) → (ℕ → ℕ) → ℕ → ℕ
 filled s e o w b = cond (s b && not (e b)) (one (o b)) (w b)
 
--- a set that has no bit from N on
-pub record Short (N : ℕ) (s : ℕ → Bool) : Type 0 where
-  pub none : (b : ℕ) → N ≤ b → s b ≡ false
-
 -- the erased bits and the ones are in the first words
 abbrev pub BothShort : ℕ → List ℕ → List ℕ → Type 0
 BothShort used es os = Short (used * 64) (lent 8 es 0) × Short (used * 64) (lent 8 os 0)
 
--- x, word i of a set, has none either
+-- x, word i of a set, has no bit from N on
 pub record Reaching (N i x : ℕ) : Type 0 where
   pub below : (j : ℕ) → j < 64 → bitOf x j ≡ true → i * 64 + j < N
 

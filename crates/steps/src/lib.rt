@@ -1,4 +1,3 @@
 // Peeling on sets of bits: the steps that recover erased bits, and the word that they lead to.
-pub mod live;
 pub mod result;
 pub mod solving;

@@ -10,7 +10,8 @@ ghost use lib.ListN.{length};
 ghost use Rattle.parity.specs.Finite.{one, listFrom};
 ghost use Rattle.parity.specs.Matrix.{lent};
 ghost use Rattle.parity.specs.Calls.{byteOf};
-ghost use Rattle.steps.specs.Steps.{BothShort, WithSets, agreeing, filled, Short, Reaching, WordWritten, Finished};
+ghost use Rattle.sets.specs.Sets.{Short};
+ghost use Rattle.steps.specs.Steps.{BothShort, WithSets, agreeing, filled, Reaching, WordWritten, Finished};
 
 // Whether each of the first `checks` checks without an erased bit is even, by their first `used` words. Where nothing is erased, no check is odd but for a
 // contradiction, and so this is asked first.

@@ -1,20 +1,21 @@
 // Solving checks with exactly one erased bit, on the sets of the erased bits and of the ones.
-use crate::live::Alone;
-use crate::live::list;
-use crate::live::next_alone;
 use parity::Bit;
 use parity::Check;
 use rows::lower;
 use rows::raise;
 use rows::touches;
+use search::Alone;
+use search::list;
+use search::next_in;
 use sets::is_odd;
 ghost use mathlib.Core.Path.{_≡_};
 ghost use Prim.Native.Nat.{_*_, _<_, _≤_};
 ghost use lib.ListN.{length};
 ghost use Rattle.parity.specs.Matrix.{lent};
 ghost use Rattle.parity.specs.Words.{inside, odd};
-ghost use Rattle.steps.specs.Live.{Live, Listed, NextAlone};
-ghost use Rattle.steps.specs.Steps.{Solved, Settled, Short};
+ghost use Rattle.search.specs.Live.{Listed};
+ghost use Rattle.sets.specs.Sets.{Short};
+ghost use Rattle.steps.specs.Steps.{Solved, Settled};
 
 // Whether check `c` contains an odd number of the ones, which are in the first `used` words: so many, or a few more, are known beforehand.
 fn odd_in(words: &[u64], used: usize, c: Check, ones: &[u64]) -> bool
@@ -44,33 +45,6 @@ fn solve(words: &[u64], used: usize, c: Check, b: Bit, erased: &mut [u64], ones:
     if odd {
         raise(ones, 8, 0, at);
     }
-}
-
-// The next check to solve: the number of words in use, or a few more, is known beforehand, and the search is quicker.
-pub fn next_in(
-    words: &[u64],
-    used: usize,
-    checks: usize,
-    live: &mut [u16],
-    count: usize,
-    from: usize,
-    kept: usize,
-    erased: &[u64],
-) -> Alone
-    requires { ⌜ (length (now words) ≡ 4096) × (checks ≤ 512) × (length (now live) ≡ 512) × (count ≤ 512) × (length (now erased) ≡ 8) × (used ≤ 8) × (kept ≤ from) × (from ≤ count) ⌝ }
-    requires { ⌜ Short (used * 64) (lent 8 (now erased) 0) × Live (lent 8 (now words)) 512 checks (lent 8 (now erased) 0) (now live) kept from count ⌝ }
-    ensures { λ r. ⌜ NextAlone (lent 8 (now (words .entry))) 512 checks (lent 8 (now (erased .entry)) 0) count kept (now (live .exit)) r ⌝ }
-{
-    if used <= 1 {
-        return next_alone(words, 1, checks, live, count, from, kept, erased);
-    }
-    if used == 2 {
-        return next_alone(words, 2, checks, live, count, from, kept, erased);
-    }
-    if used <= 4 {
-        return next_alone(words, 4, checks, live, count, from, kept, erased);
-    }
-    next_alone(words, 8, checks, live, count, from, kept, erased)
 }
 
 // Solves checks as long as one of those listed, the first `checks`, has exactly one erased bit; these and the ones are in the first `used` words. The search resumes behind the check found,

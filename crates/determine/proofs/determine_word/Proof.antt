@@ -4,7 +4,7 @@ use native.Mathlib.Omega.{arith}
 use borrow.Author.Tests.{not-true, not-false}
 use Rattle.parity.specs.Matrix.{lent}
 use Rattle.parity.specs.Causes.{answer, Outcome}
-use Rattle.steps.proofs.Start.{set-short}
+use Rattle.sets.proofs.Short.{set-short}
 use Rattle.determine.proofs.Ending.{word-apart, word-within, word-refused, word-made}
 use borrow.Author.Needs.{needs}
 use Rattle.determine.proofs.determine_word.Statement.{statement}

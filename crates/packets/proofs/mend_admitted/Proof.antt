@@ -9,7 +9,7 @@ use Rattle.parity.specs.Causes.{answer}
 use Rattle.parity.specs.Packets.{PacketsOutcome}
 use Rattle.parity.proofs.Matrix.Accept.{accepts}
 use Rattle.parity.proofs.Matrix.Lent.{lent-empty}
-use Rattle.steps.proofs.Start.{set-short}
+use Rattle.sets.proofs.Short.{set-short}
 use Rattle.packets.proofs.Ending.{fewer-packets, outcome-is}
 use native.Mathlib.Omega.{arith}
 use borrow.Author.Needs.{needs}

@@ -5,7 +5,8 @@ use native.Mathlib.Omega.{arith}
 use borrow.Author.Tests.{not-true, not-false}
 use Rattle.parity.specs.Matrix.{lent}
 use Rattle.parity.specs.Causes.{answer, Outcome}
-use Rattle.steps.proofs.Start.{set-short, settled-short, settled-within}
+use Rattle.sets.proofs.Short.{set-short}
+use Rattle.steps.proofs.Start.{settled-short, settled-within}
 use Rattle.peel.proofs.Ending.{word-refused, word-made}
 use borrow.Author.Needs.{needs}
 use Rattle.peel.proofs.peel_word.Statement.{statement}

@@ -2,7 +2,7 @@
 use mathlib.Core.Path.{refl, sym, _∙_}
 use Rattle.parity.proofs.Matrix.Lent.{lent-empty}
 use borrow.Author.Needs.{needs}
-use Rattle.steps.proofs.Held.{short-wider}
+use Rattle.sets.proofs.Short.{short-wider}
 use Rattle.packets.proofs.lost.mend_lost.Statement.{statement}
 use Rattle.packets.proofs.lost.mend_lost.Tie as tie
 

@@ -7,10 +7,10 @@ use lib.ListN.{length}
 use Rattle.parity.specs.Finite.{one, count as countOf}
 use Rattle.parity.specs.Matrix.{lent}
 use Rattle.parity.proofs.Finite.Sums.{count-pos, count-bound}
-use Rattle.steps.specs.Steps.{Short}
-use Rattle.steps.specs.Live.{Live}
+use Rattle.sets.specs.Sets.{Short}
+use Rattle.search.specs.Live.{Live}
 use Rattle.steps.proofs.Held.{less-work}
-use Rattle.steps.proofs.Listing.{live-listed, live-again, live-over}
+use Rattle.search.proofs.Listing.{live-listed, live-again, live-over}
 use Rattle.plan.specs.Order.{Ordered}
 use Rattle.plan.proofs.Ordering.{ordered-none, ordered-noted, noted-less, lone-narrow, single-narrow, short-noted, live-noted}
 use native.Mathlib.Omega.{arith}

@@ -4,7 +4,7 @@ use native.Mathlib.Omega.{arith}
 use borrow.Author.Needs.{needs}
 use Rattle.parity.specs.Matrix.{lent}
 use Rattle.parity.specs.Words.{odd}
-use Rattle.steps.proofs.Held.{inside-short, short-wider}
+use Rattle.sets.proofs.Short.{inside-short, short-wider}
 use Rattle.steps.proofs.solving.odd_in.Statement.{statement}
 use Rattle.steps.proofs.solving.odd_in.Tie as tie
 

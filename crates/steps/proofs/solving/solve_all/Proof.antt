@@ -8,10 +8,12 @@ use lib.Dec.{ltb}
 use lib.ListN.{length}
 use Rattle.parity.specs.Finite.{one, count as countOf}
 use Rattle.parity.specs.Matrix.{lent}
-use Rattle.steps.specs.Steps.{Reached, start, next, Short}
-use Rattle.steps.specs.Live.{Live}
+use Rattle.sets.specs.Sets.{Short}
+use Rattle.search.specs.Live.{Live}
+use Rattle.search.proofs.Listing.{live-listed, live-again, live-over}
+use Rattle.steps.specs.Steps.{Reached, start, next}
 use Rattle.steps.proofs.Held.{fewer, less-work, short-solved, short-valued}
-use Rattle.steps.proofs.Listing.{live-listed, live-solved, live-again, live-over}
+use Rattle.steps.proofs.Listing.{live-solved}
 use Rattle.steps.proofs.solving.solve_all.Statement.{statement}
 use Rattle.steps.proofs.solving.solve_all.Tie as tie
 

@@ -1,12 +1,12 @@
--- `live::list` meets its contract. Assumes nothing.
+-- `list` meets its contract. Assumes nothing.
 use mathlib.Core.Path.{_≡_, sym, _∙_}
 use Prim.Native.Nat.{_-_, _≤_}
 use native.Mathlib.Omega.{arith}
 use lib.ListN.{length, length-set}
-use Rattle.steps.proofs.live.list.Statement.{statement}
-use Rattle.steps.proofs.live.list.Tie as tie
-use Rattle.steps.specs.Live.{Listed}
-use Rattle.steps.proofs.Listing.{listed-none, listed-more}
+use Rattle.search.proofs.list.Statement.{statement}
+use Rattle.search.proofs.list.Tie as tie
+use Rattle.search.specs.Live.{Listed}
+use Rattle.search.proofs.Listing.{listed-none, listed-more}
 
 abbrev Inv-loop : tie.InvT-loop
 Inv-loop checks live₀ c₀ live c = (c ≤ checks) × (length live ≡ 512) × Listed c live

@@ -7,8 +7,8 @@ ghost use mathlib.Core.Path.{_≡_};
 ghost use Prim.Native.Nat.{_*_, _≤_, _<_};
 ghost use lib.ListN.{length};
 ghost use Rattle.parity.specs.Matrix.{lent};
-ghost use Rattle.steps.specs.Steps.{Short};
-ghost use Rattle.steps.specs.Live.{Live, NextAlone, Listed, Offsets};
+ghost use Rattle.sets.specs.Sets.{Short};
+ghost use Rattle.search.specs.Live.{Live, NextAlone, Listed, Offsets};
 
 // A check with exactly one erased bit, that bit, the check's place in the list, and how many checks before it are kept; or how many are kept of all.
 pub enum Alone {
@@ -48,7 +48,7 @@ fn offsets(words: &[u64], used: usize, c: usize, erased: &[u64]) -> u64
 // The next check of the list's first `count`, from place `from` on, with exactly one erased bit; these are in the first `used` words, so that `used * 64` is
 // none of them. A check with a second one is kept, from place `kept` on. Nearly always its second erased bit has another offset than the first, and so
 // the offsets of all words are gone through before the bits of each word: the processor foresees where that ends.
-pub fn next_alone(
+fn next_alone(
     words: &[u64],
     used: usize,
     checks: usize,
@@ -99,4 +99,31 @@ pub fn next_alone(
         }
         at += 1;
     }
+}
+
+// The same: the number of words in use, or a few more, is known beforehand, and the search is quicker.
+pub fn next_in(
+    words: &[u64],
+    used: usize,
+    checks: usize,
+    live: &mut [u16],
+    count: usize,
+    from: usize,
+    kept: usize,
+    erased: &[u64],
+) -> Alone
+    requires { ⌜ (length (now words) ≡ 4096) × (checks ≤ 512) × (length (now live) ≡ 512) × (count ≤ 512) × (length (now erased) ≡ 8) × (used ≤ 8) × (kept ≤ from) × (from ≤ count) ⌝ }
+    requires { ⌜ Short (used * 64) (lent 8 (now erased) 0) × Live (lent 8 (now words)) 512 checks (lent 8 (now erased) 0) (now live) kept from count ⌝ }
+    ensures { λ r. ⌜ NextAlone (lent 8 (now (words .entry))) 512 checks (lent 8 (now (erased .entry)) 0) count kept (now (live .exit)) r ⌝ }
+{
+    if used <= 1 {
+        return next_alone(words, 1, checks, live, count, from, kept, erased);
+    }
+    if used == 2 {
+        return next_alone(words, 2, checks, live, count, from, kept, erased);
+    }
+    if used <= 4 {
+        return next_alone(words, 4, checks, live, count, from, kept, erased);
+    }
+    next_alone(words, 8, checks, live, count, from, kept, erased)
 }

@@ -18,7 +18,7 @@ use Rattle.parity.proofs.Matrix.Digits.{bit-zero}
 use Rattle.parity.proofs.Matrix.Ones.{Lowest}
 use Rattle.parity.proofs.Matrix.Rest.{rest-bit}
 use Rattle.parity.proofs.Words.Sets.{common, common-bit}
-use Rattle.steps.specs.Next.{Lone}
+use Rattle.search.specs.Next.{Lone}
 
 -- bit b is an erased bit of check c
 abbrev pub hole : ℕ → List ℕ → List ℕ → ℕ → ℕ → Bool

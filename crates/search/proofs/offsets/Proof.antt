@@ -1,11 +1,11 @@
--- `live::offsets` meets its contract. Assumes nothing.
+-- `offsets` meets its contract. Assumes nothing.
 use mathlib.Core.Path.{_≡_}
 use Prim.Native.Nat.{_-_, _≤_}
 use native.Mathlib.Omega.{arith}
-use Rattle.steps.specs.Live.{Offsets}
-use Rattle.steps.proofs.Offsets.{offsets-none, offsets-more}
-use Rattle.steps.proofs.live.offsets.Statement.{statement}
-use Rattle.steps.proofs.live.offsets.Tie as tie
+use Rattle.search.specs.Live.{Offsets}
+use Rattle.search.proofs.Offset.{offsets-none, offsets-more}
+use Rattle.search.proofs.offsets.Statement.{statement}
+use Rattle.search.proofs.offsets.Tie as tie
 
 abbrev Inv-loop : tie.InvT-loop
 Inv-loop words used c erased x₀ i₀ x i = (i ≤ used) × Offsets 8 i words erased c x

@@ -16,7 +16,7 @@ use Rattle.parity.proofs.Matrix.Digits.{bit-zero, bit-or}
 use Rattle.parity.proofs.Matrix.Ones.{Lowest}
 use Rattle.parity.proofs.Matrix.Rest.{rest-bit}
 use Rattle.parity.proofs.Words.Sets.{common, common-bit}
-use Rattle.steps.specs.Live.{Offset, Offsets}
+use Rattle.search.specs.Live.{Offset, Offsets}
 
 pub offsets-none : (W : ℕ) (ws es : List ℕ) (c : ℕ) → Offsets W 0 ws es c 0
 offsets-none W ws es c = record { fits = omega arith; at = λ j k e. absurd (false≢true (sym (bit-zero j) ∙ e)) }

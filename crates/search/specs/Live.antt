@@ -7,9 +7,9 @@ use Prim.Native.Nat.{ℕ, _+_, _*_, _^_, _≤_, _<_}
 use lib.ListN.{getD}
 use Rattle.parity.specs.Matrix.{Matrix, bitOf, lent}
 use Rattle.parity.specs.Words.{inside}
-use Rattle.steps.specs.declared.live.Alone.{Alone}
-use Rattle.steps.specs.declared.live.Alone.the-variants.{Found, Nothing}
-use Rattle.steps.specs.Next.{Lone}
+use Rattle.search.specs.declared.Alone.{Alone}
+use Rattle.search.specs.declared.Alone.the-variants.{Found, Nothing}
+use Rattle.search.specs.Next.{Lone}
 
 -- check c has an erased bit at offset j of one of its first U words, where a row has W
 pub record Offset (W U : ℕ) (ws es : List ℕ) (c j : ℕ) : Type 0 where

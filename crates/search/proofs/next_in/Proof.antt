@@ -1,9 +1,9 @@
--- `solving::next_in` meets its contract. Assumes nothing.
+-- `next_in` meets its contract. Assumes nothing.
 use native.Mathlib.Omega.{arith}
 use borrow.Author.Needs.{needs}
-use Rattle.steps.proofs.Held.{short-wider}
-use Rattle.steps.proofs.solving.next_in.Statement.{statement}
-use Rattle.steps.proofs.solving.next_in.Tie as tie
+use Rattle.sets.proofs.Short.{short-wider}
+use Rattle.search.proofs.next_in.Statement.{statement}
+use Rattle.search.proofs.next_in.Tie as tie
 
 next-alone-requires : tie.Need-next-alone-requires
 next-alone-requires c κs = let s = c .before .before .before .before .before in

@@ -1,4 +1,4 @@
--- `live::next_alone` meets its contract. Assumes nothing.
+-- `next_alone` meets its contract. Assumes nothing.
 use mathlib.Core.Path.{_≡_, refl, sym, _∙_}
 use Prim.Native.Nat.{_-_, _≤_, _<_}
 use native.Mathlib.Omega.{arith}
@@ -7,11 +7,11 @@ use lib.ListN.{length, getD, length-set}
 use Rattle.parity.specs.Matrix.{lent}
 use Rattle.parity.proofs.Matrix.Ones.{trailing-lowest}
 use Rattle.parity.proofs.Matrix.Rest.{rest-less}
-use Rattle.steps.proofs.Offsets.{Rest, rest-start, rest-next, rest-second}
-use Rattle.steps.proofs.Seen.{Row, Bits, row-start, bits-start, bits-end, bits-first, bits-second, row-lone, row-zero}
-use Rattle.steps.proofs.Listing.{none-wider, more-wider, lone-wider, Searched, searched-start, searched-none, searched-kept, searched-all}
-use Rattle.steps.proofs.live.next_alone.Statement.{statement}
-use Rattle.steps.proofs.live.next_alone.Tie as tie
+use Rattle.search.proofs.Offset.{Rest, rest-start, rest-next, rest-second}
+use Rattle.search.proofs.Seen.{Row, Bits, row-start, bits-start, bits-end, bits-first, bits-second, row-lone, row-zero}
+use Rattle.search.proofs.Listing.{none-wider, more-wider, lone-wider, Searched, searched-start, searched-none, searched-kept, searched-all}
+use Rattle.search.proofs.next_alone.Statement.{statement}
+use Rattle.search.proofs.next_alone.Tie as tie
 
 abbrev Inv-offsets : tie.InvT-offsets
 Inv-offsets words used checks live₀ count from kept erased at₀ k₀ c y₀ seen₀ live at k y seen =

@@ -267,7 +267,7 @@ pub extern "C" fn parity_rank(
 ) -> u32
     ensures { λ r. ⌜ Passed (rankReply (now (words .entry)) n m k) (now (values .entry)) (now (values .exit)) r ⌝ }
 {
-    let ranking = encode::rank(words, n, m, k);
+    let ranking = rank::rank(words, n, m, k);
     let numbered = reply::ranking(ranking);
     reply::pass(numbered, values)
 }
@@ -304,7 +304,7 @@ pub extern "C" fn parity_message_bits(
     ensures { λ r. ⌜ Passed (messageBitsOutcome (now (words .entry)) n m k (now (set .entry)) .reply) (now (values .entry)) (now (values .exit)) r ⌝ }
     ensures { λ r. ⌜ now (set .exit) ≡ messageBitsOutcome (now (words .entry)) n m k (now (set .entry)) .after ⌝ }
 {
-    let marking = encode::message_bits(words, n, m, k, set);
+    let marking = message_bits::message_bits(words, n, m, k, set);
     let numbered = reply::marking(marking);
     reply::pass(numbered, values)
 }

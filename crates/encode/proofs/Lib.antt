@@ -1,3 +1,2 @@
-pub mod Pivots
 pub mod Filling
 pub mod Told

@@ -1,74 +1,59 @@
--- What is read off the reduced rows, and what rank, encoding and marking the message's bits answer. Assumes nothing.
+-- The codeword that is read off the reduced rows, and what encoding answers. Assumes nothing.
 use mathlib.Core.Path.{_≡_, refl, sym, ap, _∙_}
 use mathlib.Core.Bool.{Bool, true, false, not, false≢true}
-use mathlib.Core.List.{List, [], _∷_}
-use Prim.Native.Nat.{ℕ, _+_, _*_, _-_, _%_, _≤_, _<_}
+use mathlib.Core.List.{List, []}
+use Prim.Native.Nat.{ℕ, _+_, _-_, _%_, _≤_, _<_}
 use native.Mathlib.Omega.{arith}
 use native.Mathlib.Decide.{decLt}
-use lib.Dec.{eqb}
-use lib.ListN.{getD, length, take, replicate, getD-replicate, List·getD-eq-default}
-use lib.Seq.{getD-take}
+use lib.ListN.{length, List·getD-eq-default}
 use borrow.Author.Tests.{eq-eqb, ne-eqb, lt-ltb}
 use Rattle.parity.specs.Finite.{one, count, listFrom}
 use Rattle.parity.specs.Matrix.{Matrix, lent}
-use Rattle.parity.specs.Words.{isOne, inside, evenChecks}
+use Rattle.parity.specs.Words.{isOne, inside}
 use Rattle.parity.specs.Encoding.{dependent, rankOf, encoded}
-use Rattle.parity.specs.Causes.{Reply, answer, refusalOf, leaving}
-use Rattle.parity.specs.Calls.{byteOf, wrongByte, wrongPlace, acceptReply, rankReply, encodeReply, encodeOutcome}
-use Rattle.parity.specs.MessageBits.{messageBitsReply, messageBitsOutcome}
+use Rattle.parity.specs.Causes.{Reply, answer, refusalOf}
+use Rattle.parity.specs.Calls.{byteOf, wrongByte, wrongPlace, acceptReply, encodeReply, encodeOutcome}
 use Rattle.parity.specs.declared.Refusal.{Refusal}
 use Rattle.parity.specs.declared.Refusal.the-variants.{WrongLength, WrongByte, AddedBits}
 use Rattle.parity.proofs.Finite.Sums.{is-true, is-false, is, count-cong, byte-one}
-use Rattle.parity.proofs.Finite.Firsts.{all-cong}
 use Rattle.parity.proofs.Splits.Split.{Even}
-use Rattle.parity.proofs.Encoding.Encode.{lengths}
+use Rattle.parity.proofs.Encoding.Encode.{encodes, lengths}
 use Rattle.parity.proofs.Encoding.Dependent.{inside-zero}
 use Rattle.parity.proofs.Matrix.Accept.{Accepted, passes}
-use Rattle.parity.proofs.Causes.Refused.{refused-number, refused-same}
+use Rattle.parity.proofs.Causes.Refused.{refused-same}
 use Rattle.parity.proofs.Words.Bytes.{right-bytes}
-use Rattle.parity.proofs.Encoding.Messages.{ranks}
-use Rattle.parity.proofs.Finite.Lists.{length-listFrom, at-listFrom}
-use Rattle.rows.specs.Whole.{RowsCopied}
-use Rattle.rows.proofs.Writing.{rows-lent}
 use Rattle.elimination.specs.Reduction.{Same, Reduced, pivot, everyBit, Echelon}
-use Rattle.elimination.proofs.Clearing.{same-at, same-trans}
-use Rattle.elimination.proofs.Reduced.{pivot-at, pivot-of}
-use Rattle.encode.specs.Answers.{givenOutcome, marks}
-use Rattle.encode.specs.Filling.{pivotAt, Rising, placed, Open, Filled}
-use Rattle.encode.proofs.Pivots as pivots
-use Rattle.encode.proofs.Filling.{is-listFrom, room}
+use Rattle.elimination.proofs.Clearing.{same-at}
+use Rattle.elimination.proofs.Reduced.{pivot-of}
+use Rattle.rank.proofs.Pivots.{dependents}
+use Rattle.message_bits.specs.Placing.{pivotAt, placed}
+use Rattle.message_bits.proofs.Placing.{is-listFrom}
+use Rattle.message_bits.proofs.Told.{rising, at-pivot, at-else, left}
+use Rattle.encode.specs.Answers.{givenOutcome}
+use Rattle.encode.specs.Filling.{Open, Filled}
 
--- a copy has the codewords of the lent matrix
-copy-same : (U W : ℕ) → W ≤ U → (ws u : List ℕ) (n m : ℕ) → n ≤ W * 64 → RowsCopied U W ws u m → Same (lent U ws) (lent W u) n m
-unfolding evenChecks inside
-copy-same U W p ws u n m k C x = all-cong m (λ c l. ap (λ a. eqb (a % 2) 0)
-    (count-cong n (λ b i. rw (rows-lent U W p ws u m C c b l (omega arith)))))
+module _ (h g : Matrix) (n m r : ℕ) (at : ℕ → ℕ) (R : Reduced g m everyBit n r at) (S : Same h g n m) where
+  bits : (j : ℕ) → j < n → dependent h m j ≡ not (pivot r at j)
+  bits = dependents h g n m r at R S
 
-pub eliminated : (U W : ℕ) → W ≤ U → (ws u : List ℕ) (g : Matrix) (n m r : ℕ) (at : List ℕ) → n ≤ W * 64 → RowsCopied U W ws u m
-    → Echelon (lent W u) g n m n r at → Echelon (lent U ws) g n m n r at
-eliminated U W p ws u g n m r at k C E =
-    let S = copy-same U W p ws u n m k C in
-    record {
-      same = same-trans (lent U ws) (lent W u) g n m S (E .same);
-      own = E .own;
-      first = E .first;
-      whole = E .whole;
-      reduction = record { same = same-trans (lent U ws) (lent W u) (E .whole) n m S (E .reduction .same); form = E .reduction .form };
-      rest = E .rest;
-    }
+  -- the bits of a codeword that are no pivots hold the message: it is the one
+  reads : (message z : ℕ → Bool) → Even h n m z
+      → ((b : ℕ) → b < n → pivot r at b ≡ false → z b ≡ message (count b (λ i. not (pivot r at i))))
+      → (b : ℕ) → b < n → encoded h n m message b ≡ z b
+  reads message z even u b k = sym (encodes h n m message .2 z even held b k)
+    where
+      held : (b : ℕ) → b < n → dependent h m b ≡ true → z b ≡ message (count b (dependent h m))
+      held b k t =
+          let q : pivot r at b ≡ false = flip (pivot r at b) (sym (bits b k) ∙ t) in
+          u b k q ∙ ap message (count-cong b {p = λ i. not (pivot r at i)} {q = dependent h m} (λ i l. sym (bits i (omega arith))))
+        where
+          flip : (a : Bool) → not a ≡ true → a ≡ false
+          flip true p = absurd (false≢true p)
+          flip false p = refl
 
 module _ (h g : Matrix) (n m r : ℕ) (at : List ℕ) (E : Echelon h g n m n r at) where
   abbrev R : Reduced (E .whole) m everyBit n r (pivotAt at)
   R = E .reduction .form
-
-  pub is-rank : r ≡ rankOf h n m
-  is-rank = sym (pivots.ranks h (E .whole) n m r (pivotAt at) R (E .reduction .same))
-
-  pub few : r ≤ n
-  few = omega (arith, is-rank, lengths h n m (λ b. false))
-
-  pub rising : Rising n r at
-  rising = record { low = R .low; rise = R .rise }
 
   -- the checks without a pivot are empty, so that a word is a codeword if the others are even
   even-word : (z : ℕ → Bool) → ((c : ℕ) → c < r → inside g n c z % 2 ≡ 0) → Even h n m z
@@ -79,28 +64,8 @@ module _ (h g : Matrix) (n m r : ℕ) (at : List ℕ) (E : Echelon h g n m n r a
   ])
 
   module _ (message w : List ℕ) (W : w ≡ listFrom 0 n (placed r at (byteOf message))) where
-    word-at : (b : ℕ) → b < n → byteOf w b ≡ placed r at (byteOf message) b
-    word-at b k = ap (λ l. getD l b 0) W ∙ at-listFrom 0 n (placed r at (byteOf message)) b k ∙ ap (placed r at (byteOf message)) (omega arith)
-
-    at-pivot : (c : ℕ) → c < r → byteOf w (pivotAt at c) ≡ 0
-    unfolding placed
-    at-pivot c k = word-at (pivotAt at c) (R .low c k) ∙ rw (pivot-at r (pivotAt at) c k)
-
-    at-else : (b : ℕ) → b < n → pivot r (pivotAt at) b ≡ false → byteOf w b ≡ byteOf message (count b (λ i. not (pivot r (pivotAt at) i)))
-    unfolding placed
-    at-else b k q = word-at b k ∙ rw q
-
-    -- a message of ones stands at the bits that are no parity bits
-    pub marked : ((i : ℕ) → i < n - r → byteOf message i ≡ 1) → w ≡ listFrom 0 n (λ b. one (dependent h m b))
-    unfolding placed
-    marked f = is-listFrom n (λ b. one (dependent h m b)) w (ap length W ∙ length-listFrom 0 n (placed r at (byteOf message))) (λ b k.
-        rw (pivots.dependents h (E .whole) n m r (pivotAt at) R (E .reduction .same) b k) (elim (is (pivot r (pivotAt at) b)) [
-          | is-true q ↦ word-at b k ∙ rw q
-          | is-false q ↦ at-else b k q ∙ f _ (room n r at rising (byteOf message) b k q (n - r) (omega (arith, few))) ∙ rw q
-        ]))
-
     pub opened : Open g n r at (byteOf w)
-    opened = record { rising = rising; own = E .own; first = E .first; none = at-pivot }
+    opened = record { rising = rising h g n m r at E; own = E .own; first = E .first; none = at-pivot h g n m r at E message w W }
 
     module _ (small : wrongByte 1 message ≡ false) where
       message-small : (i : ℕ) → byteOf message i ≤ 1
@@ -112,19 +77,15 @@ module _ (h g : Matrix) (n m r : ℕ) (at : List ℕ) (E : Echelon h g n m n r a
       -- what stands after the pivots are filled in is the message's codeword
       pub codeword-read : (u : List ℕ) → length u ≡ n → Filled g n r at 0 (byteOf w) (byteOf u) → u ≡ listFrom 0 n (λ b. one (encoded h n m (isOne (byteOf message)) b))
       codeword-read u l F = is-listFrom n (λ b. one (encoded h n m (isOne (byteOf message)) b)) u l (λ b k.
-          rw (pivots.reads h (E .whole) n m r (pivotAt at) R (E .reduction .same) (isOne (byteOf message)) (isOne (byteOf u))
-          (even-word (isOne (byteOf u)) (λ c i. F .even c (omega arith) i)) (λ b i q. rw (F .else b q, at-else b i q)) b k)
+          rw (reads h (E .whole) n m r (pivotAt at) R (E .reduction .same) (isOne (byteOf message)) (isOne (byteOf u))
+          (even-word (isOne (byteOf u)) (λ c i. F .even c (omega arith) i)) (λ b i q. rw (F .else b q, at-else h g n m r at E message w W b i q)) b k)
           (sym (byte-one (byteOf u b) (bit b k))))
         where
           bit : (b : ℕ) → b < n → byteOf u b ≤ 1
           bit b k = elim (is (pivot r (pivotAt at) b)) [
             | is-true q ↦ let (c, i, e) = pivot-of r (pivotAt at) b q in rw (← e) (F .bit c (omega arith) i)
-            | is-false q ↦ rw (F .else b q, at-else b k q) (message-small _)
+            | is-false q ↦ rw (F .else b q, at-else h g n m r at E message w W b k q) (message-small _)
           ]
-
--- the front of a message of ones
-pub front-ones : (message : List ℕ) → message ≡ replicate 120 1 → (j : ℕ) → j ≤ 120 → (i : ℕ) → i < j → byteOf (take j message) i ≡ 1
-front-ones message e j k i l = getD-take j message i 0 l ∙ ap (λ (u : List ℕ). getD u i 0) e ∙ getD-replicate 120 i 1 0 (omega arith)
 
 -- encoding with an accepted matrix that has k = 0
 module _ (ws : List ℕ) (m : ℕ) (message w : List ℕ) (r : ℕ) (e : r ≡ rankOf (lent 8 ws) (length w) m) where
@@ -155,65 +116,25 @@ module _ (ws : List ℕ) (m : ℕ) (message w : List ℕ) (r : ℕ) (e : r ≡ r
       let f = eq-eqb (length message) (length w - rankOf (lent 8 ws) (length w) m) (whole-length q) in
       (rw (f, t), s ∙ rw (f, t))
 
--- a refusal leaves the list as it was
-left : (r : Refusal) (reply : Reply) (old new : List ℕ) → refusalOf r ≡ reply → (refusalOf r ≡ leaving old reply new .reply) × (old ≡ leaving old reply new .after)
-left r reply old new e = (e, rw (← e, ne-eqb (refusalOf r .number) 0 (refused-number r)))
+-- the call
+module _ (ws : List ℕ) (n m k : ℕ) (message w : List ℕ) where
+  abbrev Told : Reply → List ℕ → Type 0
+  Told r u = (r ≡ encodeOutcome ws n m k message w .reply) × (u ≡ encodeOutcome ws n m k message w .after)
 
--- the calls
-module _ (ws : List ℕ) (n m k : ℕ) where
-  pub rank-first : (r : Refusal) → refusalOf r ≡ acceptReply ws n m k → refusalOf r ≡ rankReply ws n m k
-  unfolding rankReply
-  rank-first r e = refused-same ws n m k r _ e
+  refused : (r : Refusal) → refusalOf r ≡ encodeReply ws n m k message w → Told (refusalOf r) w
+  unfolding encodeOutcome
+  refused r e = left r (encodeReply ws n m k message w) w _ e
+
+  pub encode-first : (r : Refusal) → refusalOf r ≡ acceptReply ws n m k → Told (refusalOf r) w
+  encode-first r e = refused r (unfold encodeReply in refused-same ws n m k r _ e)
 
   module _ (A : Accepted ws n m k) where
-    pub rank-added : (k ≡ 0 → ⊥) → refusalOf AddedBits ≡ rankReply ws n m k
-    unfolding rankReply
-    rank-added d = rw (passes ws n m k A _, lt-ltb 0 k (omega (arith, d)))
+    pub encode-added : (k ≡ 0 → ⊥) → Told (refusalOf AddedBits) w
+    encode-added d = refused AddedBits (unfold encodeReply in rw (passes ws n m k A _, lt-ltb 0 k (omega (arith, d))))
 
-    pub rank-told : k ≡ 0 → (r : ℕ) → r ≡ rankOf (lent 8 ws) n m → answer (r ∷ []) ≡ rankReply ws n m k
-    unfolding rankReply
-    rank-told e r q = rw (passes ws n m k A _, e, q)
+    pub encode-length : k ≡ 0 → (length w ≡ n → ⊥) → Told (refusalOf WrongLength) w
+    encode-length e d = refused WrongLength (unfold encodeReply in rw (passes ws n m k A _, e, ne-eqb (length w) n d))
 
-  module _ (message w : List ℕ) where
-    abbrev Told : Reply → List ℕ → Type 0
-    Told r u = (r ≡ encodeOutcome ws n m k message w .reply) × (u ≡ encodeOutcome ws n m k message w .after)
-
-    refused : (r : Refusal) → refusalOf r ≡ encodeReply ws n m k message w → Told (refusalOf r) w
-    unfolding encodeOutcome
-    refused r e = left r (encodeReply ws n m k message w) w _ e
-
-    pub encode-first : (r : Refusal) → refusalOf r ≡ acceptReply ws n m k → Told (refusalOf r) w
-    encode-first r e = refused r (unfold encodeReply in refused-same ws n m k r _ e)
-
-    module _ (A : Accepted ws n m k) where
-      pub encode-added : (k ≡ 0 → ⊥) → Told (refusalOf AddedBits) w
-      encode-added d = refused AddedBits (unfold encodeReply in rw (passes ws n m k A _, lt-ltb 0 k (omega (arith, d))))
-
-      pub encode-length : k ≡ 0 → (length w ≡ n → ⊥) → Told (refusalOf WrongLength) w
-      encode-length e d = refused WrongLength (unfold encodeReply in rw (passes ws n m k A _, e, ne-eqb (length w) n d))
-
-      pub encode-given : k ≡ 0 → length w ≡ n → givenOutcome ws m message w ≡ encodeOutcome ws n m k message w
-      unfolding givenOutcome encodeOutcome encodeReply
-      encode-given e l = rw (passes ws n m k A _, e, l, eq-eqb n n refl)
-
-  module _ (set : List ℕ) where
-    abbrev Marked : Reply → List ℕ → Type 0
-    Marked r u = (r ≡ messageBitsOutcome ws n m k set .reply) × (u ≡ messageBitsOutcome ws n m k set .after)
-
-    unmarked : (r : Refusal) → refusalOf r ≡ messageBitsReply ws n m k set → Marked (refusalOf r) set
-    unfolding messageBitsOutcome
-    unmarked r e = left r (messageBitsReply ws n m k set) set _ e
-
-    pub mark-first : (r : Refusal) → refusalOf r ≡ acceptReply ws n m k → Marked (refusalOf r) set
-    mark-first r e = unmarked r (unfold messageBitsReply in refused-same ws n m k r _ e)
-
-    module _ (A : Accepted ws n m k) where
-      pub mark-added : (k ≡ 0 → ⊥) → Marked (refusalOf AddedBits) set
-      mark-added d = unmarked AddedBits (unfold messageBitsReply in rw (passes ws n m k A _, lt-ltb 0 k (omega (arith, d))))
-
-      pub mark-length : k ≡ 0 → (length set ≡ n → ⊥) → Marked (refusalOf WrongLength) set
-      mark-length e d = unmarked WrongLength (unfold messageBitsReply in rw (passes ws n m k A _, e, ne-eqb (length set) n d))
-
-      pub mark-made : k ≡ 0 → length set ≡ n → (u : List ℕ) → u ≡ marks ws (length set) m → Marked (answer []) u
-      unfolding messageBitsOutcome messageBitsReply
-      mark-made e l u q = (rw (passes ws n m k A _, e, l, eq-eqb n n refl), q ∙ rw (passes ws n m k A _, e, l, eq-eqb n n refl))
+    pub encode-given : k ≡ 0 → length w ≡ n → givenOutcome ws m message w ≡ encodeOutcome ws n m k message w
+    unfolding givenOutcome encodeOutcome encodeReply
+    encode-given e l = rw (passes ws n m k A _, e, l, eq-eqb n n refl)

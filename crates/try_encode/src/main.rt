@@ -1,8 +1,8 @@
 // Rank and encoding on case J's matrix, which is A's, for all 16 messages, on case L's circulant for some, and on bad input; and the message's bits.
 // A message that is encoded is followed by its codeword, one that is refused by the number of its cause, and the place of cause 11.
 use encode::Encoding;
-use encode::Marking;
-use encode::Ranking;
+use message_bits::Marking;
+use rank::Ranking;
 use samples::say::end_line;
 use samples::say::field;
 use samples::say::refused;
@@ -19,7 +19,7 @@ fn show(bytes: &[u8]) {
 
 fn rank(head: &[u8], words: &[u64], n: usize, m: usize, k: usize) {
     io::write_all(1, head);
-    let answer = encode::rank(words, n, m, k);
+    let answer = rank::rank(words, n, m, k);
     match answer {
         Ranking::Rank { rank: r } => field(b" rank ", r),
         Ranking::Refused(r) => refused(b" refused ", r),
@@ -136,7 +136,7 @@ fn ends() {
 
 fn marks(head: &[u8], words: &[u64], n: usize, m: usize, k: usize, set: &mut [u8]) {
     io::write_all(1, head);
-    let answer = encode::message_bits(words, n, m, k, set);
+    let answer = message_bits::message_bits(words, n, m, k, set);
     match answer {
         Marking::Made => {
             io::write_all(1, b" marks ");

@@ -1,9 +1,9 @@
 // Each house code, copied over words that are all ones: its n, m, rank and cycle count, and the splits, sum and k of its orthogonalising. Then
 // names that no code has, and slices of another length than 4,096, which are left as they were.
 use cycles::Counting;
-use encode::Ranking;
 use house::Copying;
 use orthogonalise::Orthogonalising;
+use rank::Ranking;
 use samples::say::end_line;
 use samples::say::field;
 use samples::say::refused;
@@ -12,7 +12,7 @@ use samples::words::ones;
 ghost use Prim.Native.Nat.{_≤_};
 
 fn show_rank(words: &[u64], n: usize, m: usize) {
-    match encode::rank(words, n, m, 0) {
+    match rank::rank(words, n, m, 0) {
         Ranking::Rank { rank } => field(b", rank ", rank),
         Ranking::Refused(r) => refused(b", refused ", r),
     }

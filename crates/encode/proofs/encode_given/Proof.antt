@@ -1,5 +1,6 @@
 -- `encode_given` meets its contract. Assumes nothing.
-use Rattle.encode.proofs.Told.{is-rank, opened, codeword-read, given-length, given-byte, given-written}
+use Rattle.rank.proofs.Told.{is-rank}
+use Rattle.encode.proofs.Told.{opened, codeword-read, given-length, given-byte, given-written}
 use Rattle.sets.proofs.Above.{byte-wrong, byte-right}
 use native.Mathlib.Omega.{arith}
 use mathlib.Core.Path.{_∙_}

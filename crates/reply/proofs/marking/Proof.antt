@@ -1,7 +1,7 @@
 -- `reply::marking` meets its contract. Assumes nothing.
 use borrow.Author.Needs.{needs}
 use mathlib.Core.Path.{sym, ap, _∙_}
-use Rattle.encode.specs.Answers.{markingReply}
+use Rattle.message_bits.specs.Answers.{markingReply}
 use Rattle.reply.proofs.marking.Statement.{statement}
 use Rattle.reply.proofs.marking.Tie as tie
 

@@ -1,7 +1,7 @@
 -- `reply::ranking` meets its contract. Assumes nothing.
 use borrow.Author.Needs.{needs}
 use mathlib.Core.Path.{sym, ap, _∙_}
-use Rattle.encode.specs.Answers.{rankingReply}
+use Rattle.rank.specs.Answers.{rankingReply}
 use Rattle.reply.proofs.ranking.Statement.{statement}
 use Rattle.reply.proofs.ranking.Tie as tie
 

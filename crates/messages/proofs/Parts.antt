@@ -7,7 +7,9 @@ use lib.ListN.{getD, length, take, drop, length-append, length-take, length-drop
 use lib.Seq.{length-take-le, getD-append-add, getD-take, getD-drop}
 use lib.Ieee.{Float, nan}
 use Rattle.parity.specs.Soft.{messageAt, settled, bitSends, but}
-use Rattle.soft.specs.Pass.{Holding, Sounds, every, checkAnswer, bitAnswer}
+use Rattle.soft.specs.Store.{Holding, Sounds}
+use Rattle.check_node.specs.Pass.{checkAnswer}
+use Rattle.bit_node.specs.Sums.{every, bitAnswer}
 use Rattle.messages.specs.Memory.{Part, from}
 use Rattle.parity.specs.declared.Channel.{Channel}
 use Rattle.soft.proofs.Places.{holding-at}

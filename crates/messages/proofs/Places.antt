@@ -11,7 +11,8 @@ use Rattle.parity.specs.Finite.{sum, count}
 use Rattle.parity.specs.Matrix.{Matrix}
 use Rattle.parity.proofs.Finite.Sums.{count-zero, count-end}
 use Rattle.parity.specs.Soft.{Messages, toBits}
-use Rattle.soft.specs.Pass.{Sounds, checkAnswer}
+use Rattle.soft.specs.Store.{Sounds}
+use Rattle.check_node.specs.Pass.{checkAnswer}
 use Rattle.messages.specs.Memory.{start, place, held, Part, from, Above, SoundAll, Answering, Within}
 use Rattle.parity.specs.declared.Channel.{Channel}
 use Rattle.parity.proofs.Finite.Firsts.{nth-below, nth-at}

@@ -11,7 +11,7 @@ use lib.Ieee.{Float}
 use Rattle.parity.specs.Finite.{count}
 use Rattle.parity.specs.Matrix.{Matrix}
 use Rattle.parity.specs.Soft.{Messages, settled, bitSends, toChecks, but}
-use Rattle.soft.specs.Pass.{every, bitAnswer}
+use Rattle.bit_node.specs.Sums.{every, bitAnswer}
 use Rattle.columns.specs.Columns.{Columns}
 use Rattle.messages.specs.Memory.{start, held, across, column, heldAt, Low, Part, from, Collected, Spread, BitSent, Sending, resultOf, Holds, Within}
 use Rattle.messages.specs.Loops.{SentAll}

@@ -7,7 +7,7 @@ use lib.Ieee.{Float}
 use Rattle.parity.specs.Matrix.{Matrix}
 use Rattle.parity.specs.Soft.{Messages}
 use Rattle.messages.specs.Memory.{Sending, Answering, Above, held, resultOf}
-use Rattle.soft.specs.Pass.{Holding}
+use Rattle.soft.specs.Store.{Holding}
 use Rattle.parity.specs.declared.Channel.{Channel}
 
 -- the first b bits have sent

@@ -10,7 +10,7 @@ ghost use Prim.Native.Nat.{_+_};
 ghost use lib.ListN.{length};
 ghost use Rattle.parity.specs.Matrix.{lent};
 ghost use Rattle.parity.specs.Soft.{messageAt, bitSends};
-ghost use Rattle.soft.specs.Pass.{Holding};
+ghost use Rattle.soft.specs.Store.{Holding};
 ghost use Rattle.messages.specs.Memory.{AtBit, LaidAcross, Inner, Low, across, column, Cursors, held, heldAt, Above, BitSent, resultOf};
 ghost use Rattle.messages.specs.Loops.{SentAll};
 

@@ -1,15 +1,15 @@
 // A bit's messages, read into the row, answered and written back.
 use crate::copying::copy;
 use crate::copying::lowest;
+use bit_node::bit_answers;
 use parity::Channel;
-use soft::bits::bit_answers;
 ghost use mathlib.Core.Path.{_≡_};
 ghost use Prim.Native.Nat.{_+_, _*_, _≤_, _<_};
 ghost use lib.ListN.{length};
 ghost use Rattle.parity.specs.Finite.{count};
 ghost use Rattle.parity.specs.Matrix.{lent};
 ghost use Rattle.parity.specs.Soft.{bitSends};
-ghost use Rattle.soft.specs.Pass.{bitAnswer, every};
+ghost use Rattle.bit_node.specs.Sums.{bitAnswer, every};
 ghost use Rattle.messages.specs.Memory.{AtBit, LaidAcross, Laid, Part, from, across, column, Cursors, Gathering, Spread};
 
 // The messages of bit `b` with the checks of word `i` of its column are read into the row from its place `first` on, and these checks' cursors go on to the

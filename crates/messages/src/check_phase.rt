@@ -1,12 +1,13 @@
 // All checks: what they send, on the messages in lent memory.
+use check_node::check_answers;
 use parity::Check;
 use rows::ones::weight;
-use soft::checks::check_answers;
 ghost use mathlib.Core.Path.{_≡_};
 ghost use Prim.Native.Nat.{_+_, _≤_, _<_};
 ghost use lib.ListN.{length};
 ghost use Rattle.parity.specs.Matrix.{lent};
-ghost use Rattle.soft.specs.Pass.{Sounds, checkAnswer};
+ghost use Rattle.soft.specs.Store.{Sounds};
+ghost use Rattle.check_node.specs.Pass.{checkAnswer};
 ghost use Rattle.messages.specs.Memory.{Laid, Within, Part, from, held, Cursors, Above, SoundAll, Answering};
 
 // The check with `w` messages from place `a` on answers.

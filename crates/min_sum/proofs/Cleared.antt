@@ -11,7 +11,7 @@ use Rattle.parity.specs.Finite.{listFrom}
 use Rattle.parity.proofs.Soft.Outcomes.{length-floats, at-floats}
 use Rattle.parity.proofs.Finite.Lists.{length-listFrom, at-listFrom}
 use Rattle.parity.specs.Soft.{byteFor, floatFor}
-use Rattle.soft.specs.Pass.{Holding}
+use Rattle.soft.specs.Store.{Holding}
 use Rattle.parity.specs.SoftCall.{floatsFrom}
 use Rattle.parity.specs.declared.Channel.{Channel}
 use native.Mathlib.Nat.{zero-add}

@@ -13,7 +13,7 @@ use Rattle.parity.specs.SoftPromises.{Agree}
 use Rattle.messages.specs.Memory.{start, place, held, Above, Within, Holds, Answering, SoundAll, resultOf}
 use Rattle.messages.specs.Loops.{SentAll, Round, Last}
 use Rattle.messages.specs.Standing.{Twice, Kept}
-use Rattle.soft.specs.Pass.{Holding, Sounds}
+use Rattle.soft.specs.Store.{Holding, Sounds}
 use Rattle.parity.specs.declared.Channel.{Channel}
 use Rattle.parity.proofs.Soft.Sound.{check-sound, bit-sound}
 use Rattle.parity.proofs.Soft.Cong.{gathered-at, check-at'}

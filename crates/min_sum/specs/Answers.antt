@@ -7,7 +7,7 @@ use lib.Ieee.{Float}
 use Rattle.parity.specs.Causes.{Reply, answer, refusalOf}
 use Rattle.parity.specs.Floats.{positiveZero}
 use Rattle.parity.specs.declared.Channel.{Channel}
-use Rattle.soft.specs.Pass.{Holding}
+use Rattle.soft.specs.Store.{Holding}
 use Rattle.min_sum.specs.declared.Decoding.{Decoding}
 use Rattle.min_sum.specs.declared.Decoding.the-variants.{Made, Refused}
 

@@ -6,7 +6,7 @@ use lib.ListN.{length}
 use lib.Ieee.{Float}
 use Rattle.parity.specs.Matrix.{lent}
 use Rattle.parity.specs.Soft.{messageAt}
-use Rattle.soft.specs.Pass.{Sounds}
+use Rattle.soft.specs.Store.{Sounds}
 use Rattle.messages.specs.Memory.{Laid, Within, Inner, across}
 
 -- the words ws of a matrix with M checks, a word w of its bits with their floats f, and the memory

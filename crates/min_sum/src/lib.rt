@@ -16,7 +16,7 @@ ghost use lib.ListN.{length, replicate};
 ghost use Rattle.parity.specs.Matrix.{lent};
 ghost use Rattle.parity.specs.Soft.{messageAt, resultAfter};
 ghost use Rattle.parity.specs.SoftCall.{minSumOutcome};
-ghost use Rattle.soft.specs.Pass.{Holding};
+ghost use Rattle.soft.specs.Store.{Holding};
 ghost use Rattle.min_sum.specs.Answers.{decodingReply, Results};
 ghost use Rattle.min_sum.specs.Rounds.{Ready};
 

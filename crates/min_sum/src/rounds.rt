@@ -10,7 +10,7 @@ ghost use Prim.Native.Nat.{_≤_};
 ghost use lib.ListN.{length};
 ghost use Rattle.parity.specs.Matrix.{lent};
 ghost use Rattle.parity.specs.Soft.{messageAt, sentAfter, resultAfter};
-ghost use Rattle.soft.specs.Pass.{Holding};
+ghost use Rattle.soft.specs.Store.{Holding};
 ghost use Rattle.messages.specs.Memory.{held, SoundAll, Holds};
 ghost use Rattle.messages.specs.Loops.{Round, Last};
 ghost use Rattle.min_sum.specs.Rounds.{Ready, Turned};

@@ -1,6 +1,6 @@
 // Ranges, combined pairwise across a check.
 use parity::Ends;
-use soft::checks::flipped;
+use soft::floats::flipped;
 use soft::floats::magnitude_of;
 use soft::floats::plus_zero;
 use soft::floats::turn;

@@ -1,5 +1,1 @@
 pub mod Places
-pub mod Two
-pub mod Answers
-pub mod Adding
-pub mod SoftAlone

@@ -9,7 +9,7 @@ use lib.ListN.{length, set, length-set}
 use lib.Seq.{getD-set-same, getD-set-other}
 use lib.Ieee.{Float, nan}
 use Rattle.parity.specs.Soft.{channelOf, byteFor, floatFor, messageAt}
-use Rattle.soft.specs.Pass.{Holding, Partly}
+use Rattle.soft.specs.Store.{Holding, Partly}
 use Rattle.parity.specs.declared.Channel.{Channel}
 use Rattle.parity.specs.declared.Channel.the-variants.{Sure, Soft, Erased}
 

@@ -1,5 +1,6 @@
-// Comparison and negation of 32-bit floats.
+// Comparison and negation of 32-bit floats, and of the Boolean that says whether a sign is turned.
 ghost use mathlib.Core.Path.{_≡_};
+ghost use mathlib.Core.Bool.{cond, not};
 ghost use Rattle.parity.specs.Floats.{plusZero, magnitude, turned, cut, infinite, tooLarge};
 
 // Zero becomes plus zero.
@@ -17,6 +18,16 @@ pub fn magnitude_of(x: f32) -> f32
 {
     if x < 0.0 {
         return -x;
+    }
+    x
+}
+
+// The other Boolean where `flip` says so.
+pub fn flipped(flip: bool, x: bool) -> bool
+    ensures { λ r. ⌜ r ≡ cond flip (not x) x ⌝ }
+{
+    if flip {
+        return !x;
     }
     x
 }

@@ -2,7 +2,7 @@
 use Rattle.messages.proofs.Row.{laid-same, low-none, low-more}
 use Rattle.messages.proofs.Sends.{result-at}
 use Rattle.soft.proofs.Places.{partly-start, partly-more, partly-all}
-use Rattle.soft.specs.Pass.{Partly}
+use Rattle.soft.specs.Store.{Partly}
 use Rattle.messages.specs.Memory.{across, resultOf, Cursors, Low}
 use Rattle.parity.specs.Soft.{messageAt}
 use Rattle.parity.specs.Matrix.{lent}

@@ -8,7 +8,7 @@ ghost use Rattle.parity.specs.Calls.{loadOutcome, writeOutcome, shareReply, cou
 ghost use Rattle.parity.specs.Block.{blockOutcome};
 ghost use Rattle.parity.specs.SoftCall.{minSumOutcome};
 ghost use Rattle.parity.specs.SoftRange.{minSumRangeOutcome};
-ghost use Rattle.reply.specs.Passed.{Passed, endsFilled};
+ghost use Rattle.passing.specs.Passed.{Passed, endsFilled};
 
 // Carries n, m and k.
 #[no_mangle]
@@ -18,7 +18,7 @@ pub extern "C" fn parity_load(record: &[u32], words: &mut [u64], values: &mut [u
 {
     let loading = record::load(record, words);
     let numbered = reply::loading(loading);
-    reply::pass(numbered, values)
+    passing::pass(numbered, values)
 }
 
 // Carries the number of words used.
@@ -36,7 +36,7 @@ pub extern "C" fn parity_write(
 {
     let writing = record::write(words, n, m, k, record);
     let numbered = reply::writing(writing);
-    reply::pass(numbered, values)
+    passing::pass(numbered, values)
 }
 
 // Carries the share and, if it is above 0, the lowest and the highest check that contain both bits.
@@ -54,7 +54,7 @@ pub extern "C" fn parity_share(
 {
     let sharing = cycles::share(words, n, m, k, Bit(u), Bit(v));
     let numbered = reply::sharing(sharing);
-    reply::pass(numbered, values)
+    passing::pass(numbered, values)
 }
 
 // Carries the cycle count.
@@ -70,7 +70,7 @@ pub extern "C" fn parity_count(
 {
     let counting = cycles::count(words, n, m, k);
     let numbered = reply::counting(counting);
-    reply::pass(numbered, values)
+    passing::pass(numbered, values)
 }
 
 // Carries the share, the new k, and the lowest and the highest check that contained both bits.
@@ -89,7 +89,7 @@ pub extern "C" fn parity_split(
 {
     let splitting = split::split(words, n, m, k, Bit(u), Bit(v));
     let numbered = reply::splitting(splitting);
-    reply::pass(numbered, values)
+    passing::pass(numbered, values)
 }
 
 // Carries the number of other checks that contained the newest added bit, and the new k.
@@ -106,7 +106,7 @@ pub extern "C" fn parity_take_back(
 {
     let taking = split::take_back(words, n, m, k);
     let numbered = reply::taking_back(taking);
-    reply::pass(numbered, values)
+    passing::pass(numbered, values)
 }
 
 // Carries the number of splits, their sum, k and, if it made a split, the lowest and the highest check that held the pair of the final one, also when
@@ -124,7 +124,7 @@ pub extern "C" fn parity_orthogonalise(
 {
     let orthogonalising = orthogonalise::orthogonalise(words, n, m, k);
     let numbered = reply::orthogonalising(orthogonalising);
-    reply::pass(numbered, values)
+    passing::pass(numbered, values)
 }
 
 // Carries 1 for yes, 0 for no.
@@ -141,7 +141,7 @@ pub extern "C" fn parity_verify(
 {
     let verifying = word::verify(words, n, m, k, word);
     let numbered = reply::verifying(verifying);
-    reply::pass(numbered, values)
+    passing::pass(numbered, values)
 }
 
 // Carries nothing.
@@ -160,7 +160,7 @@ pub extern "C" fn parity_extend(
 {
     let extending = word::extend(words, n, m, k, sent, word);
     let numbered = reply::extending(extending);
-    reply::pass(numbered, values)
+    passing::pass(numbered, values)
 }
 
 // Carries 1 for yes, 0 for no.
@@ -177,7 +177,7 @@ pub extern "C" fn parity_is_stopping(
 {
     let stopping = word::is_stopping(words, n, m, k, set);
     let numbered = reply::stopping(stopping);
-    reply::pass(numbered, values)
+    passing::pass(numbered, values)
 }
 
 // Carries how many sent bits and how many added bits were recovered, and how many of each are left.
@@ -195,7 +195,7 @@ pub extern "C" fn parity_peel(
 {
     let peeling = peel::peel(words, n, m, k, word);
     let numbered = reply::peeling(peeling);
-    reply::pass(numbered, values)
+    passing::pass(numbered, values)
 }
 
 // Carries how many sent bits and how many added bits were recovered, and how many of each are left.
@@ -213,7 +213,7 @@ pub extern "C" fn parity_determine(
 {
     let determining = determine::determine(words, n, m, k, word);
     let numbered = reply::determining(determining);
-    reply::pass(numbered, values)
+    passing::pass(numbered, values)
 }
 
 // Carries how many sent packets and how many added packets were recovered, how many of each are left, and how many lanes no codeword agrees with.
@@ -235,7 +235,7 @@ pub extern "C" fn parity_mend_packets(
 {
     let mending = packets::mend_packets(words, n, m, k, lost, packets, odd);
     let numbered = reply::mending_packets(mending);
-    reply::pass(numbered, values)
+    passing::pass(numbered, values)
 }
 
 // Carries the last stage to run, and how many bits the two peelings recovered together.
@@ -253,7 +253,7 @@ pub extern "C" fn parity_mend_block(
 {
     let mending = block::mend_block(words, n, m, k, word);
     let numbered = reply::mending(mending);
-    reply::pass(numbered, values)
+    passing::pass(numbered, values)
 }
 
 // Carries the rank.
@@ -269,7 +269,7 @@ pub extern "C" fn parity_rank(
 {
     let ranking = rank::rank(words, n, m, k);
     let numbered = reply::ranking(ranking);
-    reply::pass(numbered, values)
+    passing::pass(numbered, values)
 }
 
 // Carries nothing.
@@ -288,7 +288,7 @@ pub extern "C" fn parity_encode(
 {
     let encoding = encode::encode(words, n, m, k, message, word);
     let numbered = reply::encoding(encoding);
-    reply::pass(numbered, values)
+    passing::pass(numbered, values)
 }
 
 // Carries nothing.
@@ -306,7 +306,7 @@ pub extern "C" fn parity_message_bits(
 {
     let marking = message_bits::message_bits(words, n, m, k, set);
     let numbered = reply::marking(marking);
-    reply::pass(numbered, values)
+    passing::pass(numbered, values)
 }
 
 // Carries n and m.
@@ -317,7 +317,7 @@ pub extern "C" fn parity_house_code(name: usize, words: &mut [u64], values: &mut
 {
     let copying = house::copy(name, words);
     let numbered = reply::copying(copying);
-    reply::pass(numbered, values)
+    passing::pass(numbered, values)
 }
 
 // Carries how many sets there are.
@@ -336,7 +336,7 @@ pub extern "C" fn parity_stopping_sets(
 {
     let listing = stopping_sets::list(words, n, m, k, t, sets);
     let numbered = reply::listing(listing);
-    reply::pass(numbered, values)
+    passing::pass(numbered, values)
 }
 
 // Carries the number of checks.
@@ -358,7 +358,7 @@ pub extern "C" fn parity_join(
 {
     let joining = join::join(words1, n1, m1, k1, words2, n2, m2, k2, words3);
     let numbered = reply::joining(joining);
-    reply::pass(numbered, values)
+    passing::pass(numbered, values)
 }
 
 // Carries nothing.
@@ -393,7 +393,7 @@ pub extern "C" fn parity_min_sum(
         message_floats,
     );
     let numbered = reply::decoding(decoding);
-    reply::pass(numbered, values)
+    passing::pass(numbered, values)
 }
 
 // Carries 0 for sure 0, or 3 for a range, whose low and high are put at the front of `ends`.
@@ -409,5 +409,5 @@ pub extern "C" fn parity_min_sum_range(
 {
     let ranging = min_sum_range::range(lows, highs);
     let numbered = reply::ranging(ranging, ends);
-    reply::pass(numbered, values)
+    passing::pass(numbered, values)
 }

@@ -1,4 +1,4 @@
-// Each call's answer, or its refusal, as document 01's number and values, and passing these to a caller in C.
+// Each call's answer, or its refusal, as document 01's number and values.
 use block::Mending;
 use cycles::Counting;
 use cycles::Sharing;
@@ -13,6 +13,7 @@ use orthogonalise::Orthogonalising;
 use packets::MendingPackets;
 use parity::Losses;
 use parity::Numbered;
+use passing::put_ends;
 use peel::Peeling;
 use rank::Ranking;
 use record::Loading;
@@ -28,8 +29,6 @@ use word::Stopping;
 use word::Verifying;
 use writing::Writing;
 ghost use mathlib.Core.Path.{_≡_};
-ghost use mathlib.Core.List.{[], _∷_};
-ghost use lib.ListN.{set};
 ghost use Rattle.parity.specs.Causes.{answer, lossValues, numberedReply};
 ghost use Rattle.writing.specs.Answers.{writingReply};
 ghost use Rattle.record.specs.Answers.{loadingReply};
@@ -50,7 +49,7 @@ ghost use Rattle.packets.specs.Answers.{mendingPacketsReply};
 ghost use Rattle.join.specs.Answers.{joiningReply};
 ghost use Rattle.min_sum.specs.Answers.{decodingReply};
 ghost use Rattle.min_sum_range.specs.Answers.{rangingOutcome};
-ghost use Rattle.reply.specs.Passed.{Passed, filled, endsFilled};
+ghost use Rattle.passing.specs.Passed.{endsFilled};
 
 // What loading answers.
 pub fn loading(answer: Loading) -> Numbered
@@ -292,15 +291,6 @@ pub fn decoding(answer: Decoding) -> Numbered
     }
 }
 
-// Puts one end at a place, if there is such a place.
-fn put_end(ends: &mut [f32], place: usize, end: f32)
-    ensures { λ _. ⌜ now (ends .exit) ≡ set (now (ends .entry)) place end ⌝ }
-{
-    if place < ends.len() {
-        ends[place] = end;
-    }
-}
-
 // What the call on ranges answers; a range's ends are put at the front of the lent slice, as far as that reaches.
 pub fn ranging(answer: Ranging, ends: &mut [f32]) -> Numbered
     ensures { λ r. ⌜ numberedReply r ≡ rangingOutcome answer .reply ⌝ }
@@ -309,62 +299,9 @@ pub fn ranging(answer: Ranging, ends: &mut [f32]) -> Numbered
     match answer {
         Ranging::SureZero => Numbered::One(0, 0),
         Ranging::Within(range) => {
-            put_end(ends, 0, range.low);
-            put_end(ends, 1, range.high);
+            put_ends(ends, range.low, range.high);
             Numbered::One(0, 3)
         }
         Ranging::Refused(why) => refused(why),
-    }
-}
-
-// Puts one value at a place, if there is such a place.
-fn put(values: &mut [u64], place: usize, value: u64)
-    ensures { λ _. ⌜ now (values .exit) ≡ set (now (values .entry)) place value ⌝ }
-{
-    if place < values.len() {
-        values[place] = value;
-    }
-}
-
-// Puts four values at the front, as far as the slice reaches.
-fn put_four(values: &mut [u64], first: u64, second: u64, third: u64, fourth: u64)
-    ensures { λ _. ⌜ now (values .exit) ≡ filled (first ∷ second ∷ third ∷ fourth ∷ []) (now (values .entry)) ⌝ }
-{
-    put(values, 0, first);
-    put(values, 1, second);
-    put(values, 2, third);
-    put(values, 3, fourth);
-}
-
-// Passes a reply: returns its number, and puts its values at the front of the lent slice, as far as that reaches.
-pub fn pass(reply: Numbered, values: &mut [u64]) -> u32
-    ensures { λ r. ⌜ Passed (numberedReply reply) (now (values .entry)) (now (values .exit)) r ⌝ }
-{
-    match reply {
-        Numbered::Alone(number) => number,
-        Numbered::One(number, first) => {
-            put(values, 0, first);
-            number
-        }
-        Numbered::Two(number, first, second) => {
-            put(values, 0, first);
-            put(values, 1, second);
-            number
-        }
-        Numbered::Three(number, first, second, third) => {
-            put(values, 0, first);
-            put(values, 1, second);
-            put(values, 2, third);
-            number
-        }
-        Numbered::Four(number, first, second, third, fourth) => {
-            put_four(values, first, second, third, fourth);
-            number
-        }
-        Numbered::Five(number, first, second, third, fourth, fifth) => {
-            put_four(values, first, second, third, fourth);
-            put(values, 4, fifth);
-            number
-        }
     }
 }

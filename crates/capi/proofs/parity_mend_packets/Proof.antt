@@ -1,6 +1,6 @@
 -- `capi::parity_mend_packets` meets its contract. Assumes nothing.
 use mathlib.Core.Path.{_∙_}
-use Rattle.reply.proofs.Passing.{same}
+use Rattle.passing.proofs.Passing.{same}
 use borrow.Author.Needs.{needs}
 use Rattle.capi.proofs.parity_mend_packets.Statement.{statement}
 use Rattle.capi.proofs.parity_mend_packets.Tie as tie

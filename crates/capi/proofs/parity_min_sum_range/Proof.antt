@@ -2,8 +2,8 @@
 use borrow.Author.Needs.{needs}
 use mathlib.Core.Path.{ap, _∙_}
 use Rattle.parity.specs.SoftRange.{RangeOutcome}
-use Rattle.reply.specs.Passed.{endsFilled}
-use Rattle.reply.proofs.Passing.{same}
+use Rattle.passing.specs.Passed.{endsFilled}
+use Rattle.passing.proofs.Passing.{same}
 use Rattle.capi.proofs.parity_min_sum_range.Statement.{statement}
 use Rattle.capi.proofs.parity_min_sum_range.Tie as tie
 

@@ -2,8 +2,8 @@
 use mathlib.Core.Path.{sym, ap, _∙_}
 use Rattle.min_sum_range.specs.Answers.{rangingOutcome}
 use Rattle.min_sum_range.specs.declared.Ranging.{Ranging}
-use Rattle.reply.specs.Passed.{endsFilled}
-use Rattle.reply.proofs.Passing.{ends-none, ends-two}
+use Rattle.passing.specs.Passed.{endsFilled}
+use Rattle.passing.proofs.Passing.{ends-none}
 use borrow.Author.Needs.{needs}
 use Rattle.reply.proofs.ranging.Statement.{statement}
 use Rattle.reply.proofs.ranging.Tie as tie
@@ -14,11 +14,8 @@ enum-told c = search needs
 enum-known-answer : tie.Need-enum-known-answer
 enum-known-answer c = search needs
 
-put-end-requires : tie.Need-put-end-requires
-put-end-requires c κs = search needs
-
-put-end-requires-2 : tie.Need-put-end-requires-2
-put-end-requires-2 c κs = search needs
+put-ends-requires : tie.Need-put-ends-requires
+put-ends-requires c κs = search needs
 
 enum-known-answer-2 : tie.Need-enum-known-answer-2
 enum-known-answer-2 c = search needs
@@ -37,11 +34,9 @@ same-length c = search needs
 
 returns-2 : tie.Need-returns-2
 returns-2 c =
-    let e = c .before .before .before .before .before .before .before .before .before .answer .given .1 in
-    let old = c .before .before .before .before .before .before .before .before .before .before .before .before .args .ends .now in (
-      sym (ap (λ (a : Ranging). rangingOutcome a .reply) e),
-      c .before .before .put-end2 .ensures ∙ (rw (c .before .before .before .before .before .before .put-end .ensures) (ends-two _ _ old)) ∙ sym (ap (λ (a : Ranging). endsFilled (rangingOutcome a .ends) old) e),
-    )
+    let e = c .before .before .before .before .before .answer .given .1 in
+    let old = c .before .before .before .before .before .before .before .before .args .ends .now in
+    (sym (ap (λ (a : Ranging). rangingOutcome a .reply) e), c .before .before .put-ends .ensures ∙ sym (ap (λ (a : Ranging). endsFilled (rangingOutcome a .ends) old) e))
 
 returns-3 : tie.Need-returns-3
 returns-3 c =
@@ -55,8 +50,7 @@ ranging-spec =
     (tie.spec
     enum-told
     enum-known-answer
-    put-end-requires
-    put-end-requires-2
+    put-ends-requires
     enum-known-answer-2
     refused-requires
     returns

@@ -1,9 +1,9 @@
--- `reply::put_four` meets its contract. Assumes nothing.
+-- `passing::put_four` meets its contract. Assumes nothing.
 use borrow.Author.Needs.{needs}
 use mathlib.Core.Path.{refl}
-use Rattle.reply.proofs.Passing.{bare, next}
-use Rattle.reply.proofs.put_four.Statement.{statement}
-use Rattle.reply.proofs.put_four.Tie as tie
+use Rattle.passing.proofs.Passing.{bare, next}
+use Rattle.passing.proofs.put_four.Statement.{statement}
+use Rattle.passing.proofs.put_four.Tie as tie
 
 put-requires : tie.Need-put-requires
 put-requires c κs = search needs

@@ -1,9 +1,9 @@
--- `reply::put` meets its contract. Assumes nothing.
+-- `passing::put` meets its contract. Assumes nothing.
 use borrow.Author.Needs.{needs}
 use lib.Seq.{set-out}
 use mathlib.Core.Path.{sym}
-use Rattle.reply.proofs.put.Statement.{statement}
-use Rattle.reply.proofs.put.Tie as tie
+use Rattle.passing.proofs.put.Statement.{statement}
+use Rattle.passing.proofs.put.Tie as tie
 
 mul-values : tie.Need-mul-values
 mul-values c = search needs

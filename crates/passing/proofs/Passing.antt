@@ -5,7 +5,7 @@ use Prim.Native.Nat.{ℕ}
 use lib.ListN.{length, set}
 use Rattle.parity.specs.Causes.{Reply, refusal}
 use lib.Ieee.{Float}
-use Rattle.reply.specs.Passed.{filled, endsFilled, Passed}
+use Rattle.passing.specs.Passed.{filled, endsFilled, Passed}
 
 pub fill-none : (old : List ℕ) → old ≡ filled [] old
 unfolding filled

@@ -1,10 +1,10 @@
--- `reply::pass` meets its contract. Assumes nothing.
+-- `passing::pass` meets its contract. Assumes nothing.
 use borrow.Author.Needs.{needs}
 use mathlib.Core.Path.{refl, sym, ap}
 use Rattle.parity.specs.Causes.{numberedReply}
-use Rattle.reply.proofs.Passing.{bare, front, next, same}
-use Rattle.reply.proofs.pass.Statement.{statement}
-use Rattle.reply.proofs.pass.Tie as tie
+use Rattle.passing.proofs.Passing.{bare, front, next, same}
+use Rattle.passing.proofs.pass.Statement.{statement}
+use Rattle.passing.proofs.pass.Tie as tie
 
 enum-known-reply : tie.Need-enum-known-reply
 enum-known-reply c = search needs

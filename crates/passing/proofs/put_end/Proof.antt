@@ -1,9 +1,9 @@
--- `reply::put_end` meets its contract. Assumes nothing.
+-- `passing::put_end` meets its contract. Assumes nothing.
 use borrow.Author.Needs.{needs}
 use lib.Seq.{set-out}
 use mathlib.Core.Path.{sym}
-use Rattle.reply.proofs.put_end.Statement.{statement}
-use Rattle.reply.proofs.put_end.Tie as tie
+use Rattle.passing.proofs.put_end.Statement.{statement}
+use Rattle.passing.proofs.put_end.Tie as tie
 
 mul-ends : tie.Need-mul-ends
 mul-ends c = search needs

@@ -19,9 +19,11 @@ use Rattle.parity.proofs.Words.Residue.{withins}
 use Rattle.sets.specs.Sets.{SetOf}
 use Rattle.sets.specs.Losses.{setLosses}
 use Rattle.word.proofs.Solved.{solved-refused, solved-made}
-use Rattle.steps.specs.Steps.{held, Settled, filled}
+use Rattle.result.specs.Result.{held, filled}
+use Rattle.result.proofs.Word.{result-losses, result-bytes}
+use Rattle.steps.specs.Steps.{Settled}
 use Rattle.steps.proofs.Held.{Held}
-use Rattle.steps.proofs.Start.{settled-held, settled-within, result-losses, result-bytes}
+use Rattle.steps.proofs.Start.{settled-held, settled-within}
 use Rattle.residue.specs.Sets.{Apart, Determined}
 use Rattle.determine.specs.Answers.{wordOutcome}
 

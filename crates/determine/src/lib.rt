@@ -6,7 +6,7 @@ use residue::finish;
 use rows::words_of;
 use sets::losses::losses_of;
 use sets::pairs::make_sets;
-use steps::solving::settle;
+use steps::settle;
 use word::admit;
 ghost use mathlib.Core.Path.{_≡_};
 ghost use mathlib.Core.Bool.{false};

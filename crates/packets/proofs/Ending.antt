@@ -24,8 +24,8 @@ use Rattle.parity.proofs.Words.Determine.{Taken, determine-made, determine-refu
 use Rattle.parity.proofs.Words.Lanes.{words-made, zeros-agree, lane-at, lane-size, lane-word, lost-at, lost-size, lost-word}
 use Rattle.parity.proofs.Words.Residue.{withins}
 use Rattle.sets.specs.Sets.{SetOf}
-use Rattle.steps.specs.Steps.{held, filled}
-use Rattle.steps.proofs.Held.{erased-held, ones-held}
+use Rattle.result.specs.Result.{held, filled}
+use Rattle.result.proofs.Word.{erased-held, ones-held}
 use Rattle.sets.specs.Losses.{setLosses}
 use Rattle.sets.proofs.Sizes.{losses-sets}
 use Rattle.lanes.specs.Tiles.{arrived}

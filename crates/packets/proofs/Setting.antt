@@ -17,8 +17,8 @@ use Rattle.parity.proofs.Matrix.Lent.{lent-empty, lent-out}
 use Rattle.parity.proofs.Words.Agreeing.{known-value}
 use Rattle.parity.proofs.Words.Lanes.{zeros-agree}
 use Rattle.sets.specs.Sets.{Short}
-use Rattle.steps.specs.Steps.{held}
-use Rattle.steps.proofs.Held.{erased-held, ones-held}
+use Rattle.result.specs.Result.{held}
+use Rattle.result.proofs.Word.{erased-held, ones-held}
 use Rattle.residue.specs.Sets.{Apart}
 use Rattle.lanes.specs.Lanes.{Lists, mending, contradicted}
 use Rattle.lanes.specs.Tiles.{arrived, Mended}

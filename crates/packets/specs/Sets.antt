@@ -8,7 +8,7 @@ use lib.ListN.{length}
 use Rattle.parity.specs.Finite.{one}
 use Rattle.parity.specs.Matrix.{Matrix}
 use Rattle.parity.specs.Determining.{someAgrees, determined}
-use Rattle.steps.specs.Steps.{held}
+use Rattle.result.specs.Result.{held}
 use Rattle.lanes.specs.Tiles.{arrived}
 use Rattle.lanes.specs.declared.Plan.{Plan}
 

@@ -14,9 +14,11 @@ use Rattle.parity.proofs.Words.Steps.{Ended}
 use Rattle.sets.specs.Sets.{SetOf}
 use Rattle.sets.specs.Losses.{setLosses}
 use Rattle.word.proofs.Solved.{solved-refused, solved-made}
-use Rattle.steps.specs.Steps.{held, Settled, agreeing, filled}
+use Rattle.result.specs.Result.{held, agreeing, filled}
+use Rattle.result.proofs.Word.{result-losses, result-bytes}
+use Rattle.steps.specs.Steps.{Settled}
 use Rattle.steps.proofs.Held.{Held, held-ended, held-agrees}
-use Rattle.steps.proofs.Start.{settled-held, settled-within, result-losses, result-bytes}
+use Rattle.steps.proofs.Start.{settled-held, settled-within}
 use Rattle.peel.specs.Answers.{wordOutcome}
 
 module _ (W : ℕ) (h : Matrix) (n k M : ℕ) (w es os : List ℕ) (size : length w ≡ n + k) (few : length w ≤ W * 64) (right : wrongByte 2 w ≡ false) (E : SetOf W w 2 es) (O : SetOf W w 1 os)

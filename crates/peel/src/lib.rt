@@ -2,11 +2,11 @@
 use matrix::Accepting;
 use parity::Losses;
 use parity::Refusal;
+use result::finish;
 use rows::words_of;
 use sets::losses::losses_of;
 use sets::pairs::make_sets;
-use steps::result::finish;
-use steps::solving::settle;
+use steps::settle;
 use word::admit;
 ghost use mathlib.Core.Path.{_≡_};
 ghost use mathlib.Core.Bool.{false};

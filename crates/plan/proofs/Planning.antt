@@ -17,8 +17,10 @@ use Rattle.parity.proofs.Matrix.Lent.{lent-out}
 use Rattle.parity.proofs.Words.Steps.{stage-start}
 use Rattle.parity.proofs.Words.Sets.{odd-even, not-odd-even}
 use Rattle.parity.proofs.Words.Agreeing.{agree-stage, some-same, determined-same}
-use Rattle.steps.specs.Steps.{held, agreeing}
-use Rattle.steps.proofs.Held.{Held, erased-held, held-reached, agreeing-wider}
+use Rattle.result.specs.Result.{held, agreeing}
+use Rattle.result.proofs.Agreeing.{agreeing-wider}
+use Rattle.result.proofs.Word.{erased-held}
+use Rattle.steps.proofs.Held.{Held, held-reached}
 use Rattle.elimination.specs.Reduction.{Reduction}
 use Rattle.residue.specs.Rows.{Gathered, EvenFrom}
 use Rattle.residue.specs.Sets.{Apart, Determined}

@@ -4,7 +4,7 @@ use mathlib.Core.Bool.{Bool, true, false, not}
 use Prim.Native.Nat.{ℕ, _<_}
 use Rattle.parity.specs.Matrix.{Matrix}
 use Rattle.parity.specs.Determining.{someAgrees, determined}
-use Rattle.steps.specs.Steps.{held}
+use Rattle.result.specs.Result.{held}
 use Rattle.residue.specs.Sets.{Apart}
 
 -- For every lane that has lost the bits e: it is contradicted exactly if no codeword agrees with it, and else the bits that are determined have their

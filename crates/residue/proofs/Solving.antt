@@ -20,9 +20,9 @@ use Rattle.parity.proofs.Matrix.Lent.{lent-out}
 use Rattle.parity.proofs.Words.Residue.{outside}
 use Rattle.parity.proofs.Words.Sets.{inside-below}
 use Rattle.parity.proofs.Words.Agreeing.{Agree, some-of, none-of, known-value, some-same, determined-same}
-use Rattle.steps.specs.Steps.{held, agreeing}
+use Rattle.result.specs.Result.{held, agreeing}
 use Rattle.sets.proofs.Short.{inside-short}
-use Rattle.steps.proofs.Held.{erased-held, ones-held}
+use Rattle.result.proofs.Word.{erased-held, ones-held}
 use Rattle.elimination.specs.Reduction.{Reduced, Reduction, pivot}
 use Rattle.elimination.proofs.Clearing.{same-at}
 use Rattle.elimination.proofs.Turns.{reduced-in, reduction-below}

@@ -8,7 +8,7 @@ use Rattle.parity.specs.Finite.{listFrom}
 use Rattle.parity.specs.Matrix.{Matrix, lent}
 use Rattle.parity.specs.Calls.{byteOf}
 use Rattle.parity.specs.Determining.{someAgrees, determined}
-use Rattle.steps.specs.Steps.{held, filled, agreeing}
+use Rattle.result.specs.Result.{held, filled, agreeing}
 
 -- the sets have no bit from N on, and none in common
 pub record Apart (N : ℕ) (e o : ℕ → Bool) : Type 0 where

@@ -5,10 +5,10 @@ mod pivots;
 
 use crate::eliminate::eliminate;
 use elimination::width_of;
+use result::agree;
+use result::write;
 use rows::words_of;
 use sets::size;
-use steps::result::agree;
-use steps::result::write;
 ghost use mathlib.Core.Path.{_≡_};
 ghost use lib.ListN.{length};
 ghost use Rattle.parity.specs.Matrix.{lent};

@@ -1,6 +1,6 @@
--- The word that the sets of its erased bits and of its ones hold, and what solving steps do to it. Assumes nothing.
+-- What solving steps do to the word that the sets of its erased bits and of its ones hold. Assumes nothing.
 use mathlib.Core.Path.{_≡_, refl, sym, ap, _∙_, fun-ext}
-use mathlib.Core.Bool.{Bool, true, false, not, cond, _&&_, and-true, and-false, or-true, or-false, and-eq-true-iff, true≢false, false≢true}
+use mathlib.Core.Bool.{Bool, true, false, not, _&&_, and-true, and-false, or-true, or-false, and-eq-true-iff, true≢false, false≢true}
 use Prim.Native.Nat.{ℕ, suc, _+_, _*_, _≤_, _<_}
 use native.Mathlib.Omega.{arith}
 use native.Mathlib.Decide.{ℕ-discrete, decLt}
@@ -8,16 +8,17 @@ use lib.Dec.{eqb}
 use borrow.Author.Tests.{eq-eqb, ne-eqb}
 use Rattle.parity.specs.Finite.{one, count}
 use Rattle.parity.specs.Matrix.{Matrix, put}
-use Rattle.parity.specs.Words.{erased, isOne, inside, odd, solved, agrees}
+use Rattle.parity.specs.Words.{inside, odd, solved, agrees}
 use Rattle.parity.proofs.Finite.Sums.{sum-point, count-at, count-pos, one≤1}
 use Rattle.parity.proofs.Matrix.Lent.{put-here, put-place}
-use Rattle.parity.proofs.Words.Bytes.{erasable-erased}
 use Rattle.parity.proofs.Words.Steps.{Stage, step, Ended, ended}
 use Rattle.parity.proofs.Finite.Firsts.{all-cong}
 use Rattle.sets.specs.Sets.{Short}
 use Rattle.sets.proofs.Short.{inside-short}
 use Rattle.search.specs.Next.{Lone, NoSingle}
-use Rattle.steps.specs.Steps.{held, Solved, Reached, start, next, agreeing}
+use Rattle.result.specs.Result.{held, agreeing}
+use Rattle.result.proofs.Word.{erased-held, ones-held}
+use Rattle.steps.specs.Steps.{Solved, Reached, start, next}
 
 -- the machine's two sets, after the bit leaves the one and, where the check's ones are odd, enters the other
 module _ (h : Matrix) (N c b : ℕ) (E O E' O' : Matrix) (p : E' ≡ put 0 b false E) where
@@ -58,23 +59,6 @@ fewer h N M c b e o e' o' L S =
 -- so the work that is left falls, wherever the next search starts
 pub less-work : (a b : ℕ) (x y : Bool) → a ≡ suc b → 2 * b + one x < 2 * a + one y
 less-work a b x y e = omega (arith, one≤1 x)
-
--- the erased bits of the word, and its ones
-pub erased-held : (e o : ℕ → Bool) → erased (held e o) ≡ e
-erased-held e o = fun-ext (λ a. erasable-erased (e a) (o a))
-
-pub ones-held : (e o : ℕ → Bool) → ((a : ℕ) → e a ≡ true → o a ≡ false) → isOne (held e o) ≡ o
-ones-held e o f = fun-ext (λ a. go (e a) (o a) (f a))
-  where
-    go : (x y : Bool) → (x ≡ true → y ≡ false) → eqb (cond x 2 (one y)) 1 ≡ y
-    go true y f = sym (f refl)
-    go false true f = refl
-    go false false f = refl
-
--- sets of the first N bits agree by these bits
-pub agreeing-wider : (h : Matrix) (N B M : ℕ) (e o : ℕ → Bool) → N ≤ B → Short N e → Short N o → agreeing h N M e o ≡ agreeing h B M e o
-unfolding agreeing
-agreeing-wider h N B M e o l f g = all-cong M (λ c k. rw (inside-short h B N c e l (f .none), inside-short h B N c o l (g .none)))
 
 -- where nothing is erased, no check has an erased bit
 pub none-erased : (h : Matrix) (N M : ℕ) (e : ℕ → Bool) → count N (λ t. e t && e t) ≡ 0 → NoSingle h N M 0 e

@@ -1,4 +1,3 @@
 pub mod Held
 pub mod Start
-pub mod Writing
 pub mod Listing

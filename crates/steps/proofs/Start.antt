@@ -1,32 +1,24 @@
--- The sets that the bytes of a word make hold it, and those that steps lead to hold a stage of peeling; the word that results. Assumes nothing.
+-- The sets that the bytes of a word make hold it, and those that steps lead to hold a stage of peeling. Assumes nothing.
 use mathlib.Core.Path.{_≡_, sym, ap, _∙_, fun-ext}
-use mathlib.Core.Bool.{Bool, true, false, and-false, false≢true}
+use mathlib.Core.Bool.{Bool, true, false, false≢true}
 use mathlib.Core.List.{List}
-use Prim.Native.Nat.{ℕ, _+_, _*_, _-_, _≤_, _<_}
+use Prim.Native.Nat.{ℕ, _*_, _≤_}
 use native.Mathlib.Omega.{arith}
 use native.Mathlib.Decide.{decLt}
-use lib.Dec.{eqb}
 use lib.ListN.{length, List·getD-eq-default}
 use borrow.Author.Tests.{lt-ltb, le-ltb, eqb-true}
-use Rattle.parity.specs.Finite.{listFrom}
 use Rattle.parity.specs.Matrix.{Matrix, lent}
-use Rattle.parity.specs.Words.{erased, within, losses}
+use Rattle.parity.specs.Words.{within}
 use Rattle.parity.specs.Calls.{byteOf, wrongByte}
-use Rattle.parity.proofs.Finite.Sums.{is-true, is-false, is}
-use Rattle.parity.proofs.Finite.Lists.{listFrom-cong}
 use Rattle.parity.proofs.Words.Residue.{withins}
 use Rattle.parity.proofs.Words.Steps.{stage-start}
 use Rattle.parity.proofs.Words.Bytes.{right-bytes, erasable-of}
 use Rattle.sets.specs.Sets.{SetOf, Short}
-use Rattle.sets.specs.Losses.{setLosses}
-use Rattle.sets.proofs.Sizes.{losses-sets}
 use Rattle.sets.proofs.Short.{set-short}
-use Rattle.steps.specs.Steps.{held, filled, Settled}
-use Rattle.steps.proofs.Held.{Held, erased-held, held-reached}
-
--- the set of the lost bits
-lost-is : (W : ℕ) (w es : List ℕ) → SetOf W w 2 es → (b : ℕ) → b < length w → erased (byteOf w) b ≡ lent W es 0 b
-lost-is W w es E b l = sym (E .at b ∙ rw (lt-ltb b (length w) l))
+use Rattle.result.specs.Result.{held}
+use Rattle.result.proofs.Word.{erased-held, lost-is}
+use Rattle.steps.specs.Steps.{Settled}
+use Rattle.steps.proofs.Held.{Held, held-reached}
 
 module _ (W : ℕ) (h : Matrix) (M : ℕ) (w es os : List ℕ) (few : length w ≤ W * 64) (right : wrongByte 2 w ≡ false) (E : SetOf W w 2 es) (O : SetOf W w 1 os) where
   -- the sets that the bytes make hold the word
@@ -64,24 +56,3 @@ module _ (W : ℕ) (h : Matrix) (M : ℕ) (w es os : List ℕ) (few : length w �
       | yes m ↦ sym (lost-is W w es E b m) ∙ settled-held .stage .shrinks b m (ap (λ (f : ℕ → Bool). f b) (erased-held e o) ∙ q)
       | no m ↦ absurd (false≢true (sym (settled-held .short-e b (omega arith)) ∙ q))
     ])
-
--- A word that results, of n sent and k added bits, where the sets e and o hold it and it keeps what was not lost.
-module _ (W n k : ℕ) (w es : List ℕ) (size : length w ≡ n + k) (few : length w ≤ W * 64) (E : SetOf W w 2 es) (e o : ℕ → Bool) (part : within (W * 64) e (lent W es 0) ≡ true)
-    (result : ℕ → ℕ) (is-held : (b : ℕ) → b < n + k → result b ≡ held e o b) (keeps : (b : ℕ) → b < n + k → erased (byteOf w) b ≡ false → result b ≡ byteOf w b) where
-  pub result-losses : losses n k (byteOf w) result ≡ setLosses n (W * 64 - n) (lent W es 0) e
-  result-losses =
-      losses-sets (W * 64) n k (byteOf w) result (lent W es 0) e (omega arith) part (λ b l. set-short W w 2 es E .none b (omega arith))
-      (λ b l. lost-is W w es E b (omega arith)) (λ b l. ap (λ a. eqb a 2) (is-held b l) ∙ ap (λ (f : ℕ → Bool). f b) (erased-held e o))
-
-  pub result-bytes : listFrom 0 (n + k) result ≡ listFrom 0 (length w) (filled (lent W es 0) e o (byteOf w))
-  result-bytes = rw size (listFrom-cong 0 (n + k) result (filled (lent W es 0) e o (byteOf w)) (λ j l. at (0 + j) (omega arith)))
-    where
-      at : (b : ℕ) → b < n + k → result b ≡ filled (lent W es 0) e o (byteOf w) b
-      at b l =
-          elim (is (e b)) [
-            | is-true p ↦ is-held b l ∙ rw (p, and-false) (sym (eqb-true (byteOf w b) 2 (lost-is W w es E b (omega arith) ∙ withins (W * 64) e (lent W es 0) .0 part b (omega arith) p)))
-            | is-false p ↦ elim (is (lent W es 0 b)) [
-              | is-true q ↦ is-held b l ∙ rw (p, q)
-              | is-false q ↦ rw q (keeps b l (lost-is W w es E b (omega arith) ∙ q))
-            ]
-          ]

@@ -1,17 +1,14 @@
 -- `agree_in` meets its contract. Assumes nothing.
-use mathlib.Core.Bool.{or-true}
-use mathlib.Core.Path.{_≡_, refl, sym, _∙_}
+use mathlib.Core.Path.{_≡_, sym, _∙_}
 use mathlib.Core.Bool.{true}
 use mathlib.Core.Logic.{⊎-elim}
 use Prim.Native.Nat.{_*_, _-_, _≤_}
 use native.Mathlib.Omega.{arith}
 use borrow.Author.Needs.{needs}
 use borrow.Author.Tests.{not-true, not-false}
-use Rattle.parity.specs.Finite.{all}
 use Rattle.parity.specs.Matrix.{lent}
-use Rattle.parity.proofs.Finite.Sums.{all-more, all-false}
-use Rattle.parity.proofs.Words.Sets.{odd-even, not-odd-even}
 use Rattle.result.specs.Result.{agreeing}
+use Rattle.result.proofs.Agreeing.{agreeing-none, agreeing-not, agreeing-even, agreeing-erased}
 use Rattle.result.proofs.agree_in.Statement.{statement}
 use Rattle.result.proofs.agree_in.Tie as tie
 
@@ -22,8 +19,7 @@ abbrev μ-loop : tie.MeasureT-loop
 μ-loop words used checks erased ones c₀ c = checks - c
 
 loop-holds : tie.Need-loop-holds Inv-loop μ-loop
-unfolding agreeing all
-loop-holds c = (omega arith, refl)
+loop-holds c = (omega arith, agreeing-none _ _ _ _)
 
 is-odd-requires : tie.Need-is-odd-requires Inv-loop μ-loop
 is-odd-requires c κs = search needs
@@ -32,10 +28,9 @@ touches-requires : tie.Need-touches-requires Inv-loop μ-loop
 touches-requires c κs = search needs
 
 returns : tie.Need-returns Inv-loop μ-loop
-unfolding agreeing
 returns c = let l = c .before .before .before .before .before .loop in
     let s = c .before .before .before .before .before .before .before .before .before in
-    sym (all-false (s .args .checks) _ (l .c) (omega arith) (rw (sym (c .before .touches .ensures) ∙ not-true (c .before .touches .result) (c .if2 .taken)) (odd-even _ (sym (c .before .before .before .is-odd .ensures) ∙ c .before .before .if1 .taken))))
+    sym (agreeing-not _ _ _ _ (s .args .checks) (l .c) (omega arith) (sym (c .before .before .before .is-odd .ensures) ∙ c .before .before .if1 .taken) (sym (c .before .touches .ensures) ∙ not-true (c .before .touches .result) (c .if2 .taken)))
 
 add-c : tie.Need-add-c Inv-loop μ-loop
 add-c c = omega arith
@@ -44,13 +39,12 @@ loop-less : tie.Need-loop-less Inv-loop μ-loop
 loop-less c = omega arith
 
 loop-again : tie.Need-loop-again Inv-loop μ-loop
-unfolding agreeing
 loop-again c = let l = c .before .before .before .loop in (
   omega arith,
-  all-more (l .c) _ (l .inv .1) (
-      ⊎-elim
-      (λ w. rw (sym (w .1 .ensures) ∙ not-false (w .1 .result) (w .2 .left)))
-      (λ w. rw (not-odd-even _ (sym (c .before .is-odd .ensures) ∙ w .left), or-true)) (c .if1 .came)),
+  ⊎-elim
+      (λ w. agreeing-erased _ _ _ _ (l .c) (l .inv .1) (sym (w .1 .ensures) ∙ not-false (w .1 .result) (w .2 .left)))
+      (λ w. agreeing-even _ _ _ _ (l .c) (l .inv .1) (sym (c .before .is-odd .ensures) ∙ w .left))
+      (c .if1 .came),
 )
 
 returns-2 : tie.Need-returns-2 Inv-loop μ-loop

@@ -1,15 +1,14 @@
 -- `agree_left` meets its contract. Assumes nothing.
-use mathlib.Core.Path.{_≡_, refl, sym, _∙_}
-use mathlib.Core.Bool.{true, not, or-true, and-eq-true-iff}
+use mathlib.Core.Path.{_≡_, sym, _∙_}
+use mathlib.Core.Bool.{true, not, and-eq-true-iff}
 use Prim.Native.Nat.{_*_, _-_, _≤_}
 use native.Mathlib.Omega.{arith}
 use borrow.Author.Needs.{needs}
 use borrow.Author.Tests.{not-true, not-false}
-use Rattle.parity.specs.Finite.{all}
 use Rattle.parity.specs.Matrix.{lent}
-use Rattle.parity.proofs.Finite.Sums.{is, is-true, is-false, all-more, all-false}
-use Rattle.parity.proofs.Words.Sets.{odd-even, not-odd-even}
+use Rattle.parity.proofs.Finite.Sums.{is, is-true, is-false}
 use Rattle.result.specs.Result.{agreeing}
+use Rattle.result.proofs.Agreeing.{agreeing-none, agreeing-not, agreeing-even, agreeing-erased}
 use Rattle.result.proofs.agree_left.Statement.{statement}
 use Rattle.result.proofs.agree_left.Tie as tie
 
@@ -20,8 +19,7 @@ abbrev μ-loop : tie.MeasureT-loop
 μ-loop words used checks erased ones c₀ c = checks - c
 
 loop-holds : tie.Need-loop-holds Inv-loop μ-loop
-unfolding agreeing all
-loop-holds c = (omega arith, refl)
+loop-holds c = (omega arith, agreeing-none _ _ _ _)
 
 is-odd-requires : tie.Need-is-odd-requires Inv-loop μ-loop
 is-odd-requires c κs = search needs
@@ -30,11 +28,10 @@ touches-requires : tie.Need-touches-requires Inv-loop μ-loop
 touches-requires c κs = search needs
 
 returns : tie.Need-returns Inv-loop μ-loop
-unfolding agreeing
 returns c = let l = c .before .before .before .before .loop in
     let s = c .before .before .before .before .before .before .before .before in
     let (p, q) = and-eq-true-iff (c .before .before .is-odd .result) (not (c .before .touches .result)) .0 (c .if1 .taken) in
-    sym (all-false (s .args .checks) _ (l .c) (omega arith) (rw (sym (c .before .touches .ensures) ∙ not-true (c .before .touches .result) q) (odd-even _ (sym (c .before .before .is-odd .ensures) ∙ p))))
+    sym (agreeing-not _ _ _ _ (s .args .checks) (l .c) (omega arith) (sym (c .before .before .is-odd .ensures) ∙ p) (sym (c .before .touches .ensures) ∙ not-true (c .before .touches .result) q))
 
 add-c : tie.Need-add-c Inv-loop μ-loop
 add-c c = omega arith
@@ -43,13 +40,12 @@ loop-less : tie.Need-loop-less Inv-loop μ-loop
 loop-less c = omega arith
 
 loop-again : tie.Need-loop-again Inv-loop μ-loop
-unfolding agreeing
 loop-again c = let l = c .before .before .before .before .loop in (
   omega arith,
-  all-more (l .c) _ (l .inv .1) (elim (is (c .before .before .is-odd .result)) [
-    | is-true p ↦ rw (sym (c .before .touches .ensures) ∙ not-false (c .before .touches .result) (rw p at (c .if1 .left)))
-    | is-false p ↦ rw (not-odd-even _ (sym (c .before .before .is-odd .ensures) ∙ p), or-true)
-  ]),
+  elim (is (c .before .before .is-odd .result)) [
+    | is-true p ↦ agreeing-erased _ _ _ _ (l .c) (l .inv .1) (sym (c .before .touches .ensures) ∙ not-false (c .before .touches .result) (rw p at (c .if1 .left)))
+    | is-false p ↦ agreeing-even _ _ _ _ (l .c) (l .inv .1) (sym (c .before .before .is-odd .ensures) ∙ p)
+  ],
 )
 
 returns-2 : tie.Need-returns-2 Inv-loop μ-loop

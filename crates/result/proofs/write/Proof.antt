@@ -1,7 +1,6 @@
 -- `write` meets its contract. Assumes nothing.
 use Prim.Native.Nat.{_-_, _≤_}
 use native.Mathlib.Omega.{arith}
-use lib.ListN.{length}
 use Rattle.parity.specs.Matrix.{lent}
 use Rattle.result.proofs.Writing.{Filling, filling-none, masked-below, filling-next, filling-all}
 use Rattle.result.proofs.write.Statement.{statement}

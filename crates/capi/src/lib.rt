@@ -158,7 +158,7 @@ pub extern "C" fn parity_extend(
     ensures { λ r. ⌜ Passed (extendOutcome (now (words .entry)) n m k (now (sent .entry)) (now (word .entry)) .reply) (now (values .entry)) (now (values .exit)) r ⌝ }
     ensures { λ r. ⌜ now (word .exit) ≡ extendOutcome (now (words .entry)) n m k (now (sent .entry)) (now (word .entry)) .after ⌝ }
 {
-    let extending = word::extend(words, n, m, k, sent, word);
+    let extending = extend::extend(words, n, m, k, sent, word);
     let numbered = reply::extending(extending);
     passing::pass(numbered, values)
 }

@@ -1,4 +1,2 @@
 pub mod Told
 pub mod Solved
-pub mod Lower
-pub mod Outcome

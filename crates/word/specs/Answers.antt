@@ -5,8 +5,6 @@ use Rattle.parity.specs.Causes.{Reply, answer, accepting, refusalOf}
 use Rattle.parity.specs.Calls.{checkingBytes}
 use Rattle.word.specs.declared.Verifying.{Verifying}
 use Rattle.word.specs.declared.Verifying.the-variants as verifies
-use Rattle.word.specs.declared.Extending.{Extending}
-use Rattle.word.specs.declared.Extending.the-variants as extends
 use Rattle.word.specs.declared.Stopping.{Stopping}
 use Rattle.word.specs.declared.Stopping.the-variants as stops
 
@@ -24,7 +22,3 @@ abbrev pub stoppingReply : Stopping → Reply
 stoppingReply stops.Yes = answer (1 ∷ [])
 stoppingReply stops.No = answer (0 ∷ [])
 stoppingReply (stops.Refused r) = refusalOf r
-
-abbrev pub extendingReply : Extending → Reply
-extendingReply extends.Written = answer []
-extendingReply (extends.Refused r) = refusalOf r

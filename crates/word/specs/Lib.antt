@@ -1,3 +1,3 @@
 pub mod Answers
 pub mod Solved
-pub mod Added
+pub mod Asked

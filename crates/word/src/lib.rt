@@ -1,7 +1,4 @@
-// Words and sets of bits, one byte for each bit: verifying, extending, and testing stopping sets.
-mod added;
-
-use crate::added::write_word;
+// Words and sets of bits, one byte for each bit: verifying, and testing stopping sets.
 use matrix::Accepting;
 use parity::Check;
 use parity::Refusal;
@@ -15,22 +12,15 @@ ghost use Prim.Native.Nat.{_*_, _<_, _≤_};
 ghost use lib.ListN.{length};
 ghost use Rattle.parity.specs.Matrix.{lent};
 ghost use Rattle.parity.specs.Words.{isOne, evenChecks, codeword, stopping};
-ghost use Rattle.parity.specs.Calls.{byteOf, verifyReply, extendOutcome, isStoppingReply};
+ghost use Rattle.parity.specs.Calls.{byteOf, verifyReply, isStoppingReply};
 ghost use Rattle.matrix.specs.Answers.{acceptingReply};
 ghost use Rattle.word.specs.Answers.{admitReply, verifyingReply, stoppingReply};
-ghost use Rattle.word.specs.Answers.{extendingReply};
-ghost use Rattle.word.specs.Added.{AllAsked};
+ghost use Rattle.word.specs.Asked.{AllAsked};
 
 // What verifying answers.
 pub enum Verifying {
     Yes,
     No,
-    Refused(Refusal),
-}
-
-// What extending answers.
-pub enum Extending {
-    Written,
     Refused(Refusal),
 }
 
@@ -115,38 +105,6 @@ pub fn verify(words: &[u64], n: usize, m: usize, k: usize, word: &[u8]) -> Verif
                 return Verifying::Yes;
             }
             Verifying::No
-        }
-    }
-}
-
-// Extends the `n` sent bits to the `n + k` bits of the word.
-pub fn extend(
-    words: &[u64],
-    n: usize,
-    m: usize,
-    k: usize,
-    sent: &[u8],
-    word: &mut [u8],
-) -> Extending
-    ensures { λ r. ⌜ (extendingReply r ≡ extendOutcome (now (words .entry)) n m k (now (sent .entry)) (now (word .entry)) .reply)
-        × (now (word .exit) ≡ extendOutcome (now (words .entry)) n m k (now (sent .entry)) (now (word .entry)) .after) ⌝ }
-{
-    let accepted = matrix::accept(words, n, m, k);
-    match accepted {
-        Accepting::Refused(r) => Extending::Refused(r),
-        Accepting::Accepted => {
-            if word.len() != n + k {
-                return Extending::Refused(Refusal::WrongLength);
-            }
-            if sent.len() != n {
-                return Extending::Refused(Refusal::WrongLength);
-            }
-            let place = first_above(sent, 1);
-            if place < sent.len() {
-                return Extending::Refused(Refusal::WrongByte { place });
-            }
-            write_word(words, n, m, k, sent, word);
-            Extending::Written
         }
     }
 }

@@ -1,7 +1,7 @@
 -- `reply::extending` meets its contract. Assumes nothing.
 use borrow.Author.Needs.{needs}
 use mathlib.Core.Path.{sym, ap, _∙_}
-use Rattle.word.specs.Answers.{extendingReply}
+use Rattle.extend.specs.Answers.{extendingReply}
 use Rattle.reply.proofs.extending.Statement.{statement}
 use Rattle.reply.proofs.extending.Tie as tie
 

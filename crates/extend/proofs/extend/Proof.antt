@@ -6,12 +6,12 @@ use Rattle.parity.proofs.Matrix.Accept.{accepts}
 use Rattle.parity.proofs.Causes.Refused.{accepted-words}
 use Rattle.parity.proofs.Words.Bytes.{Word, right-bytes}
 use Rattle.parity.proofs.Words.Verifying.{extends}
-use Rattle.word.specs.Added.{extendedBytes}
+use Rattle.extend.specs.Added.{extendedBytes}
 use Rattle.sets.proofs.Above.{byte-wrong, byte-right}
-use Rattle.word.proofs.Outcome.{extend-refused, word-length, sent-length, sent-byte}
+use Rattle.extend.proofs.Outcome.{extend-refused, word-length, sent-length, sent-byte}
 use borrow.Author.Needs.{needs}
-use Rattle.word.proofs.extend.Statement.{statement}
-use Rattle.word.proofs.extend.Tie as tie
+use Rattle.extend.proofs.extend.Statement.{statement}
+use Rattle.extend.proofs.extend.Tie as tie
 
 accept-requires : tie.Need-accept-requires
 accept-requires c κs = search needs

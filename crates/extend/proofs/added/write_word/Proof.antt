@@ -1,10 +1,10 @@
 -- `added::write_word` meets its contract. Assumes nothing.
 use Rattle.parity.specs.Matrix.{lent}
-use Rattle.word.specs.Added.{Copied}
-use Rattle.word.proofs.Lower.{front-copied, copied-bits, extended-all}
+use Rattle.extend.specs.Added.{Copied}
+use Rattle.extend.proofs.Lower.{front-copied, copied-bits, extended-all}
 use borrow.Author.Needs.{needs}
-use Rattle.word.proofs.added.write_word.Statement.{statement}
-use Rattle.word.proofs.added.write_word.Tie as tie
+use Rattle.extend.proofs.added.write_word.Statement.{statement}
+use Rattle.extend.proofs.added.write_word.Tie as tie
 
 copy-front-requires : tie.Need-copy-front-requires
 copy-front-requires c κs = search needs

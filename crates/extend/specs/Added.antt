@@ -2,15 +2,10 @@
 use mathlib.Core.Path.{_≡_}
 use mathlib.Core.List.{List}
 use Prim.Native.Nat.{ℕ, _+_, _≤_, _<_}
-use lib.ListN.{length}
 use Rattle.parity.specs.Finite.{one, listFrom}
 use Rattle.parity.specs.Matrix.{Matrix}
 use Rattle.parity.specs.Words.{isOne, extended}
 use Rattle.parity.specs.Calls.{byteOf}
-
--- the words of a matrix, its first checks, and a set of bits, of which the first words are in use
-abbrev pub AllAsked : List ℕ → ℕ → List ℕ → ℕ → Type 0
-AllAsked ws checks set used = (length ws ≡ 4096) × (checks ≤ 512) × (length set ≡ 8) × (used ≤ 8)
 
 -- the first n bytes of w are those of sent
 pub record Copied (sent : List ℕ) (n : ℕ) (w : List ℕ) : Type 0 where

@@ -1,4 +1,4 @@
-// Extending: the sent bits, and then each added bit as the sum modulo 2 of the two lower bits of its added check.
+// The sent bits, and then each added bit as the sum modulo 2 of the two lower bits of its added check.
 use parity::Check;
 use rows::ones::next_one;
 use sets::bytes::copy_front;
@@ -9,7 +9,7 @@ ghost use Rattle.parity.specs.Finite.{one};
 ghost use Rattle.parity.specs.Matrix.{lent, cause};
 ghost use Rattle.parity.specs.Words.{isOne, inside, odd};
 ghost use Rattle.parity.specs.Calls.{byteOf};
-ghost use Rattle.word.specs.Added.{ExtendedTo, Bits, extendedBytes};
+ghost use Rattle.extend.specs.Added.{ExtendedTo, Bits, extendedBytes};
 
 // The sum modulo 2 of the two lower bits of added check `m + j`.
 fn added_bit(words: &[u64], n: usize, m: usize, k: usize, j: usize, word: &[u8]) -> u8

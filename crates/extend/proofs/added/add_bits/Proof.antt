@@ -6,10 +6,10 @@ use borrow.Author.Needs.{needs}
 use lib.ListN.{length, length-set}
 use Rattle.parity.specs.Matrix.{lent}
 use Rattle.parity.proofs.Matrix.Accept.{accepts}
-use Rattle.word.specs.Added.{ExtendedTo}
-use Rattle.word.proofs.Lower.{extended-none, extended-bits, extended-more}
-use Rattle.word.proofs.added.add_bits.Statement.{statement}
-use Rattle.word.proofs.added.add_bits.Tie as tie
+use Rattle.extend.specs.Added.{ExtendedTo}
+use Rattle.extend.proofs.Lower.{extended-none, extended-bits, extended-more}
+use Rattle.extend.proofs.added.add_bits.Statement.{statement}
+use Rattle.extend.proofs.added.add_bits.Tie as tie
 
 abbrev Inv-loop : tie.InvT-loop
 Inv-loop words n m k word₀ j₀ word j = (j ≤ k) × (length word ≡ n + k) × ExtendedTo (lent 8 words) n m j word₀ word

@@ -21,7 +21,7 @@ use Rattle.parity.proofs.Finite.Lists.{length-listFrom, at-listFrom}
 use Rattle.parity.proofs.Matrix.Rule.{Rule}
 use Rattle.parity.proofs.Words.Extend.{inside-cong}
 use Rattle.rows.specs.Rows.{NextOne}
-use Rattle.word.specs.Added.{Copied, Bits, ExtendedTo, extendedBytes}
+use Rattle.extend.specs.Added.{Copied, Bits, ExtendedTo, extendedBytes}
 
 module _ (h : Matrix) (n m k j : ℕ) (R : Rule h n m k j) (x y : ℕ) (A : NextOne 512 (h (m + j)) 0 x) (few : n + j ≤ 512) where
   pub lower-first : x < n + j

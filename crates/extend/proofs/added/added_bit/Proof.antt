@@ -8,10 +8,10 @@ use Rattle.parity.specs.Words.{isOne, odd}
 use Rattle.parity.specs.Calls.{byteOf}
 use Rattle.parity.proofs.Matrix.Sound.{sound-rule}
 use Rattle.parity.proofs.Matrix.Accept.{accepts}
-use Rattle.word.proofs.Lower.{lower-first, lower-second, inside-two, xor-odd}
+use Rattle.extend.proofs.Lower.{lower-first, lower-second, inside-two, xor-odd}
 use borrow.Author.Needs.{needs}
-use Rattle.word.proofs.added.added_bit.Statement.{statement}
-use Rattle.word.proofs.added.added_bit.Tie as tie
+use Rattle.extend.proofs.added.added_bit.Statement.{statement}
+use Rattle.extend.proofs.added.added_bit.Tie as tie
 
 add-t9 : tie.Need-add-t9
 add-t9 c =

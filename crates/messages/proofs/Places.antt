@@ -1,22 +1,49 @@
 -- Where the messages lie: check after check, each one of the matrix at a place of its own. Assumes nothing.
 use mathlib.Core.Path.{_≡_, refl, sym, _∙_}
-use mathlib.Core.Bool.{true}
+use mathlib.Core.Bool.{Bool, true, false, true≢false}
 use mathlib.Core.List.{List}
 use Prim.Native.Nat.{ℕ, zero, suc, _+_, _<_, _≤_}
-use native.Mathlib.Decide.{ℕ-discrete}
+use native.Mathlib.Decide.{ℕ-discrete, decLt}
+use native.Mathlib.Numerals.{add-one}
+use native.Mathlib.Nat.{add-zero}
 use native.Mathlib.Omega.{arith}
 use lib.Arith.{le-zero}
-use lib.Ieee.{Float}
+use lib.ListN.{getD, length, set, length-set}
+use lib.Seq.{getD-set-same}
+use lib.Ieee.{Float, nan}
 use Rattle.parity.specs.Finite.{sum, count}
 use Rattle.parity.specs.Matrix.{Matrix}
-use Rattle.parity.proofs.Finite.Sums.{count-zero, count-end}
-use Rattle.parity.specs.Soft.{Messages, toBits}
-use Rattle.soft.specs.Store.{Sounds}
-use Rattle.check_node.specs.Pass.{checkAnswer}
-use Rattle.messages.specs.Memory.{start, place, held, Part, from, Above, SoundAll, Answering, Within}
-use Rattle.parity.specs.declared.Channel.{Channel}
-use Rattle.parity.proofs.Finite.Firsts.{nth-below, nth-at}
-use Rattle.messages.proofs.Compact.{check-row}
+use Rattle.parity.proofs.Finite.Sums.{count-zero, count-end, count-suc}
+use Rattle.parity.proofs.Finite.Firsts.{nth-below, nth-only}
+use Rattle.parity.specs.Soft.{messageAt}
+use Rattle.soft.proofs.Places.{message-other}
+use Rattle.messages.specs.Memory.{start, place, Laid, Written, Above, Within}
+
+-- a value copied to place j
+pub written : (us : List ℕ) (ys : List Float) (i : ℕ) (ts : List ℕ) (xs : List Float) (j : ℕ) → j < length ts → j < length xs
+    → Written j (messageAt us ys i) ts xs (set ts j (getD us i 0)) (set xs j (getD ys i nan))
+unfolding messageAt
+written us ys i ts xs j k l = record {
+  tags = length-set ts _ _;
+  values = length-set xs _ _;
+  here = rw (getD-set-same ts j (getD us i 0) 0 k, getD-set-same xs j (getD ys i nan) nan l);
+  other = λ t n. message-other ts xs j t _ _ n;
+}
+
+-- lists of the same lengths are memory too
+pub laid-same : (ws : List ℕ) (h : Matrix) (ts : List ℕ) (xs : List Float) → Laid ws h ts xs → (us : List ℕ) (ys : List Float) → length us ≡ length ts → length ys ≡ length xs → Laid ws h us ys
+laid-same ws h ts xs L us ys p q = record { words = L .words; memory = record { tags = p ∙ L .memory .tags; values = q ∙ L .memory .values }; room = L .room }
+
+pub none-counted : (p : ℕ → Bool) → 0 ≡ count 0 p
+unfolding count sum
+none-counted p = refl
+
+-- one more number, that passes or not
+pub count-yes : (p : ℕ → Bool) (c : ℕ) → p c ≡ true → count (c + 1) p ≡ count c p + 1
+count-yes p c e = rw (add-one c) (let q = rw e at (count-suc c p) in q)
+
+pub count-no : (p : ℕ → Bool) (c : ℕ) → p c ≡ false → count (c + 1) p ≡ count c p
+count-no p c e = rw (add-one c) (let q = rw (e, add-zero) at (count-suc c p) in q)
 
 module _ (h : Matrix) (N : ℕ) where
   pub start-zero : start h N 0 ≡ 0
@@ -49,10 +76,6 @@ module _ (h : Matrix) (N : ℕ) where
   pub above-more : (ts : List ℕ) (xs : List Float) (us : List ℕ) (ys : List Float) → Above h N ts xs us ys → (vs : List ℕ) (zs : List Float) → Above h N us ys vs zs → Above h N ts xs vs zs
   above-more ts xs us ys A vs zs B = record { at = λ i k l. B .at i k l ∙ A .at i k l }
 
-  pub above-part : (c : ℕ) (g : ℕ → Channel) (ts : List ℕ) (xs : List Float) (us : List ℕ) (ys : List Float) → c < 512 → Part (start h N c) (count N (h c)) g ts xs us ys
-      → Above h N ts xs us ys
-  above-part c g ts xs us ys k P = record { at = λ i l m. P .after i (omega (arith, start-suc c, start-mono (suc c) 512 k)) }
-
   -- no check from M on has messages
   pub start-end : (M c : ℕ) → Within h M → M ≤ c → start h N c ≡ start h N M
   start-end M zero W k = rw (le-zero k)
@@ -61,48 +84,32 @@ module _ (h : Matrix) (N : ℕ) where
     | no n ↦ start-suc c ∙ omega (arith, start-end M c W (omega arith), count-end 0 N (h c) (omega arith) (λ a l m. W .after c a (omega arith)), count-zero (h c))
   ]
 
-  pub answering-start : (M : ℕ) (ts : List ℕ) (xs : List Float) → Answering h N M 0 (held h N ts xs) ts xs
-  answering-start M ts xs = record { done = λ d b k. absurd (omega arith); left = λ d b k l m e. refl }
+pub place-yes : (h : Matrix) (N c b : ℕ) → h c b ≡ true → place h N c (b + 1) ≡ place h N c b + 1
+unfolding place
+place-yes h N c b e = omega (arith, count-yes (h c) b e)
 
-  module _ (M : ℕ) (old : Messages) where
-    module _ (c : ℕ) (k : c < M) (ts : List ℕ) (xs : List Float) (A : Answering h N M c old ts xs) where
-      abbrev w : ℕ
-      w = count N (h c)
+pub first-place : (h : Matrix) (N c : ℕ) → place h N c 0 ≡ start h N c
+unfolding place
+first-place h N c = omega (arith, none-counted (h c))
 
-      abbrev D : ℕ → Channel
-      D = from (start h N c) ts xs
+-- ---- places of their own
+pub place-same : (h : Matrix) (N c b d a : ℕ) → b < N → a < N → h c b ≡ true → h d a ≡ true → place h N c b ≡ place h N d a → (c ≡ d) × (b ≡ a)
+unfolding place
+place-same h N c b d a k l p q e = elim (ℕ-discrete c d) [
+  | yes z ↦ (z, nth-only (h c) b a p (rw z q) (same z))
+  | no z ↦ absurd (elim (decLt c d) [
+    | yes y ↦ omega (arith, place-high h N c b k p, start-mono h N (suc c) d y, place-low h N d a)
+    | no y ↦ omega (arith, place-high h N d a l q, start-mono h N (suc d) c (omega arith), place-low h N c b)
+  ])
+]
+  where
+    same : c ≡ d → count b (h c) ≡ count a (h c)
+    same z = let f = rw (← z) at e in omega arith
 
-      row : (b : ℕ) → b < N → h c b ≡ true → D (count b (h c)) ≡ old c b
-      row b l e = sym (held-is b) ∙ A .left c b (omega arith) k l e
-        where
-          held-is : (b : ℕ) → held h N ts xs c b ≡ D (count b (h c))
-          held-is b = unfold held place in refl
+-- the checks that have a bit
+pub within-below : (h : Matrix) (M : ℕ) → Within h M → (d a : ℕ) → h d a ≡ true → d < M
+within-below h M W d a e = elim (decLt d M) [ yes k ↦ k | no k ↦ absurd (true≢false (sym e ∙ W .after d a (omega arith))) ]
 
-      pub answering-sounds : SoundAll h N M old → Sounds w D
-      answering-sounds S = record {
-        at = λ t l.
-            let (b, i, e, q) = nth-at (h c) N t l in
-            rw (← q, row b i e) (S .at c b k i e);
-      }
-
-      module _ (ts' : List ℕ) (xs' : List Float) (P : Part (start h N c) w (checkAnswer w D) ts xs ts' xs') where
-        here : (b : ℕ) → b < N → h c b ≡ true → held h N ts' xs' c b ≡ toBits h N old c b
-        unfolding held place toBits checkAnswer
-        here b l e = P .new (count b (h c)) (nth-below (h c) b N l e) ∙ check-row (h c) (old c) D N b e row
-
-        before : (d b : ℕ) → d < c → b < N → h d b ≡ true → held h N ts' xs' d b ≡ held h N ts xs d b
-        unfolding held
-        before d b j l e = P .before (place h N d b) (omega (arith, place-high d b l e, start-mono (suc d) c j))
-
-        after : (d b : ℕ) → c < d → held h N ts' xs' d b ≡ held h N ts xs d b
-        unfolding held
-        after d b j = P .after (place h N d b) (omega (arith, place-low d b, start-mono (suc c) d j, start-suc c))
-
-        pub answering-more : Answering h N M (c + 1) old ts' xs'
-        answering-more = record {
-          done = λ d b j l e. elim (ℕ-discrete d c) [
-            | yes q ↦ rw q (here b l (rw q at e))
-            | no n ↦ before d b (omega arith) l e ∙ A .done d b (omega arith) l e
-          ];
-          left = λ d b j m l e. after d b (omega arith) ∙ A .left d b (omega arith) m l e;
-        }
+-- a message's place is before the row
+pub place-small : (h : Matrix) (N c b : ℕ) → start h N 512 ≤ 65024 → c < 512 → b < N → h c b ≡ true → place h N c b < 65024
+place-small h N c b m k l e = omega (arith, place-high h N c b l e, start-mono h N (suc c) 512 k)

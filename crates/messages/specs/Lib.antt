@@ -1,3 +1,1 @@
 pub mod Memory
-pub mod Loops
-pub mod Standing

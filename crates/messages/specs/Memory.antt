@@ -2,13 +2,13 @@
 -- which a bit's messages stand side by side. Assumes nothing.
 use Prim.Native.Nat.{ℕ, _+_, _<_, _≤_}
 use mathlib.Core.Path.{_≡_}
-use mathlib.Core.Bool.{Bool, true, false, _&&_}
+use mathlib.Core.Bool.{Bool, true, false}
 use mathlib.Core.List.{List}
 use lib.ListN.{length, getD}
 use lib.Ieee.{Float}
 use Rattle.parity.specs.Finite.{sum, count}
 use Rattle.parity.specs.Matrix.{Matrix, lent}
-use Rattle.parity.specs.Soft.{Messages, messageAt, toBits, toChecks, bitSends, sound, but}
+use Rattle.parity.specs.Soft.{Messages, messageAt}
 use Rattle.parity.specs.declared.Channel.{Channel}
 
 -- the first place of check c: the ones of the checks before it, of N bits
@@ -52,33 +52,6 @@ pub record Written (i : ℕ) (v : Channel) (ts : List ℕ) (xs : List Float) (ts
   pub here : messageAt ts' xs' i ≡ v
   pub other : (t : ℕ) → (t ≡ i → ⊥) → messageAt ts' xs' t ≡ messageAt ts xs t
 
--- the places before the row are as they were
-pub record Low (ts : List ℕ) (xs : List Float) (ts' : List ℕ) (xs' : List Float) : Type 0 where
-  pub tags : length ts' ≡ length ts
-  pub values : length xs' ≡ length xs
-  pub at : (i : ℕ) → i < 65024 → messageAt ts' xs' i ≡ messageAt ts xs i
-
--- In w places from a on the lists hold g now, and elsewhere what they held.
-pub record Part (a w : ℕ) (g : ℕ → Channel) (ts : List ℕ) (xs : List Float) (ts' : List ℕ) (xs' : List Float) : Type 0 where
-  pub tags : length ts' ≡ length ts
-  pub values : length xs' ≡ length xs
-  pub new : (t : ℕ) → t < w → messageAt ts' xs' (a + t) ≡ g t
-  pub before : (i : ℕ) → i < a → messageAt ts' xs' i ≡ messageAt ts xs i
-  pub after : (i : ℕ) → a + w ≤ i → messageAt ts' xs' i ≡ messageAt ts xs i
-
--- the values in the places from a on
-abbrev pub from : ℕ → List ℕ → List Float → ℕ → Channel
-from a ts xs t = messageAt ts xs (a + t)
-
--- every soft message of the M checks is a number
-pub record SoundAll (h : Matrix) (N M : ℕ) (m : Messages) : Type 0 where
-  pub at : (c b : ℕ) → c < M → b < N → h c b ≡ true → sound (m c b) ≡ true
-
--- The first c of M checks have answered; the others' messages are as they were.
-pub record Answering (h : Matrix) (N M c : ℕ) (old : Messages) (ts : List ℕ) (xs : List Float) : Type 0 where
-  pub done : (d b : ℕ) → d < c → b < N → h d b ≡ true → held h N ts xs d b ≡ toBits h N old d b
-  pub left : (d b : ℕ) → c ≤ d → d < M → b < N → h d b ≡ true → held h N ts xs d b ≡ old d b
-
 -- the matrix whose columns are g: bit, then check
 abbrev pub across : Matrix → Matrix
 across g c b = g b c
@@ -104,52 +77,9 @@ pub record Cursors (h : Matrix) (N b : ℕ) (at : List ℕ) : Type 0 where
 abbrev pub AtBit : List ℕ → ℕ → List ℕ → Type 0
 AtBit cols b at = (b < 512) × Cursors (across (lent 8 cols)) 512 b at
 
--- The cursors of the checks below c are those of the next bit.
-pub record Moving (h : Matrix) (N b c : ℕ) (at : List ℕ) : Type 0 where
-  pub size : length at ≡ 512
-  pub new : (d a : ℕ) → h d a ≡ true → d < c → getD at d 0 ≡ place h N d (b + 1)
-  pub old : (d a : ℕ) → h d a ≡ true → c ≤ d → getD at d 0 ≡ place h N d b
-
 -- what the messages at bit b are, by check
 abbrev pub heldAt : Matrix → ℕ → List ℕ → List Float → ℕ → ℕ → Channel
 heldAt h N ts xs b c = held h N ts xs c b
-
--- The row holds the values f of the numbers below N that pass p.
-pub record Collected (p : ℕ → Bool) (N : ℕ) (f : ℕ → Channel) (ts : List ℕ) (xs : List Float) : Type 0 where
-  pub at : (i : ℕ) → i < N → p i ≡ true → messageAt ts xs (65024 + count i p) ≡ f i
-
--- Of bit b's messages, those with the checks below c stand in the row, d of them, and these checks' cursors have gone on.
-pub record Gathering (h : Matrix) (N b c : ℕ) (ts : List ℕ) (xs : List Float) (d : ℕ) (at : List ℕ) (ts' : List ℕ) (xs' : List Float) : Type 0 where
-  pub many : d ≡ count c (column h b)
-  pub moving : Moving h N b c at
-  pub low : Low ts xs ts' xs'
-  pub row : Collected (column h b) c (heldAt h N ts xs b) ts' xs'
-
--- The messages of bit b with the checks from l on below c are those of the row, and every other place is as it was.
-pub record Spread (h : Matrix) (N b l c : ℕ) (ts : List ℕ) (xs : List Float) (ts' : List ℕ) (xs' : List Float) : Type 0 where
-  pub tags : length ts' ≡ length ts
-  pub values : length xs' ≡ length xs
-  pub done : (d : ℕ) → l ≤ d → d < c → h d b ≡ true → held h N ts' xs' d b ≡ messageAt ts xs (65024 + count d (column h b))
-  pub rest : (d a : ℕ) → a < N → h d a ≡ true → (a ≡ b → l ≤ d → c ≤ d) → held h N ts' xs' d a ≡ held h N ts xs d a
-  pub above : Above h N ts xs ts' xs'
-  pub row : (t : ℕ) → messageAt ts' xs' (65024 + t) ≡ messageAt ts xs (65024 + t)
-
--- The first b bits have sent; the messages at the others are as they were.
-pub record Sending (h : Matrix) (N M b : ℕ) (channel : ℕ → Channel) (old : Messages) (ts : List ℕ) (xs : List Float) : Type 0 where
-  pub done : (d a : ℕ) → d < M → a < N → a < b → h d a ≡ true → held h N ts xs d a ≡ toChecks h M channel old d a
-  pub left : (d a : ℕ) → d < M → a < N → b ≤ a → h d a ≡ true → held h N ts xs d a ≡ old d a
-
--- Bit b, with the channel value v, has sent to its M checks; every other message is as it was.
-pub record BitSent (h : Matrix) (N M b : ℕ) (v : Channel) (ts : List ℕ) (xs : List Float) (ts' : List ℕ) (xs' : List Float) : Type 0 where
-  pub tags : length ts' ≡ length ts
-  pub values : length xs' ≡ length xs
-  pub done : (d : ℕ) → d < M → h d b ≡ true → held h N ts' xs' d b ≡ bitSends v M (λ e. h e b && but d e) (heldAt h N ts xs b)
-  pub rest : (d a : ℕ) → d < M → a < N → h d a ≡ true → (a ≡ b → ⊥) → held h N ts' xs' d a ≡ held h N ts xs d a
-  pub above : Above h N ts xs ts' xs'
-
--- the result of each bit, from the messages that the lists hold
-unfoldable pub resultOf : Matrix → ℕ → ℕ → (ℕ → Channel) → List ℕ → List Float → ℕ → Channel
-resultOf h N M channel ts xs b = bitSends (channel b) M (column h b) (heldAt h N ts xs b)
 
 -- The messages of the first c checks, and those of check c with the first b bits, are their bits' values m.
 pub record Filling (h : Matrix) (N c b : ℕ) (m : ℕ → Channel) (ts : List ℕ) (xs : List Float) : Type 0 where

@@ -10,18 +10,18 @@ use lib.Ieee.{Float}
 use Rattle.parity.specs.Matrix.{Matrix}
 use Rattle.parity.specs.Soft.{Messages, messageAt, settled, bitSends, toBits, toChecks, sentAfter, resultAfter, sound, byteFor, floatFor, but}
 use Rattle.parity.specs.SoftPromises.{Agree}
-use Rattle.messages.specs.Memory.{start, place, held, Above, Within, Holds, Answering, SoundAll, resultOf}
-use Rattle.messages.specs.Loops.{SentAll, Round, Last}
-use Rattle.messages.specs.Standing.{Twice, Kept}
+use Rattle.messages.specs.Memory.{start, place, held, Above, Within, Holds}
+use Rattle.phases.specs.Phases.{Answering, SoundAll, resultOf}
+use Rattle.phases.specs.Loops.{SentAll, Round, Last}
+use Rattle.standing.specs.Standing.{Twice, Kept}
 use Rattle.soft.specs.Store.{Holding, Sounds}
 use Rattle.parity.specs.declared.Channel.{Channel}
 use Rattle.parity.proofs.Soft.Sound.{check-sound, bit-sound}
 use Rattle.parity.proofs.Soft.Cong.{gathered-at, check-at'}
 use Rattle.parity.proofs.Soft.Standing.{sent-standing}
 use Rattle.min_sum.specs.Rounds.{Ready}
-use Rattle.messages.proofs.Row.{laid-same}
-use Rattle.messages.proofs.Places.{start-mono, start-end, place-high}
-use Rattle.messages.proofs.Sends.{result-is}
+use Rattle.messages.proofs.Places.{laid-same, start-mono, start-end, place-high}
+use Rattle.phases.proofs.Sends.{result-is}
 
 -- lists of the same lengths are memory too
 pub ready-same : (ws : List ℕ) (M : ℕ) (w : List ℕ) (f : List Float) (ts : List ℕ) (xs : List Float) → Ready ws M w f ts xs → (us : List ℕ) (ys : List Float)

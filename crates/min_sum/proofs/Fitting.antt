@@ -14,8 +14,7 @@ use Rattle.parity.specs.Sound.{Sound}
 use Rattle.parity.proofs.Finite.Sums.{count-bound, count-end}
 use Rattle.parity.proofs.Matrix.Sound.{sound-rule}
 use Rattle.messages.specs.Memory.{start, Laid, Inner, Within}
-use Rattle.messages.proofs.Places.{start-zero, start-suc}
-use Rattle.messages.proofs.Row.{none-counted}
+use Rattle.messages.proofs.Places.{start-zero, start-suc, none-counted}
 
 module _ (h : Matrix) (n m k : ℕ) (S : Sound h n m k) where
   pub inner : (w : List ℕ) (f : List Float) → length w ≡ n + k → length f ≡ n + k → Inner h w f

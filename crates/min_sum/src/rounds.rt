@@ -1,18 +1,19 @@
 // The rounds.
-use messages::bit_phase::result_all;
-use messages::bit_phase::send_all;
-use messages::check_phase::checks_send;
 use messages::filling::fill_all;
-use messages::standing::keep;
-use messages::standing::renew;
+use phases::bits::result_all;
+use phases::bits::send_all;
+use phases::checks::checks_send;
+use standing::keep;
+use standing::renew;
 ghost use mathlib.Core.Path.{_≡_};
 ghost use Prim.Native.Nat.{_≤_};
 ghost use lib.ListN.{length};
 ghost use Rattle.parity.specs.Matrix.{lent};
 ghost use Rattle.parity.specs.Soft.{messageAt, sentAfter, resultAfter};
 ghost use Rattle.soft.specs.Store.{Holding};
-ghost use Rattle.messages.specs.Memory.{held, SoundAll, Holds};
-ghost use Rattle.messages.specs.Loops.{Round, Last};
+ghost use Rattle.messages.specs.Memory.{held, Holds};
+ghost use Rattle.phases.specs.Phases.{SoundAll};
+ghost use Rattle.phases.specs.Loops.{Round, Last};
 ghost use Rattle.min_sum.specs.Rounds.{Ready, Turned};
 
 // One round: all checks, then all bits.

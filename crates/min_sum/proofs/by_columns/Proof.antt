@@ -4,7 +4,7 @@ use lib.ListN.{length, length-replicate}
 use mathlib.Core.Path.{ap, _∙_}
 use native.Mathlib.Omega.{arith}
 use Rattle.rows.proofs.Zeros.{empty}
-use Rattle.messages.proofs.Sends.{across-is}
+use Rattle.phases.proofs.Sends.{across-is}
 use Rattle.parity.specs.Matrix.{lent}
 use borrow.Author.Needs.{needs}
 use Rattle.min_sum.proofs.by_columns.Statement.{statement}

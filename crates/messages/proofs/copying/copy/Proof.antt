@@ -1,5 +1,5 @@
 -- `copy` meets its contract. Assumes nothing.
-use Rattle.messages.proofs.Row.{written}
+use Rattle.messages.proofs.Places.{written}
 use borrow.Author.Needs.{needs}
 use Rattle.messages.proofs.copying.copy.Statement.{statement}
 use Rattle.messages.proofs.copying.copy.Tie as tie

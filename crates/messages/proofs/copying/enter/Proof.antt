@@ -1,5 +1,5 @@
 -- `enter` meets its contract. Assumes nothing.
-use Rattle.messages.proofs.Row.{written}
+use Rattle.messages.proofs.Places.{written}
 use borrow.Author.Needs.{needs}
 use Rattle.messages.proofs.copying.enter.Statement.{statement}
 use Rattle.messages.proofs.copying.enter.Tie as tie

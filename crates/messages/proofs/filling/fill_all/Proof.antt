@@ -1,6 +1,5 @@
 -- `fill_all` meets its contract. Assumes nothing.
-use Rattle.messages.proofs.Places.{start-zero}
-use Rattle.messages.proofs.Row.{laid-same}
+use Rattle.messages.proofs.Places.{start-zero, laid-same}
 use Rattle.messages.proofs.Fill.{filling-none, filling-all}
 use Rattle.messages.specs.Memory.{start, Filling}
 use Rattle.parity.specs.Matrix.{lent}

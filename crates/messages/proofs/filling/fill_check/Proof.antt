@@ -1,6 +1,5 @@
 -- `fill_check` meets its contract. Assumes nothing.
-use Rattle.messages.proofs.Cursor.{first-place}
-use Rattle.messages.proofs.Row.{laid-same}
+use Rattle.messages.proofs.Places.{first-place, laid-same}
 use Rattle.messages.proofs.Fill.{place-last, filling-check}
 use Rattle.messages.specs.Memory.{place, Filling}
 use Rattle.parity.specs.Matrix.{lent}

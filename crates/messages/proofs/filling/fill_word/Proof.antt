@@ -1,7 +1,6 @@
 -- `fill_word` meets its contract. Assumes nothing.
 use Rattle.messages.proofs.Word.{Left, Taken, left-all, left-none, left-taken}
-use Rattle.messages.proofs.Cursor.{place-yes}
-use Rattle.messages.proofs.Row.{place-small}
+use Rattle.messages.proofs.Places.{place-yes, place-small}
 use Rattle.messages.proofs.Fill.{place-gap, filling-gap, filling-one}
 use Rattle.messages.specs.Memory.{place, Filling}
 use Rattle.parity.proofs.Matrix.Rest.{rest-less}

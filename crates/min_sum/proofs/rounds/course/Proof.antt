@@ -1,8 +1,8 @@
 -- `course` meets its contract. Assumes nothing.
 use Rattle.min_sum.proofs.Course.{ready-same, round-sound, round-more, holds-kept, round-stands}
-use Rattle.messages.proofs.Kept.{twice-kept}
+use Rattle.standing.proofs.Kept.{twice-kept}
 use Rattle.messages.specs.Memory.{start, Holds}
-use Rattle.messages.specs.Standing.{Twice}
+use Rattle.standing.specs.Standing.{Twice}
 use Rattle.parity.specs.Soft.{messageAt, sentAfter}
 use Rattle.parity.specs.Matrix.{lent}
 use lib.ListN.{length}

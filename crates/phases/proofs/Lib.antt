@@ -1,0 +1,4 @@
+pub mod Compact
+pub mod Parts
+pub mod Answering
+pub mod Sends

@@ -15,9 +15,9 @@ use Rattle.parity.specs.Matrix.{Matrix, put}
 use Rattle.parity.specs.Words.{inside}
 use Rattle.parity.proofs.Finite.Firsts.{any-none}
 use Rattle.parity.proofs.Matrix.Lent.{put-here, put-place}
-use Rattle.residue.specs.Rows.{alone, aloneOdd}
+use Rattle.pivots.specs.Pivots.{alone, aloneOdd}
 use Rattle.residue.proofs.Reading.{inside-in}
-use Rattle.residue.proofs.Writing.{pivot-stays, pivots-none, pivots-more}
+use Rattle.pivots.proofs.Writing.{pivot-stays, pivots-none, pivots-more}
 use Rattle.lanes.specs.Lanes.{ran, solvedBy}
 use Rattle.plan.specs.Order.{Own, Listed}
 use Rattle.plan.proofs.Ordering.{ran-same}

@@ -22,7 +22,8 @@ use Rattle.result.proofs.Agreeing.{agreeing-wider}
 use Rattle.result.proofs.Word.{erased-held}
 use Rattle.steps.proofs.Held.{Held, held-reached}
 use Rattle.elimination.specs.Reduction.{Reduction}
-use Rattle.residue.specs.Rows.{Gathered, EvenFrom}
+use Rattle.pivots.specs.Pivots.{EvenFrom}
+use Rattle.residue.specs.Rows.{Gathered}
 use Rattle.residue.specs.Sets.{Apart, Determined}
 use Rattle.residue.proofs.Gathering.{narrow}
 use Rattle.residue.proofs.Solving.{uneven-none, eliminated-none, eliminated-some}

@@ -11,7 +11,7 @@ use Rattle.parity.specs.Words.{inside, odd}
 use Rattle.search.specs.Next.{NoSingle}
 use Rattle.steps.specs.Steps.{Reached}
 use Rattle.lanes.specs.Lanes.{ran, Low}
-use Rattle.residue.specs.Rows.{PivotsWritten}
+use Rattle.pivots.specs.Pivots.{PivotsWritten}
 
 -- no bit is in both sets
 pub record Free (e o : ℕ → Bool) : Type 0 where

@@ -1,4 +1,3 @@
 pub mod Gathering
-pub mod Writing
 pub mod Reading
 pub mod Solving

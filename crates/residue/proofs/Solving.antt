@@ -27,7 +27,8 @@ use Rattle.elimination.specs.Reduction.{Reduced, Reduction, pivot}
 use Rattle.elimination.proofs.Clearing.{same-at}
 use Rattle.elimination.proofs.Turns.{reduced-in, reduction-below}
 use Rattle.elimination.proofs.Reduced.{pivot-at, pivot-of, the-row}
-use Rattle.residue.specs.Rows.{Copied, Gathered, EvenFrom, alone, aloneOdd, PivotsWritten, Low}
+use Rattle.pivots.specs.Pivots.{EvenFrom, alone, aloneOdd, PivotsWritten, Low}
+use Rattle.residue.specs.Rows.{Copied, Gathered}
 use Rattle.residue.specs.Sets.{Apart, Posed, Determined, Eliminated}
 use Rattle.residue.proofs.Gathering.{narrow}
 use Rattle.residue.proofs.Reading.{inside-in, consistent, some-agrees, at-pivot, at-free, at-bound}

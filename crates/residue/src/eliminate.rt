@@ -1,8 +1,8 @@
 // Elimination in the bits of the residue, in as much room as the checks take.
 use crate::gather::gather;
-use crate::pivots::even_from;
-use crate::pivots::write_pivots;
 use elimination::reduce_in;
+use pivots::even_from;
+use pivots::write_pivots;
 ghost use Prim.Native.Nat.{_*_, _≤_};
 ghost use lib.ListN.{length};
 ghost use Rattle.residue.specs.Sets.{Posed, Eliminated};

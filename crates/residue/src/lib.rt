@@ -1,7 +1,6 @@
 // What the checks determine of the bits that peeling leaves, by elimination in these bits alone.
 mod eliminate;
 pub mod gather;
-mod pivots;
 
 use crate::eliminate::eliminate;
 use elimination::width_of;

@@ -10,8 +10,8 @@ use Rattle.parity.specs.Words.{inside}
 use Rattle.parity.proofs.Matrix.Lent.{row-room}
 use Rattle.parity.proofs.Words.Sets.{odd-even, not-odd-even}
 use borrow.Author.Needs.{needs}
-use Rattle.residue.proofs.pivots.even_from.Statement.{statement}
-use Rattle.residue.proofs.pivots.even_from.Tie as tie
+use Rattle.pivots.proofs.even_from.Statement.{statement}
+use Rattle.pivots.proofs.even_from.Tie as tie
 
 abbrev Inv-loop : tie.InvT-loop
 Inv-loop rows width first end set c₀ c =

@@ -5,11 +5,11 @@ use native.Mathlib.Omega.{arith}
 use lib.ListN.{length}
 use Rattle.parity.specs.Matrix.{lent}
 use Rattle.parity.proofs.Matrix.Lent.{row-room}
-use Rattle.residue.specs.Rows.{PivotsWritten}
-use Rattle.residue.proofs.Writing.{pivots-none, pivots-more}
+use Rattle.pivots.specs.Pivots.{PivotsWritten}
+use Rattle.pivots.proofs.Writing.{pivots-none, pivots-more}
 use borrow.Author.Needs.{needs}
-use Rattle.residue.proofs.pivots.write_pivots.Statement.{statement}
-use Rattle.residue.proofs.pivots.write_pivots.Tie as tie
+use Rattle.pivots.proofs.write_pivots.Statement.{statement}
+use Rattle.pivots.proofs.write_pivots.Tie as tie
 
 abbrev Inv-loop : tie.InvT-loop
 Inv-loop rows width pivots r residue known left₀ values₀ c₀ left values c =

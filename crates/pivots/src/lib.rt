@@ -7,7 +7,7 @@ ghost use mathlib.Core.Path.{_≡_};
 ghost use Prim.Native.Nat.{_+_, _*_, _<_, _≤_};
 ghost use lib.ListN.{length};
 ghost use Rattle.parity.specs.Matrix.{lent};
-ghost use Rattle.residue.specs.Rows.{EvenFrom, PivotWritten, PivotsWritten, Low};
+ghost use Rattle.pivots.specs.Pivots.{EvenFrom, PivotWritten, PivotsWritten, Low};
 
 // Whether the rows from `first` up to `end` contain an even number of the set's bits each.
 pub fn even_from(rows: &[u64], width: usize, first: usize, end: usize, set: &[u64]) -> bool

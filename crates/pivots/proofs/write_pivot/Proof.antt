@@ -1,10 +1,10 @@
 -- `pivots::write_pivot` meets its contract. Assumes nothing.
 use mathlib.Core.Path.{sym, _∙_}
 use Rattle.parity.specs.Matrix.{lent}
-use Rattle.residue.proofs.Writing.{pivot-stays, pivot-one, pivot-zero}
+use Rattle.pivots.proofs.Writing.{pivot-stays, pivot-one, pivot-zero}
 use borrow.Author.Needs.{needs}
-use Rattle.residue.proofs.pivots.write_pivot.Statement.{statement}
-use Rattle.residue.proofs.pivots.write_pivot.Tie as tie
+use Rattle.pivots.proofs.write_pivot.Statement.{statement}
+use Rattle.pivots.proofs.write_pivot.Tie as tie
 
 common-requires : tie.Need-common-requires
 common-requires c κs = search needs

@@ -12,7 +12,7 @@ use Rattle.parity.specs.Finite.{count, any}
 use Rattle.parity.specs.Matrix.{Matrix, put}
 use Rattle.parity.specs.Words.{inside, odd}
 use Rattle.parity.proofs.Matrix.Lent.{put-here, put-place}
-use Rattle.residue.specs.Rows.{alone, aloneOdd, PivotWritten, PivotsWritten}
+use Rattle.pivots.specs.Pivots.{alone, aloneOdd, PivotWritten, PivotsWritten}
 
 -- Row c and the set e have s bits in common.
 module _ (g : Matrix) (B : ℕ) (e o : ℕ → Bool) (c b s : ℕ) (common : s ≡ count B (λ t. g c t && e t)) (l v : Matrix) where

@@ -88,6 +88,9 @@ fn a_words(words: &[u64]) {
     let mut g = [7.0f32, 7.0, 7.0, -0.75, 7.0, 0.1, -0.3];
     line(b"A, mixed", words, 7, 3, 0, 1, &mut mixed, &mut g);
     line(b"A, mixed, further", words, 7, 3, 0, 20, &mut mixed, &mut g);
+}
+
+fn a_edges(words: &[u64]) {
     let mut zero = [3, 3, 3, 3, 3, 2, 3];
     let mut z = [-0.0f32, 0.0, -1.0, 0.0, -0.0, 9.0, -3.0];
     line(b"A, zeros", words, 7, 3, 0, 2, &mut zero, &mut z);
@@ -104,7 +107,7 @@ fn a_words(words: &[u64]) {
     line(b"A, at the limit", words, 7, 3, 0, 9, &mut large, &mut l);
 }
 
-fn a_refused(words: &[u64]) {
+fn a_rounds(words: &[u64]) {
     let mut w = [3, 0, 2, 1, 3, 3, 0];
     let mut f = [1.0f32, 0.0, 0.0, 0.0, -1.0, 0.5, 0.0];
     line(b"A", words, 7, 3, 0, 0, &mut w, &mut f);
@@ -121,8 +124,11 @@ fn a_refused(words: &[u64]) {
         &mut w,
         &mut f,
     );
+}
+
+fn a_wrong(words: &[u64]) {
     let mut v = [3, 0, 2, 1, 3, 3, 0];
-    f[4] = -1048576.125;
+    let mut f = [2.0f32, 0.0, 0.0, 0.0, -1048576.125, 0.0, 0.0];
     f[5] = infinity();
     line(b"A, two wrong floats", words, 7, 3, 0, 1, &mut v, &mut f);
     v[5] = 4;
@@ -136,7 +142,9 @@ fn a_refused(words: &[u64]) {
 fn case_a() {
     let words = samples::cases::a();
     a_words(&words);
-    a_refused(&words);
+    a_edges(&words);
+    a_rounds(&words);
+    a_wrong(&words);
 }
 
 // D, whose word ends as peeling ends.

@@ -13,7 +13,7 @@ use Rattle.parity.proofs.Record.Reading.{split-none}
 use Rattle.parity.proofs.Record.ChecksBack.{checks-sound}
 use Rattle.reading.specs.Judge.{ChecksRight, Ends, Breaks}
 use Rattle.carried.specs.Perform.{Performs}
-use Rattle.filling.specs.Fill.{Filled}
+use Rattle.record.specs.Fill.{Filled}
 
 module _ (f : Form) (n m : ℕ) (source : List ℕ) (p : ℕ) (R : ChecksRight f n m source p) where
   pub right-sound : Sound (R .matrix) n m 0

@@ -1,8 +1,10 @@
 // Records: a matrix is loaded from one, and written as one.
+mod fill;
+
+use crate::fill::fill;
 use carried::perform::perform;
 use carried::words::no_words;
 use carried::words::put_words;
-use filling::fill;
 use matrix::Accepting;
 use matrix::accept;
 use parity::Form;

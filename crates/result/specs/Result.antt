@@ -41,7 +41,7 @@ pub record WordWritten (i x : ℕ) (o : ℕ → Bool) (w w' : List ℕ) : Type 0
   pub here : (j : ℕ) → j < 64 → byteOf w' (i * 64 + j) ≡ cond (bitOf x j) (one (o (i * 64 + j))) (byteOf w (i * 64 + j))
   pub other : (b : ℕ) → (b / 64 ≡ i → ⊥) → byteOf w' b ≡ byteOf w b
 
--- r says whether they are, and the word w is filled, or stays
+-- r says whether each check without an erased bit is even; if so, the word w is filled, and else it stays
 pub record Finished (h : Matrix) (N M : ℕ) (s e o : ℕ → Bool) (w : List ℕ) (r : Bool) (w' : List ℕ) : Type 0 where
   pub told : r ≡ agreeing h N M e o
   pub word : w' ≡ cond r (listFrom 0 (length w) (filled s e o (byteOf w))) w

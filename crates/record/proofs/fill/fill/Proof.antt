@@ -1,13 +1,13 @@
--- `filling::fill` meets its contract. Assumes nothing.
+-- `fill::fill` meets its contract. Assumes nothing.
 use mathlib.Core.Path.{_≡_, _∙_}
 use Prim.Native.Nat.{_-_, _≤_}
 use native.Mathlib.Omega.{arith}
 use borrow.Author.Needs.{needs}
 use lib.ListN.{length}
 use Rattle.parity.specs.Matrix.{lent}
-use Rattle.filling.proofs.Filling.{zeroed-none, Filling, filling-none, filling-more, filling-count, filling-payloads, filling-next, filling-end}
-use Rattle.filling.proofs.fill.Statement.{statement}
-use Rattle.filling.proofs.fill.Tie as tie
+use Rattle.record.proofs.Filling.{zeroed-none, Filling, filling-none, filling-more, filling-count, filling-payloads, filling-next, filling-end}
+use Rattle.record.proofs.fill.fill.Statement.{statement}
+use Rattle.record.proofs.fill.fill.Tie as tie
 
 abbrev Inv-loop : tie.InvT-loop
 Inv-loop source words₀ m p₀ c₀ words p c = (c ≤ m) × (length words ≡ 4096) × Filling m source p c (lent 8 words)

@@ -1,13 +1,13 @@
--- `filling::below` meets its contract. Assumes nothing.
+-- `fill::below` meets its contract. Assumes nothing.
 use mathlib.Core.Path.{_≡_}
 use mathlib.Core.Logic.{⊎-elim}
 use Prim.Native.Nat.{_-_, _≤_}
 use native.Mathlib.Omega.{arith}
 use borrow.Author.Needs.{needs}
-use Rattle.filling.specs.Fill.{Parted}
-use Rattle.filling.proofs.Filling.{part-none, part-low, part-high}
-use Rattle.filling.proofs.below.Statement.{statement}
-use Rattle.filling.proofs.below.Tie as tie
+use Rattle.record.specs.Fill.{Parted}
+use Rattle.record.proofs.Filling.{part-none, part-low, part-high}
+use Rattle.record.proofs.fill.below.Statement.{statement}
+use Rattle.record.proofs.fill.below.Tie as tie
 
 abbrev Inv-loop : tie.InvT-loop
 Inv-loop source from count k₀ i₀ k i = (i ≤ count) × Parted source from i k

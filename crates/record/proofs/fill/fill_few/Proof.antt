@@ -1,4 +1,4 @@
--- `filling::fill_few` meets its contract. Assumes nothing.
+-- `fill::fill_few` meets its contract. Assumes nothing.
 use mathlib.Core.Path.{_≡_, refl, _∙_}
 use Prim.Native.Nat.{_-_, _≤_}
 use native.Mathlib.Omega.{arith}
@@ -6,9 +6,9 @@ use borrow.Author.Needs.{needs}
 use lib.ListN.{length}
 use Rattle.parity.specs.Matrix.{lent}
 use Rattle.reading.specs.Read.{puts}
-use Rattle.filling.proofs.Filling.{puts-next}
-use Rattle.filling.proofs.fill_few.Statement.{statement}
-use Rattle.filling.proofs.fill_few.Tie as tie
+use Rattle.record.proofs.Filling.{puts-next}
+use Rattle.record.proofs.fill.fill_few.Statement.{statement}
+use Rattle.record.proofs.fill.fill_few.Tie as tie
 
 abbrev Inv-loop : tie.InvT-loop
 Inv-loop source from count words₀ c i₀ words i = (i ≤ count) × (length words ≡ length words₀) × (lent 8 words ≡ puts source c from i (lent 8 words₀))

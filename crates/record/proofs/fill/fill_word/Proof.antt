@@ -1,9 +1,9 @@
--- `filling::fill_word` meets its contract. Assumes nothing.
+-- `fill::fill_word` meets its contract. Assumes nothing.
 use native.Mathlib.Omega.{arith}
 use borrow.Author.Needs.{needs}
-use Rattle.filling.proofs.Filling.{word-puts}
-use Rattle.filling.proofs.fill_word.Statement.{statement}
-use Rattle.filling.proofs.fill_word.Tie as tie
+use Rattle.record.proofs.Filling.{word-puts}
+use Rattle.record.proofs.fill.fill_word.Statement.{statement}
+use Rattle.record.proofs.fill.fill_word.Tie as tie
 
 mul-gather : tie.Need-mul-gather
 mul-gather c = search needs

@@ -1,13 +1,13 @@
--- `filling::fill_many` meets its contract. Assumes nothing.
+-- `fill::fill_many` meets its contract. Assumes nothing.
 use mathlib.Core.Path.{_≡_, ap, _∙_}
 use Prim.Native.Nat.{ℕ, _+_, _-_}
 use native.Mathlib.Omega.{arith}
 use borrow.Author.Needs.{needs}
 use Rattle.parity.specs.Matrix.{lent}
 use Rattle.reading.specs.Read.{puts}
-use Rattle.filling.proofs.Filling.{low-word, high-word, puts-more}
-use Rattle.filling.proofs.fill_many.Statement.{statement}
-use Rattle.filling.proofs.fill_many.Tie as tie
+use Rattle.record.proofs.Filling.{low-word, high-word, puts-more}
+use Rattle.record.proofs.fill.fill_many.Statement.{statement}
+use Rattle.record.proofs.fill.fill_many.Tie as tie
 
 below-requires : tie.Need-below-requires
 below-requires c κs = search needs

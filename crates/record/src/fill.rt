@@ -8,7 +8,7 @@ ghost use Prim.Native.Nat.{_+_, _*_, _≤_, _<_};
 ghost use lib.ListN.{length};
 ghost use Rattle.parity.specs.Matrix.{lent};
 ghost use Rattle.reading.specs.Read.{puts};
-ghost use Rattle.filling.specs.Fill.{Payloads, InWord, Parted, gathered, Checks, Filled};
+ghost use Rattle.record.specs.Fill.{Payloads, InWord, Parted, gathered, Checks, Filled};
 
 // The word `x` with the bits, modulo 64, of `count` words from place `from` on.
 fn gather(source: &[u32], from: usize, count: usize, x: u64) -> u64

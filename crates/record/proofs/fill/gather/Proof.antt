@@ -1,12 +1,12 @@
--- `filling::gather` meets its contract. Assumes nothing.
+-- `fill::gather` meets its contract. Assumes nothing.
 use mathlib.Core.Path.{_≡_, refl}
 use Prim.Native.Nat.{_-_, _≤_}
 use native.Mathlib.Omega.{arith}
 use borrow.Author.Needs.{needs}
-use Rattle.filling.specs.Fill.{gathered}
-use Rattle.filling.proofs.Filling.{gathered-next}
-use Rattle.filling.proofs.gather.Statement.{statement}
-use Rattle.filling.proofs.gather.Tie as tie
+use Rattle.record.specs.Fill.{gathered}
+use Rattle.record.proofs.Filling.{gathered-next}
+use Rattle.record.proofs.fill.gather.Statement.{statement}
+use Rattle.record.proofs.fill.gather.Tie as tie
 
 abbrev Inv-loop : tie.InvT-loop
 Inv-loop source from count x y₀ i₀ y i = (i ≤ count) × (y ≡ gathered source from i x)

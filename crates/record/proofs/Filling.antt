@@ -18,7 +18,7 @@ use Rattle.parity.proofs.Matrix.Lent.{lent-in, lent-out, raised-put}
 use Rattle.parity.proofs.Record.Reading.{readingAt, bits, opens, read-open, read-bit, right-more, right-open, right-more-bit, right-bit, right-done}
 use Rattle.reading.specs.Read.{puts}
 use Rattle.rows.specs.Zeros.{Zeroed}
-use Rattle.filling.specs.Fill.{Payloads, InWord, Parted, gathered, Checks, Filled}
+use Rattle.record.specs.Fill.{Payloads, InWord, Parted, gathered, Checks, Filled}
 
 abbrev none : Matrix
 none c b = false

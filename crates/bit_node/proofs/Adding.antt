@@ -10,24 +10,11 @@ use lib.Seq.{get_or-set_same, get_or-set_other}
 use lib.Ieee.{Float, nan}
 use Rattle.parity.specs.Soft.{with_next, settled, gathered, bit_sends, byte_for, float_for, message_at, but}
 use Rattle.soft.specs.Store.{Holding, Partly}
-use Rattle.bit_node.specs.Sums.{every, bit_answer, part_sum, joined_with, settled_of, Reads}
+use Rattle.bit_node.specs.Sums.{every, bit_answer, part_sum, joined_with, settled_of}
 use Rattle.parity.specs.declared.Channel.{Channel}
 use Rattle.parity.proofs.Soft.Cong.{gathered_cong}
 use Rattle.parity.proofs.Soft.Counts.{but_at, but_other}
-use Rattle.soft.proofs.Places.{read_back, partly_new, message_other}
-
--- what is put in a place is read there
-message_put : (ts : List ℕ) (xs : List Float) (i : ℕ) (v : Channel) → i < length ts → i < length xs → message_at (set ts i (byte_for v)) (set xs i (float_for v)) i ≡ v
-unfolding message_at
-message_put ts xs i v k l = rw (get_or-set_same ts i (byte_for v) 0 k, get_or-set_same xs i (float_for v) nan l) (read_back v)
-
--- what places hold is read there
-pub partly_reads : (d i : ℕ) (g f : ℕ → Channel) (ts : List ℕ) (xs : List Float) → Partly d i g f ts xs → Reads d i g f ts xs
-partly_reads d i g f ts xs P = record { tags = P.tags; values = P.values; new = partly_new d i g f ts xs P; rest = P.rest }
-
--- before any place is changed
-pub reads_start : (g : ℕ → Channel) (ts : List ℕ) (xs : List Float) → length xs ≡ length ts → Reads (length ts) 0 g (message_at ts xs) ts xs
-reads_start g ts xs e = record { tags = refl; values = e; new = λ t k. absurd (omega arith); rest = λ t k l. refl }
+use Rattle.soft.proofs.Places.{partly_new, message_other, holding_at}
 
 module _ (v : Channel) (f : ℕ → Channel) where
   pub sum_none : (t : ℕ) → part_sum v f 0 t ≡ v
@@ -56,32 +43,37 @@ module _ (v : Channel) (f : ℕ → Channel) where
   sum_answer n t = refl
 
   -- value j is read, joined to the first j, and then replaced by the sum before it
-  pub sums_more : (d j : ℕ) → j < d → (ts : List ℕ) (xs : List Float) → Reads d j (part_sum v f j) f ts xs
-      → (us : List ℕ) (ys : List Float) → Reads d j (joined_with (message_at ts xs) (f j)) (message_at ts xs) us ys
-      → (w : Channel) → w ≡ part_sum v f j j → Reads d (j + 1) (part_sum v f (j + 1)) f (set us j (byte_for w)) (set ys j (float_for w))
-  sums_more d j k ts xs P us ys Q w e = record {
-    tags = length-set us j _ ∙ Q.tags;
-    values = length-set ys j _ ∙ Q.values;
-    new = λ t l. elim (ℕ_discrete t j) [
-      | yes z ↦ rw z (message_put us ys j w (omega (arith, Q.tags)) (omega (arith, Q.values)) ∙ e ∙ sym (sum_at j))
-      | no z ↦
-          message_other us ys j t (byte_for w) (float_for w) z
-          ∙ Q.new t (omega arith)
-          ∙ ap (λ u. with_next u (f j)) (P.new t (omega arith))
-          ∙ sym (sum_other j t (λ y. omega arith))
-    ];
-    rest = λ t a b. message_other us ys j t (byte_for w) (float_for w) (λ z. omega arith) ∙ Q.rest t (omega arith) b ∙ P.rest t (omega arith) b;
-  }
+  pub sums_more : (d j : ℕ) → j < d → (ts : List ℕ) (xs : List Float) → Partly d j (part_sum v f j) f ts xs
+      → (us : List ℕ) (ys : List Float) → Partly d j (joined_with (message_at ts xs) (f j)) (message_at ts xs) us ys
+      → Partly d (j + 1) (part_sum v f (j + 1)) f (set us j (byte_for (part_sum v f j j))) (set ys j (float_for (part_sum v f j j)))
+  sums_more d j k ts xs P us ys Q =
+      let ku : j < length us = omega (arith, Q.tags) in
+      let ky : j < length ys = omega (arith, Q.values) in
+      let now-at : (t : ℕ) → t < j → with_next (message_at ts xs t) (f j) ≡ part_sum v f (j + 1) t = λ t l.
+      ap (λ w. with_next w (f j)) (partly_new d j (part_sum v f j) f ts xs P t l) ∙ sym (sum_other j t (λ z. omega arith)) in
+      record {
+        tags = length-set us j _ ∙ Q.tags;
+        values = length-set ys j _ ∙ Q.values;
+        tag = λ t l. elim (ℕ_discrete t j) [
+          | yes z ↦ rw z (get_or-set_same us j _ 0 ku ∙ ap byte_for (sym (sum_at j)))
+          | no z ↦ get_or-set_other us j t _ 0 z ∙ Q.tag t (omega arith) ∙ ap byte_for (now-at t (omega arith))
+        ];
+        value = λ t l. elim (ℕ_discrete t j) [
+          | yes z ↦ rw z (get_or-set_same ys j _ nan ky ∙ ap float_for (sym (sum_at j)))
+          | no z ↦ get_or-set_other ys j t _ nan z ∙ Q.value t (omega arith) ∙ ap float_for (now-at t (omega arith))
+        ];
+        rest = λ t a b. message_other us ys j t (byte_for (part_sum v f j j)) (float_for (part_sum v f j j)) (λ z. omega arith) ∙ Q.rest t (omega arith) b ∙ P.rest t (omega arith) b;
+      }
 
   -- one value more at the end
   pub sum_next : (w u : Channel) (j : ℕ) → w ≡ part_sum v f j j → u ≡ f j → with_next w u ≡ part_sum v f (j + 1) (j + 1)
   sum_next w u j e q = rw (e, q) (ap (λ z. with_next z (f j)) (sum_past j j (j + 1) (omega arith) (omega arith)) ∙ sym (sum_other j (j + 1) (λ z. omega arith)))
 
   -- the sums, settled, are the answers
-  pub settled_sums : (d : ℕ) (us : List ℕ) (ys : List Float) → Reads d d (part_sum v f d) f us ys → (ts : List ℕ) (xs : List Float)
+  pub settled_sums : (d : ℕ) (us : List ℕ) (ys : List Float) → Holding d (part_sum v f d) us ys → (ts : List ℕ) (xs : List Float)
       → Holding (length us) (settled_of (message_at us ys)) ts xs → Holding d (bit_answer v d f) ts xs
   settled_sums d us ys H ts xs K =
-      let e : (t : ℕ) → t < d → settled (message_at us ys t) ≡ bit_answer v d f t = λ t k. ap settled (H.new t k) ∙ sum_answer d t in
+      let e : (t : ℕ) → t < d → settled (message_at us ys t) ≡ bit_answer v d f t = λ t k. ap settled (holding_at d (part_sum v f d) us ys H t k) ∙ sum_answer d t in
       record {
         tags = K.tags ∙ H.tags;
         values = K.values ∙ H.tags;

@@ -2,8 +2,9 @@
 use Rattle.std.specs.Prelude.{ℕ, ◌≤◌, ◌<◌, ◌≡◌, Bool, true, List, get_or, length, Float}
 use Rattle.std.specs.Float.{nan, binary32}
 use Rattle.std.specs.Float.Ieee.{add}
-use Rattle.parity.specs.Soft.{with_next, settled, gathered, bit_sends, but, is_soft, message_at}
+use Rattle.parity.specs.Soft.{with_next, settled, gathered, bit_sends, but}
 use Rattle.parity.specs.declared.Channel.{Channel}
+use Rattle.parity.specs.declared.Channel.TheVariants.{Soft}
 
 -- the channel's value and the first n values but value t
 unfoldable pub part_sum : Channel → (ℕ → Channel) → ℕ → ℕ → Channel
@@ -18,21 +19,26 @@ joined_with f v t = with_next (f t) v
 abbrev pub settled_of : (ℕ → Channel) → ℕ → Channel
 settled_of f t = settled (f t)
 
--- Lists of d bytes and d floats, whose first i places are read as the values g, and the others as the values f.
-pub record Reads (d i : ℕ) (g f : ℕ → Channel) (ts : List ℕ) (xs : List Float) : Type 0 where
-  pub tags : length ts ≡ d
-  pub values : length xs ≡ d
-  pub new : (t : ℕ) → t < i → message_at ts xs t ≡ g t
-  pub rest : (t : ℕ) → i ≤ t → t < d → message_at ts xs t ≡ f t
-
--- r says that the first j values are soft
-pub record KnownSoft (r : Bool) (j : ℕ) (f : ℕ → Channel) : Type 0 where
-  pub at : r ≡ true → (t : ℕ) → t < j → is_soft (f t) ≡ true
+-- r says that every byte is 3
+pub record AllSoft (ts : List ℕ) (r : Bool) : Type 0 where
+  pub at : r ≡ true → (t : ℕ) → t < length ts → get_or ts t 0 ≡ 3
 
 -- x is added to the first j floats, and the others are as they were
 pub record AddedTo (xs : List Float) (x : Float) (j : ℕ) (ys : List Float) : Type 0 where
   pub size : length ys ≡ length xs
   pub new : (t : ℕ) → t < j → get_or ys t nan ≡ add binary32 (get_or xs t nan) x
+  pub old : (t : ℕ) → j ≤ t → get_or ys t nan ≡ get_or xs t nan
+
+-- soft values, by their floats
+abbrev pub softAt : List Float → ℕ → Channel
+softAt xs t = Soft (get_or xs t nan)
+
+-- Of soft values, the sums of the channel's float c and the first j others stand in the first j places, each but its own, and `all` is the sum of all j; the
+-- further places are as they were.
+pub record SoftSums (c : Float) (xs : List Float) (j : ℕ) (ys : List Float) (all : Float) : Type 0 where
+  pub size : length ys ≡ length xs
+  pub sum : Soft all ≡ part_sum (Soft c) (softAt xs) j j
+  pub new : (t : ℕ) → t < j → Soft (get_or ys t nan) ≡ part_sum (Soft c) (softAt xs) j t
   pub old : (t : ℕ) → j ≤ t → get_or ys t nan ≡ get_or xs t nan
 
 -- every place

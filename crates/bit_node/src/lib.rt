@@ -1,8 +1,8 @@
 // The bit node of min-sum: what a bit sends to its checks.
-ghost use Rattle.std.specs.Prelude.{◌≡◌, ◌&&◌, ◌≤◌, length};
-ghost use Rattle.parity.specs.Soft.{with_next, settled, is_soft, bit_sends, message_at};
-ghost use Rattle.soft.specs.Store.{Holding};
-ghost use Rattle.bit_node.specs.Sums.{bit_answer, every, part_sum, joined_with, settled_of, Reads, KnownSoft, AddedTo};
+ghost use Rattle.std.specs.Prelude.{◌≡◌, ◌≤◌, length};
+ghost use Rattle.parity.specs.Soft.{with_next, settled, bit_sends, message_at};
+ghost use Rattle.soft.specs.Store.{Holding, Partly};
+ghost use Rattle.bit_node.specs.Sums.{bit_answer, every, part_sum, joined_with, settled_of, AllSoft, AddedTo, SoftSums};
 
 use parity::Channel;
 use soft::floats::{cut_off, plus_zero};
@@ -34,30 +34,57 @@ fn settle(v: Channel) -> Channel
     }
 }
 
-// Whether both values are soft.
-fn both_soft(v: Channel, w: Channel) -> bool
-    ensures { result ≡ (is_soft v && is_soft w) }
-{
-    match v {
-        Channel::Sure(_) => false,
-        Channel::Erased => false,
-        Channel::Soft(_) => match w {
-            Channel::Sure(_) => false,
-            Channel::Erased => false,
-            Channel::Soft(_) => true,
-        },
-    }
-}
-
-// Each of the first `j` values is joined with `v`, one by one.
-fn join_each(tags: &mut [u8], values: &mut [f32], j: usize, v: Channel)
+// Each of the first `j` values is joined with `v`.
+fn join_all(tags: &mut [u8], values: &mut [f32], j: usize, v: Channel)
     requires { (j ≤ length tags.old) × (length tags.old ≡ length values.old) }
-    ensures { Reads (length tags.old) j (joined_with (message_at tags.old values.old) v) (message_at tags.old values.old) tags.new values.new }
+    ensures { Partly (length tags.old) j (joined_with (message_at tags.old values.old) v) (message_at tags.old values.old) tags.new values.new }
 {
     for t in 0..j {
         let w = join(message(tags, values, t), v);
         put(tags, values, t, w);
     }
+}
+
+// Each value is settled.
+fn settle_all(tags: &mut [u8], values: &mut [f32])
+    requires { length tags.old ≡ length values.old }
+    ensures { Holding (length tags.old) (settled_of (message_at tags.old values.old)) tags.new values.new }
+{
+    let d = tags.len();
+    for t in 0..d {
+        let w = settle(message(tags, values, t));
+        put(tags, values, t, w);
+    }
+}
+
+// The bit's answers, not yet settled, replace what its checks sent. Returns what all of them come to. Any value may be sure, soft or erased.
+fn mixed_sums(tags: &mut [u8], values: &mut [f32], channel: Channel) -> Channel
+    requires { length tags.old ≡ length values.old }
+    ensures value { result ≡ part_sum channel (message_at tags.old values.old) (length tags.old) (length tags.old) }
+    ensures holding { Holding (length tags.old) (part_sum channel (message_at tags.old values.old) (length tags.old)) tags.new values.new }
+{
+    let d = tags.len();
+    let mut all = channel;
+    for j in 0..d {
+        let v = message(tags, values, j);
+        join_all(tags, values, j, v);
+        put(tags, values, j, all);
+        all = join(all, v);
+    }
+    all
+}
+
+// Whether every value is soft.
+fn all_soft(tags: &[u8]) -> bool
+    ensures { AllSoft tags.now result }
+{
+    let d = tags.len();
+    for t in 0..d {
+        if tags[t] != 3 {
+            return false;
+        }
+    }
+    true
 }
 
 // `x` is added to each of the first `j` floats.
@@ -70,53 +97,37 @@ fn add_to(floats: &mut [f32], j: usize, x: f32)
     }
 }
 
-// Each of the first `j` values is joined with `v`: an erased one changes none, and a soft one is added to their floats where they are known to be soft.
-fn join_all(tags: &mut [u8], values: &mut [f32], j: usize, v: Channel, soft: bool)
-    requires j_in_bounds { (j ≤ length tags.old) × (length tags.old ≡ length values.old) }
-    requires known_soft { KnownSoft soft j (message_at tags.old values.old) }
-    ensures { Reads (length tags.old) j (joined_with (message_at tags.old values.old) v) (message_at tags.old values.old) tags.new values.new }
+// The sums where the channel value and all others are soft: floats alone.
+fn soft_sums(floats: &mut [f32], channel: f32) -> f32
+    ensures { SoftSums channel floats.old (length floats.old) floats.new result }
 {
-    match v {
-        Channel::Sure(_) => join_each(tags, values, j, v),
-        Channel::Erased => {}
-        Channel::Soft(x) => {
-            if soft {
-                add_to(values, j, x);
-            } else {
-                join_each(tags, values, j, v);
-            }
-        }
-    }
-}
-
-// The bit's answers, not yet settled, replace what its checks sent. Returns what all of them come to. As long as the channel value and the sum so far are
-// soft no value was sure, and every answer so far is soft.
-fn sums(tags: &mut [u8], values: &mut [f32], channel: Channel) -> Channel
-    requires { length tags.old ≡ length values.old }
-    ensures value { result ≡ part_sum channel (message_at tags.old values.old) (length tags.old) (length tags.old) }
-    ensures reads { Reads (length tags.old) (length tags.old) (part_sum channel (message_at tags.old values.old) (length tags.old)) (message_at tags.old values.old) tags.new values.new }
-{
-    let d = tags.len();
+    let d = floats.len();
     let mut all = channel;
     for j in 0..d {
-        let v = message(tags, values, j);
-        let soft = both_soft(channel, all);
-        join_all(tags, values, j, v, soft);
-        put(tags, values, j, all);
-        all = join(all, v);
+        let x = floats[j];
+        add_to(floats, j, x);
+        floats[j] = all;
+        all = all + x;
     }
     all
 }
 
-// Each value is settled.
-fn settle_all(tags: &mut [u8], values: &mut [f32])
+// The bit's answers, not yet settled, replace what its checks sent. Returns what all of them come to.
+fn sums(tags: &mut [u8], values: &mut [f32], channel: Channel) -> Channel
     requires { length tags.old ≡ length values.old }
-    ensures { Holding (length tags.old) (settled_of (message_at tags.old values.old)) tags.new values.new }
+    ensures value { result ≡ part_sum channel (message_at tags.old values.old) (length tags.old) (length tags.old) }
+    ensures holding { Holding (length tags.old) (part_sum channel (message_at tags.old values.old) (length tags.old)) tags.new values.new }
 {
-    let d = tags.len();
-    for t in 0..d {
-        let w = settle(message(tags, values, t));
-        put(tags, values, t, w);
+    let soft = all_soft(tags);
+    match channel {
+        Channel::Soft(x) => {
+            if soft {
+                return Channel::Soft(soft_sums(values, x));
+            }
+            mixed_sums(tags, values, channel)
+        }
+        Channel::Sure(_) => mixed_sums(tags, values, channel),
+        Channel::Erased => mixed_sums(tags, values, channel),
     }
 }
 

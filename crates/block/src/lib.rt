@@ -14,14 +14,14 @@ use sets::bytes::{copy_front, erased_behind};
 use word::admit;
 
 // What mending answers: the last stage to run, and how many bits the two peelings recovered together.
-#[derive(Drop)]
+#[derive(Clone, Copy)]
 pub enum Mending {
     Made { stage: u64, recovered: u64 },
     Refused(Refusal),
 }
 
 // What the two peelings come to: a whole word, by the last of them to run; a refusal; or that bits remain, for elimination.
-#[derive(Drop)]
+#[derive(Clone, Copy)]
 enum Peelings {
     Whole { stage: u64, recovered: u64 },
     Stopped(Refusal),

@@ -11,7 +11,7 @@ use soft::store::{message, put};
 
 // What one pass over a check's messages saw: how many are erased, how many soft, whether an odd number turns the sign, the least
 // magnitude with its place, and the least magnitude at the other places.
-#[derive(Drop)]
+#[derive(Clone, Copy)]
 pub struct Seen {
     pub erased: usize,
     pub soft: usize,

@@ -30,7 +30,7 @@ pub fn weights(cols: &[u64], bits: usize) -> [u64; 512]
 }
 
 // A row and its bound.
-#[derive(Drop)]
+#[derive(Clone, Copy)]
 struct Row {
     low: Bit,
     times: u64,
@@ -85,7 +85,7 @@ fn top_row(bound: &[u64], bits: usize, from: Bit, cap: u64) -> Row
 }
 
 // Where the scan of a row ended, and the largest share that it saw before.
-#[derive(Drop)]
+#[derive(Clone, Copy)]
 struct Seen {
     at: usize,
     most: u64,
@@ -119,7 +119,7 @@ fn scan(words: &[u64], cols: &[u64], bits: usize, u: Bit, s: u64) -> Seen
 }
 
 // The pair to split: its two bits and their share, which is two or more; or nothing.
-#[derive(Drop)]
+#[derive(Clone, Copy)]
 pub enum Choice {
     Pair { low: Bit, high: Bit, share: u64 },
     Nothing,

@@ -9,7 +9,7 @@ use columns::planes::{Planes, larger};
 use rows::wide;
 
 // The places of the largest number, and that number.
-#[derive(Drop)]
+#[derive(Clone, Copy)]
 pub struct Top {
     pub left: u64,
     pub value: u64,

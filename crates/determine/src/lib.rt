@@ -15,7 +15,7 @@ use word::admit;
 
 // What determining answers: how many sent bits and how many added bits were recovered, peeled and eliminated ones together, and how many of
 // each are left.
-#[derive(Drop)]
+#[derive(Clone, Copy)]
 pub enum Determining {
     Made(Losses),
     Refused(Refusal),

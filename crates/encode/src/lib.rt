@@ -13,7 +13,7 @@ use rank::eliminate;
 use sets::bytes::first_above;
 
 // What encoding answers.
-#[derive(Drop)]
+#[derive(Clone, Copy)]
 pub enum Encoding {
     Written,
     Refused(Refusal),

@@ -4,7 +4,7 @@ pub mod listing;
 mod members;
 
 // A search goes over the bits below `bits` and the checks of the first `used` words. The sets that it finds are written only if `write`.
-#[derive(Drop)]
+#[derive(Clone, Copy)]
 pub struct Search {
     pub bits: usize,
     pub used: usize,

@@ -11,7 +11,7 @@ use parity::Refusal;
 use sets::bytes::first_above;
 
 // What extending answers.
-#[derive(Drop)]
+#[derive(Clone, Copy)]
 pub enum Extending {
     Written,
     Refused(Refusal),

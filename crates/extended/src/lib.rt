@@ -12,7 +12,7 @@ use rows::whole::copy_words;
 
 // What peeling with the orthogonalised copy answers: how many bits were recovered and how many are left, sent and added ones together; or that
 // orthogonalising was refused 9.
-#[derive(Drop)]
+#[derive(Clone, Copy)]
 pub enum CopyPeeling {
     Made { recovered: u64, left: u64 },
     NoRoom,

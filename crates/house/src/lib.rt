@@ -15,7 +15,7 @@ use parity::{Check, Refusal};
 use rows::clear;
 
 // What copying answers.
-#[derive(Drop)]
+#[derive(Clone, Copy)]
 pub enum Copying {
     Copied { n: usize, m: usize },
     Refused(Refusal),

@@ -13,7 +13,7 @@ use parity::Refusal;
 use refusals::number;
 
 // What joining answers.
-#[derive(Drop)]
+#[derive(Clone, Copy)]
 pub enum Joining {
     Joined { checks: usize },
     Refused(Refusal),

@@ -6,7 +6,7 @@ pub mod tiles;
 
 // The numbers of a plan, for `bits` bits, in `used` words, and `checks` checks: `steps` steps by checks, tests of the checks that are not skipped and of the rows from `first`
 // up to `end`, and then `more` steps by rows. It is carried out in tiles of `lanes` words of every packet.
-#[derive(Drop)]
+#[derive(Clone, Copy)]
 pub struct Plan {
     pub used: usize,
     pub bits: usize,
@@ -19,7 +19,7 @@ pub struct Plan {
 }
 
 // Where a tile stands in packets of `len` words: it has their `count` words from `from` on, in rows of `lanes` words.
-#[derive(Drop)]
+#[derive(Clone, Copy)]
 pub struct Part {
     pub len: usize,
     pub from: usize,

@@ -12,7 +12,7 @@ use crate::rule::rule_a;
 use parity::Refusal;
 
 // Whether a lent matrix is accepted.
-#[derive(Drop)]
+#[derive(Clone, Copy)]
 pub enum Accepting {
     Accepted,
     Refused(Refusal),

@@ -11,7 +11,7 @@ use parity::Refusal;
 use rank::eliminate;
 
 // What the call that marks the message's bits answers.
-#[derive(Drop)]
+#[derive(Clone, Copy)]
 pub enum Marking {
     Made,
     Refused(Refusal),

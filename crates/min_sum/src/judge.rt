@@ -1,25 +1,23 @@
 // Causes 22, 10, 11 and 23.
-ghost use Rattle.std.specs.Prelude.{◌≡◌, length};
+ghost use Rattle.std.specs.Prelude.{◌≡◌, ◌&&◌, eqb, length};
 ghost use Rattle.parity.specs.Finite.{least};
+ghost use Rattle.parity.specs.Floats.{too_large};
 ghost use Rattle.parity.specs.SoftCall.{wrong_float, soft_reply};
 ghost use Rattle.matrix.specs.Answers.{accepting_reply};
-ghost use Rattle.min_sum.specs.Answers.{soft_too_large};
 
 use matrix::Accepting;
-use parity::{Channel, Refusal};
+use parity::Refusal;
 use sets::bytes::first_above;
 use soft::floats::too_large;
-use soft::store::message;
 
-// Whether a channel value is soft and its float is too large.
-fn wrong(v: Channel) -> bool
-    ensures { result ≡ soft_too_large v }
+// Whether a byte says soft and its float is too large.
+fn wrong(tag: u8, x: f32) -> bool
+    ensures { result ≡ (eqb tag 3 && too_large x) }
 {
-    match v {
-        Channel::Sure(_) => false,
-        Channel::Erased => false,
-        Channel::Soft(x) => too_large(x),
+    if tag == 3 {
+        return too_large(x);
     }
+    false
 }
 
 // The first soft float that is too large, or the length.
@@ -30,7 +28,7 @@ fn first_float(word: &[u8], floats: &[f32]) -> usize
     let n = word.len();
     let mut i: usize = 0;
     while i < n {
-        if wrong(message(word, floats, i)) {
+        if wrong(word[i], floats[i]) {
             return i;
         }
         i += 1;

@@ -19,7 +19,7 @@ use matrix::Accepting;
 use parity::Refusal;
 
 // What the call on soft bits answers.
-#[derive(Drop)]
+#[derive(Clone, Copy)]
 pub enum Decoding {
     Made,
     Refused(Refusal),

@@ -11,7 +11,7 @@ use crate::judge::{first_crossed, first_unfit};
 use parity::{Ends, Refusal};
 
 // What the call answers: sure 0 with no other bits in the check, or the two ends of the range.
-#[derive(Drop)]
+#[derive(Clone, Copy)]
 pub enum Ranging {
     SureZero,
     Within(Ends),

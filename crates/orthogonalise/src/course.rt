@@ -35,7 +35,7 @@ fn turn(
 
 // What orthogonalising came to: whether it finished, the number of splits, the sum of s(s-1)/2 over them, k, and the lowest and the highest check that
 // held the pair of the final split.
-#[derive(Drop)]
+#[derive(Clone, Copy)]
 pub struct Course {
     pub finished: bool,
     pub splits: u64,

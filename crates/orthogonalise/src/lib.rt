@@ -13,7 +13,7 @@ use parity::{Holders, Refusal};
 
 // What orthogonalising answers: the number of splits, the sum of s(s-1)/2 over them, k, and the lowest and the highest check that held the pair of the
 // final split, none of either if there was none.
-#[derive(Drop)]
+#[derive(Clone, Copy)]
 pub enum Orthogonalising {
     Finished {
         splits: u64,

@@ -18,7 +18,7 @@ use sets::set_of;
 
 // What mending packets answers: how many sent and how many added packets were recovered, how many of each are left, and how many lanes no codeword
 // agrees with.
-#[derive(Drop)]
+#[derive(Clone, Copy)]
 pub enum MendingPackets {
     Made { losses: Losses, odd_lanes: u64 },
     Refused(Refusal),

@@ -2,22 +2,22 @@
 // ranges, refusals, and numbers with their values.
 
 // A bit's number: sent bits first, then added ones.
-#[derive(Drop)]
+#[derive(Clone, Copy)]
 pub struct Bit(pub usize);
 
 // A check's number: given checks first, then added ones.
-#[derive(Drop)]
+#[derive(Clone, Copy)]
 pub struct Check(pub usize);
 
 // The checks that hold a pair: none of either, or the lowest and the highest.
-#[derive(Drop)]
+#[derive(Clone, Copy)]
 pub enum Holders {
     None,
     Both(Check, Check),
 }
 
 // The form of a record: the second has the number of each check written out, and the third carries splits besides.
-#[derive(Drop)]
+#[derive(Clone, Copy)]
 pub enum Form {
     First,
     Second,
@@ -25,7 +25,7 @@ pub enum Form {
 }
 
 // What was recovered and what is left, counted in sent bits and in added bits (M-100).
-#[derive(Drop)]
+#[derive(Clone, Copy)]
 pub struct Losses {
     pub recovered_sent: u64,
     pub recovered_added: u64,
@@ -34,7 +34,7 @@ pub struct Losses {
 }
 
 // A channel value, a message or a result (M-112): a sure bit, a soft value whose sign favours 0 when positive, or erased.
-#[derive(Drop)]
+#[derive(Clone, Copy)]
 pub enum Channel {
     Sure(bool),
     Soft(f32),
@@ -42,14 +42,14 @@ pub enum Channel {
 }
 
 // A low and a high between which a soft value lies (M-113).
-#[derive(Drop)]
+#[derive(Clone, Copy)]
 pub struct Ends {
     pub low: f32,
     pub high: f32,
 }
 
 // Why a call is refused: document 01's causes, in its order, and those that document 02 adds, each with the values that it returns.
-#[derive(Drop)]
+#[derive(Clone, Copy)]
 pub enum Refusal {
     // 1: the matrix slice is not 4,096 words.
     MatrixLength,
@@ -123,7 +123,7 @@ pub enum Refusal {
 }
 
 // A number and the values that it carries.
-#[derive(Drop)]
+#[derive(Clone, Copy)]
 pub enum Numbered {
     Alone(u32),
     One(u32, u64),

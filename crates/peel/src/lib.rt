@@ -14,7 +14,7 @@ use steps::settle;
 use word::admit;
 
 // What peeling answers: how many sent bits and how many added bits were recovered, and how many of each are left.
-#[derive(Drop)]
+#[derive(Clone, Copy)]
 pub enum Peeling {
     Made(Losses),
     Refused(Refusal),

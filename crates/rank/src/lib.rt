@@ -12,7 +12,7 @@ use parity::Refusal;
 use rows::whole::copy_rows;
 
 // What the rank call answers.
-#[derive(Drop)]
+#[derive(Clone, Copy)]
 pub enum Ranking {
     Rank { rank: u64 },
     Refused(Refusal),

@@ -7,7 +7,7 @@ use crate::words::{Word, number_in, payload, read};
 use parity::{Check, Form};
 
 // What comes of judging the first word and the checks of a record: `place` is the one behind them, or that of a faulty word.
-#[derive(Drop)]
+#[derive(Clone, Copy)]
 pub enum Judged {
     Right {
         form: Form,
@@ -21,21 +21,21 @@ pub enum Judged {
 }
 
 // What comes of judging the end of a record.
-#[derive(Drop)]
+#[derive(Clone, Copy)]
 pub enum Ending {
     Complete,
     Broken { place: usize },
 }
 
 // What comes of judging the first word.
-#[derive(Drop)]
+#[derive(Clone, Copy)]
 pub enum Head {
     Sizes { form: Form, n: usize, m: usize },
     Faulty,
 }
 
 // What comes of judging a check: the place behind it, or of its faulty word.
-#[derive(Drop)]
+#[derive(Clone, Copy)]
 pub enum Step {
     Next(usize),
     Stop(usize),

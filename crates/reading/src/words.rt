@@ -6,7 +6,7 @@ ghost use Rattle.reading.specs.Read.{Reads};
 use parity::{Check, Form};
 
 // A record word by its kind, with the bits below the kind. The first word's kind is that of the record's form.
-#[derive(Drop)]
+#[derive(Clone, Copy)]
 pub enum Word {
     Head(Form, usize),
     Open(usize),

@@ -14,7 +14,7 @@ use lines::text::put_bytes;
 use parity::Refusal;
 
 // How many bytes of the output are written, or how many it would need.
-#[derive(Drop)]
+#[derive(Clone, Copy)]
 pub enum Mending {
     Written(usize),
     TooShort { needed: usize },

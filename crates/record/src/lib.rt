@@ -18,7 +18,7 @@ use reading::judge::{Ending, Judged, end, judge};
 use writing::{Writing, write_accepted};
 
 // What loading answers.
-#[derive(Drop)]
+#[derive(Clone, Copy)]
 pub enum Loading {
     Loaded { n: usize, m: usize, k: usize },
     Refused(Refusal),

@@ -9,7 +9,7 @@ use parity::{Bit, Check};
 use rows::wide;
 
 // A check with exactly one erased bit, that bit, the check's place in the list, and how many checks before it are kept; or how many are kept of all.
-#[derive(Drop)]
+#[derive(Clone, Copy)]
 pub enum Alone {
     Found(Check, Bit, usize, usize),
     Nothing(usize),

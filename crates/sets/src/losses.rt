@@ -10,7 +10,7 @@ use crate::{size, size_below};
 use parity::Losses;
 
 // How many sent bits and how many added bits a set has.
-#[derive(Drop)]
+#[derive(Clone, Copy)]
 struct Sizes {
     sent: u64,
     added: u64,

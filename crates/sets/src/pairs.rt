@@ -6,7 +6,7 @@ ghost use Rattle.sets.specs.Sets.{WordOf, SetOf, Upto, Eight, four_bytes};
 use crate::lesser;
 
 // Bits of the set of the erased bits, and the same bits of the set of the ones.
-#[derive(Drop)]
+#[derive(Clone, Copy)]
 struct Pair {
     erased: u64,
     ones: u64,

@@ -14,14 +14,14 @@ use parity::{Bit, Check, Holders, Refusal};
 use rows::ones::next_one;
 
 // What a split answers: the share of the two bits, the new k, and the lowest and the highest check that contained both.
-#[derive(Drop)]
+#[derive(Clone, Copy)]
 pub enum Splitting {
     Made { share: u64, k: usize, held: Holders },
     Refused(Refusal),
 }
 
 // What taking back answers: the number s of other checks that contained the newest added bit, and the new k.
-#[derive(Drop)]
+#[derive(Clone, Copy)]
 pub enum TakingBack {
     Made { share: u64, k: usize },
     Refused(Refusal),

@@ -6,6 +6,7 @@ use Prim.Native.Nat.{ℕ, ◌+◌, ◌<◌, ◌≤◌}
 use native.Mathlib.Decide.{ℕ_discrete}
 use native.Mathlib.Omega.{arith}
 use lib.Dec.{T}
+use lib.ListN.{get_or}
 use lib.Ieee.{Float, nan, inf, fin, binary32, fits, is_nan, eq, of_bits, to_bits}
 use lib.Ieee.Bits.{of_bits-to_bits}
 use Rattle.parity.specs.Soft.{message_at}
@@ -38,8 +39,11 @@ module _ (w : ℕ) (ts : List ℕ) (xs : List Float) where
   pub twice_none : Twice w 0 ts xs
   twice_none = record { at = λ q j k. absurd (omega arith) }
 
-  pub twice_more : (i : ℕ) → Twice w i ts xs → message_at ts xs i ≡ message_at ts xs (w + i) → Twice w (i + 1) ts xs
-  twice_more i A e = record { at = λ q j k. elim (ℕ_discrete j i) [ yes z ↦ rw z e | no z ↦ A.at q j (omega arith) ] }
+  pub twice_more : (i : ℕ) → Twice w i ts xs → get_or ts i 0 ≡ get_or ts (w + i) 0 → get_or xs i nan ≡ get_or xs (w + i) nan → Twice w (i + 1) ts xs
+  twice_more i A e f = record { at = λ q j k. elim (ℕ_discrete j i) [ yes z ↦ rw z here | no z ↦ A.at q j (omega arith) ] }
+    where
+      here : message_at ts xs i ≡ message_at ts xs (w + i)
+      here = unfold message_at in rw (e, f)
 
   pub kept_none : Kept w 0 ts xs ts xs
   kept_none = record { tags = refl; values = refl; same = λ j k. refl; copy = λ q j k. absurd (omega arith) }

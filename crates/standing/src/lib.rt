@@ -4,8 +4,6 @@ ghost use Rattle.messages.specs.Memory.{Sized};
 ghost use Rattle.standing.specs.Standing.{Kept, Standing};
 
 use messages::copying::copy;
-use parity::Channel;
-use soft::store::message;
 
 // Whether two floats are the same number with the same sign.
 fn same_float(x: f32, y: f32) -> bool
@@ -17,29 +15,6 @@ fn same_float(x: f32, y: f32) -> bool
     false
 }
 
-// Whether two messages are the same.
-fn same_message(v: Channel, w: Channel) -> bool
-    ensures { result ≡ true → v ≡ w }
-{
-    match v {
-        Channel::Sure(a) => match w {
-            Channel::Sure(b) => a == b,
-            Channel::Erased => false,
-            Channel::Soft(_) => false,
-        },
-        Channel::Erased => match w {
-            Channel::Sure(_) => false,
-            Channel::Erased => true,
-            Channel::Soft(_) => false,
-        },
-        Channel::Soft(x) => match w {
-            Channel::Sure(_) => false,
-            Channel::Erased => false,
-            Channel::Soft(y) => same_float(x, y),
-        },
-    }
-}
-
 // Whether the messages are the kept ones.
 fn same(tags: &[u8], values: &[f32], w: usize) -> bool
     requires { Sized tags.now values.now }
@@ -49,7 +24,10 @@ fn same(tags: &[u8], values: &[f32], w: usize) -> bool
         return false;
     }
     for i in 0..w {
-        if !same_message(message(tags, values, i), message(tags, values, w + i)) {
+        if tags[i] != tags[w + i] {
+            return false;
+        }
+        if !same_float(values[i], values[w + i]) {
             return false;
         }
     }

@@ -10,7 +10,7 @@ use parity::Refusal;
 use rows::words_of;
 
 // What listing answers.
-#[derive(Drop)]
+#[derive(Clone, Copy)]
 pub enum Listing {
     Listed { sets: usize },
     Refused(Refusal),

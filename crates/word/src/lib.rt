@@ -14,7 +14,7 @@ use sets::bytes::first_above;
 use sets::{is_odd, is_single, set_of};
 
 // What verifying answers.
-#[derive(Drop)]
+#[derive(Clone, Copy)]
 pub enum Verifying {
     Yes,
     No,
@@ -22,7 +22,7 @@ pub enum Verifying {
 }
 
 // What testing a set answers.
-#[derive(Drop)]
+#[derive(Clone, Copy)]
 pub enum Stopping {
     Yes,
     No,

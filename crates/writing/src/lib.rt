@@ -16,7 +16,7 @@ use parity::{Form, Refusal};
 const IN_USE: usize = 2;
 
 // What writing answers.
-#[derive(Drop)]
+#[derive(Clone, Copy)]
 pub enum Writing {
     Written { used: usize },
     Refused(Refusal),

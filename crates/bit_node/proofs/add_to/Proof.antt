@@ -3,7 +3,7 @@ use mathlib.Core.Path.{◌≡◌}
 use Prim.Native.Nat.{◌≤◌, ◌-◌}
 use native.Mathlib.Omega.{arith}
 use Rattle.bit_node.specs.Sums.{AddedTo}
-use Rattle.bit_node.proofs.SoftRun.{added_none, added_more}
+use Rattle.bit_node.proofs.SoftAlone.{added_none, added_more}
 use Rattle.bit_node.proofs.add_to.Statement.{statement}
 use Rattle.bit_node.proofs.add_to.Tie as tie
 

@@ -1,79 +1,72 @@
 -- `join_all` meets its contract. Assumes nothing.
-use Rattle.bit_node.proofs.SoftRun.{added_reads, erased_reads}
 use borrow.Author.Rules.{rules}
+use Rattle.soft.proofs.Places.{partly_start, partly_more}
+use Rattle.bit_node.specs.Sums.{joined_with}
+use Rattle.soft.specs.Store.{Partly}
+use Rattle.parity.specs.Soft.{message_at, with_next}
+use lib.ListN.{length}
+use native.Mathlib.Omega.{arith}
+use Prim.Native.Nat.{◌≤◌, ◌-◌}
+use mathlib.Core.Path.{◌≡◌, sym, ap, ◌∙◌}
 use Rattle.bit_node.proofs.join_all.Statement.{statement}
 use Rattle.bit_node.proofs.join_all.Tie as tie
 
-enum_told : tie.Need-enum-told
-enum_told c = search rules
+abbrev invariant-loop : tie.invariant-loop
+invariant-loop tags₀ values₀ j v t₀ tags values t = (t ≤ j) × Partly (length tags₀) t (joined_with (message_at tags₀ values₀) v) (message_at tags₀ values₀) tags values
 
-join-each-requires : tie.Need-join-each-requires
-join-each-requires c κs = search rules
+abbrev decreases-loop : tie.decreases-loop
+decreases-loop tags₀ values₀ j v t₀ tags values t = j - t
 
-enum-told-2 : tie.Need-enum-told-2
-enum-told-2 c = search rules
+loop-holds : tie.Need-loop-init invariant-loop decreases-loop
+loop-holds c = (omega arith, partly_start _ _ _ (sym c.before.before.requires.1))
 
-enum-known-v : tie.Need-enum-known-v
-enum-known-v c = search rules
+message-requires : tie.Need-message-requires invariant-loop decreases-loop
+message-requires c κs = let l = c.before.before.before.loop in omega (arith, l.invariant.1.tags, l.invariant.1.values)
 
-add-to-requires : tie.Need-add-to-requires
-add-to-requires c κs = search rules
+join-requires : tie.Need-join-requires invariant-loop decreases-loop
+join-requires c κs = search rules
 
-join-each-requires-2 : tie.Need-join-each-requires-2
-join-each-requires-2 c κs = search rules
+put-requires : tie.Need-put-requires invariant-loop decreases-loop
+put-requires c κs = let l = c.before.before.before.before.before.before.before.loop in omega (arith, l.invariant.1.tags, l.invariant.1.values)
 
-same_length : tie.Need-same-length
-same_length c = search rules
+add-t : tie.Need-overflow-add-t invariant-loop decreases-loop
+add-t c = omega arith
 
-same-length-2 : tie.Need-same-length-2
-same-length-2 c = search rules
+loop-less : tie.Need-loop-smaller invariant-loop decreases-loop
+loop-less c = omega arith
 
-returns : tie.Need-returns
-returns c = search rules
+loop-again : tie.Need-loop-preserved invariant-loop decreases-loop
+loop-again c = let p = c.before.before.before.before in
+    let q = p.before.before.before in
+    let m = q.before in
+    let a = m.before.before.before.before in
+    let l = a.loop in
+    let k = a.before.before.before.requires.0 in
+    let e = q.join.ensures ∙ ap (λ w. with_next w a.before.before.before.args.v) (m.message.ensures ∙ l.invariant.1.rest l.t (omega arith) (omega arith)) in
+    (omega arith, rw (p.put.ensures.0, p.put.ensures.1, e) (partly_more _ _ (joined_with (message_at a.before.before.before.args.tags.now a.before.before.before.args.values.now) a.before.before.before.args.v) _ _ _ l.invariant.1 (omega arith)))
 
-returns-2 : tie.Need-returns-2
-returns-2 c =
-    let s = c.before.before.before.before in
-    rw c.enum-told2.given.1 (erased_reads _ _ s.requires.0.1 _)
+same_length : tie.Need-same-length invariant-loop decreases-loop
+same_length c = c.before.loop.invariant.1.tags
 
-same-length-3 : tie.Need-same-length-3
-same-length-3 c = search rules
+same-length-2 : tie.Need-same-length-2 invariant-loop decreases-loop
+same-length-2 c = let l = c.before.loop in l.invariant.1.values ∙ c.before.before.before.before.requires.1
 
-returns-3 : tie.Need-returns-3
-returns-3 c =
-    let A = c.before.before in
-    let T = A.before.before in
-    let U = T.before.before in
-    let s = U.before.before.before.before in
-    rw U.v.given.1 (added_reads _ _ s.requires.0.1 _ (rw T.if1.true at s.requires.1) _ _ A.add-to.ensures)
-
-same-length-4 : tie.Need-same-length-4
-same-length-4 c = search rules
-
-same-length-5 : tie.Need-same-length-5
-same-length-5 c = search rules
-
-returns-4 : tie.Need-returns-4
-returns-4 c =
-    let J = c.before.before.before.before in
-    rw J.before.before.before.before.before.v.given.1 J.join-each2.ensures
+returns : tie.Need-returns invariant-loop decreases-loop
+returns c = let l = c.before.loop in let e : l.t ≡ c.before.before.before.before.args.j = omega arith in rw e at l.invariant.1
 
 pub join-all-spec : {M : Type 1} → statement M
 join-all-spec =
     tie.close
     (tie.spec
-    enum_told
-    join-each-requires
-    enum-told-2
-    enum-known-v
-    add-to-requires
-    join-each-requires-2
+    invariant-loop
+    decreases-loop
+    loop-holds
+    message-requires
+    join-requires
+    put-requires
+    add-t
+    loop-less
+    loop-again
     same_length
     same-length-2
-    returns
-    returns-2
-    same-length-3
-    returns-3
-    same-length-4
-    same-length-5
-    returns-4)
+    returns)

@@ -1,97 +1,99 @@
 -- `sums` meets its contract. Assumes nothing.
-use Rattle.bit_node.proofs.Adding.{sum_none, sum_next, sums_more, reads_start}
-use Rattle.bit_node.proofs.SoftRun.{known_soft}
-use Rattle.bit_node.specs.Sums.{part_sum, Reads}
-use Rattle.parity.specs.Soft.{message_at}
+use mathlib.Core.Path.{refl, ◌∙◌}
 use borrow.Author.Rules.{rules}
-use lib.ListN.{length}
-use native.Mathlib.Omega.{arith}
-use Prim.Native.Nat.{◌≤◌, ◌-◌}
-use mathlib.Core.Path.{◌≡◌, refl, sym, ◌∙◌}
+use Rattle.bit_node.proofs.SoftAlone.{alone-all, alone-holding}
 use Rattle.bit_node.proofs.sums.Statement.{statement}
 use Rattle.bit_node.proofs.sums.Tie as tie
 
-abbrev invariant-loop : tie.invariant-loop
-invariant-loop tags₀ values₀ channel d all₀ j₀ tags values all j =
-    (d ≡ length tags₀) × (j ≤ d) × (all ≡ part_sum channel (message_at tags₀ values₀) j j)
-    × Reads (length tags₀) j (part_sum channel (message_at tags₀ values₀) j) (message_at tags₀ values₀) tags values
+all-soft-requires : tie.Need-all-soft-requires
+all-soft-requires c κs = search rules
 
-abbrev decreases-loop : tie.decreases-loop
-decreases-loop tags₀ values₀ channel d all₀ j₀ tags values all j = d - j
+enum-known-channel : tie.Need-enum-known-channel
+enum-known-channel c = search rules
 
-loop-holds : tie.Need-loop-init invariant-loop decreases-loop
-loop-holds c = (refl, omega arith, sym (sum_none _ _ _), reads_start _ _ _ (sym c.before.before.requires))
+soft-sums-requires : tie.Need-soft-sums-requires
+soft-sums-requires c κs = search rules
 
-message-requires : tie.Need-message-requires invariant-loop decreases-loop
-message-requires c κs = let l = c.before.before.before.loop in omega (arith, l.invariant.3.tags, l.invariant.3.values)
+same_length : tie.Need-same-length
+same_length c = refl
 
-both-soft-requires : tie.Need-both-soft-requires invariant-loop decreases-loop
-both-soft-requires c κs = search rules
+same-length-2 : tie.Need-same-length-2
+same-length-2 c = c.before.before.soft-sums.ensures.size
 
-join-all-requires : tie.Need-join-all-requires invariant-loop decreases-loop
-join-all-requires c κs =
-    let B = c.before.before in
-    let l = B.before.before.before.before.before.loop in
-    ((omega (arith, l.invariant.3.tags), l.invariant.3.tags ∙ sym l.invariant.3.values), known_soft _ _ _ _ _ _ l.invariant.3 _ _ l.invariant.2 B.both-soft.ensures)
-
-put-requires : tie.Need-put-requires invariant-loop decreases-loop
-put-requires c κs =
-    let J = c.before.before.before.before.before.before in
-    let l = J.before.before.before.before.before.before.before.before.loop in
-    omega (arith, J.join-all.ensures.tags, J.join-all.ensures.values, l.invariant.3.tags, l.invariant.3.values)
-
-join-requires : tie.Need-join-requires invariant-loop decreases-loop
-join-requires c κs = search rules
-
-add-j : tie.Need-overflow-add-j invariant-loop decreases-loop
-add-j c = omega arith
-
-loop-less : tie.Need-loop-smaller invariant-loop decreases-loop
-loop-less c = omega arith
-
-loop-again : tie.Need-loop-preserved invariant-loop decreases-loop
-loop-again c =
-    let p = c.before.before.before.before.before in
-    let J = p.before.before.before.before.before.before.before in
-    let m = J.before.before.before.before in
-    let a = m.before.before.before.before in
-    let l = a.loop in
-    let f = message_at a.before.before.before.args.tags.now a.before.before.before.args.values.now in
-    let e = m.message.ensures ∙ l.invariant.3.rest l.j (omega arith) (omega arith) in
-    let Q = rw (l.invariant.3.tags, e) at J.join-all.ensures in (
-      l.invariant.0,
-      omega arith,
-      c.join.ensures ∙ sum_next _ f _ _ l.j l.invariant.2 e,
-      rw (p.put.ensures.0, p.put.ensures.1) (sums_more _ f _ l.j (omega arith) _ _ l.invariant.3 _ _ Q _ l.invariant.2),
+returns : tie.Need-returns
+returns c =
+    let A = c.before.before in
+    let C = A.before.before.before.before in
+    let s = C.before.before.before.before.before.before in
+    let soft = C.before.before.all-soft.ensures.at A.before.before.if1.true in
+    rw C.channel.given.1 (
+      alone-all s.args.tags.now s.args.values.now _ soft s.requires _ _ A.soft-sums.ensures,
+      alone-holding s.args.tags.now s.args.values.now _ soft s.requires _ _ A.soft-sums.ensures,
     )
 
-same_length : tie.Need-same-length invariant-loop decreases-loop
-same_length c = c.before.loop.invariant.3.tags
+mixed-sums-requires : tie.Need-mixed-sums-requires
+mixed-sums-requires c κs = search rules
 
-same-length-2 : tie.Need-same-length-2 invariant-loop decreases-loop
-same-length-2 c = c.before.loop.invariant.3.values ∙ c.before.before.before.before.requires
+enum_told : tie.Need-enum-told
+enum_told c = search rules
 
-returns : tie.Need-returns invariant-loop decreases-loop
-returns c =
-    let l = c.before.loop in
-    let e : l.j ≡ length c.before.before.before.before.args.tags.now = omega arith in
-    (rw e at l.invariant.2, rw e at l.invariant.3)
+mixed-sums-requires-2 : tie.Need-mixed-sums-requires-2
+mixed-sums-requires-2 c κs = search rules
+
+enum-told-2 : tie.Need-enum-told-2
+enum-told-2 c = search rules
+
+mixed-sums-requires-3 : tie.Need-mixed-sums-requires-3
+mixed-sums-requires-3 c κs = search rules
+
+same-length-3 : tie.Need-same-length-3
+same-length-3 c = c.before.before.before.before.mixed-sums.ensures.1.tags
+
+same-length-4 : tie.Need-same-length-4
+same-length-4 c = c.before.before.before.before.mixed-sums.ensures.1.values ∙ c.before.before.before.before.before.before.before.before.before.before.before.before.before.before.before.requires
+
+returns-2 : tie.Need-returns-2
+returns-2 c = rw c.before.before.before.before.before.before.before.before.before.channel.given.1 c.before.before.before.before.mixed-sums.ensures
+
+same-length-5 : tie.Need-same-length-5
+same-length-5 c = c.before.before.before.before.mixed-sums2.ensures.1.tags
+
+same-length-6 : tie.Need-same-length-6
+same-length-6 c = c.before.before.before.before.mixed-sums2.ensures.1.values ∙ c.before.before.before.before.before.before.before.before.before.before.before.before.before.requires
+
+returns-3 : tie.Need-returns-3
+returns-3 c = c.before.before.before.before.mixed-sums2.ensures
+
+same-length-7 : tie.Need-same-length-7
+same-length-7 c = c.before.before.before.before.mixed-sums3.ensures.1.tags
+
+same-length-8 : tie.Need-same-length-8
+same-length-8 c = c.before.before.before.before.mixed-sums3.ensures.1.values ∙ c.before.before.before.before.before.before.before.before.before.before.before.before.before.requires
+
+returns-4 : tie.Need-returns-4
+returns-4 c = c.before.before.before.before.mixed-sums3.ensures
 
 pub sums-spec : {M : Type 1} → statement M
 sums-spec =
     tie.close
     (tie.spec
-    invariant-loop
-    decreases-loop
-    loop-holds
-    message-requires
-    both-soft-requires
-    join-all-requires
-    put-requires
-    join-requires
-    add-j
-    loop-less
-    loop-again
+    all-soft-requires
+    enum-known-channel
+    soft-sums-requires
     same_length
     same-length-2
-    returns)
+    returns
+    mixed-sums-requires
+    enum_told
+    mixed-sums-requires-2
+    enum-told-2
+    mixed-sums-requires-3
+    same-length-3
+    same-length-4
+    returns-2
+    same-length-5
+    same-length-6
+    returns-3
+    same-length-7
+    same-length-8
+    returns-4)

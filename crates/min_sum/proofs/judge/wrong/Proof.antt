@@ -1,30 +1,17 @@
 -- `wrong` meets its contract. Assumes nothing.
+use borrow.Author.Tests.{eq-eqb, ne_eqb}
 use borrow.Author.Rules.{rules}
 use Rattle.min_sum.proofs.judge.wrong.Statement.{statement}
 use Rattle.min_sum.proofs.judge.wrong.Tie as tie
-
-enum_told : tie.Need-enum-told
-enum_told c = search rules
-
-enum-told-2 : tie.Need-enum-told-2
-enum-told-2 c = search rules
-
-enum-known-v : tie.Need-enum-known-v
-enum-known-v c = search rules
 
 too-large-requires : tie.Need-too-large-requires
 too-large-requires c κs = search rules
 
 returns : tie.Need-returns
-returns c = search rules
+returns c = rw (eq-eqb _ _ c.before.if1.true) c.too_large.ensures
 
 returns-2 : tie.Need-returns-2
-returns-2 c = search rules
-
-returns-3 : tie.Need-returns-3
-returns-3 c = rw c.before.before.v.given.1 c.too_large.ensures
+returns-2 c = rw (ne_eqb _ _ c.if1.false)
 
 pub wrong-spec : {M : Type 1} → statement M
-wrong-spec =
-    tie.close
-    (tie.spec enum_told enum-told-2 enum-known-v too-large-requires returns returns-2 returns-3)
+wrong-spec = tie.close (tie.spec too-large-requires returns returns-2)

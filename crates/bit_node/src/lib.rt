@@ -1,4 +1,6 @@
 // The bit node of min-sum: what a bit sends to its checks.
+#![tactic(auto)]
+
 ghost use Rattle.std.specs.Prelude.{◌≡◌, ◌≤◌, length};
 ghost use Rattle.parity.specs.Soft.{with_next, settled, bit_sends, message_at};
 ghost use Rattle.soft.specs.Store.{Holding, Partly};

@@ -1,4 +1,6 @@
 // One door for sample blocks: a received word is mended with a matrix without added bits, in up to three stages.
+#![tactic(auto)]
+
 ghost use Rattle.std.specs.Prelude.{◌≡◌, false, ◌++◌, ◌-◌, ◌≤◌, ◌<◌, length, replicate};
 ghost use Rattle.parity.specs.Matrix.{cause};
 ghost use Rattle.parity.specs.Calls.{wrong_byte};

@@ -1,5 +1,7 @@
 // The calls for C: a slice is a pointer and then its length. Each returns 0 for an answer, or the refusal's number, and puts the values
 // that it carries at the front of `values`, as far as it reaches.
+#![tactic(auto)]
+
 ghost use Rattle.std.specs.Prelude.{◌≡◌};
 ghost use Rattle.parity.specs.Packets.{packets_outcome};
 ghost use Rattle.parity.specs.MessageBits.{message_bits_outcome};

@@ -1,4 +1,6 @@
 // The check node of min-sum: what a check sends to its bits.
+#![tactic(auto)]
+
 ghost use Rattle.std.specs.Prelude.{◌≡◌, ◌<◌, length};
 ghost use Rattle.parity.specs.Finite.{one};
 ghost use Rattle.parity.specs.Soft.{is_erased, is_soft, turns_sign, message_at};

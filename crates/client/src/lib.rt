@@ -1,6 +1,8 @@
 // A client, proved from the contracts of the calls and what is promised of their definitions: what a receiver may rely on that peels a word with a given
 // matrix and with its orthogonalised copy. It shows by machine that a call's contract, the definition that it cites and the theorem about the definition
 // (demand 3) fit together. No call uses it.
+#![tactic(auto)]
+
 ghost use Rattle.std.specs.Prelude.{◌≡◌, ◌++◌, ◌+◌, ◌≤◌, eqb, length, take, drop, replicate};
 ghost use Rattle.parity.specs.Matrix.{cause};
 ghost use Rattle.parity.specs.Calls.{peel_outcome};

@@ -1,4 +1,6 @@
 // Everything the checks determine: each bit at which all codewords that agree with a word have one value.
+#![tactic(auto)]
+
 ghost use Rattle.std.specs.Prelude.{◌≡◌, false, ◌+◌, ◌≤◌, ◌<◌, length};
 ghost use Rattle.parity.specs.Matrix.{lent, cause};
 ghost use Rattle.parity.specs.Calls.{wrong_byte, determine_outcome};

@@ -1,4 +1,6 @@
 // Elimination modulo 2: rows of `width` words, one for each check, are reduced in the bits that a word leaves unknown, or brought to echelon form.
+#![tactic(auto)]
+
 mod checks;
 
 ghost use Rattle.std.specs.Prelude.{◌≡◌, ◌*◌, ◌<◌, ◌≤◌, length};

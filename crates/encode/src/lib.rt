@@ -1,4 +1,6 @@
 // Encoding with k = 0: the codeword whose bits that are no parity bits hold a message.
+#![tactic(auto)]
+
 mod fill;
 
 ghost use Rattle.std.specs.Prelude.{◌≡◌, ◌≤◌, length};

@@ -1,4 +1,6 @@
 // The search for stopping sets, over the columns of the matrix: eight words for each bit, whose bit `c` says whether check `c` contains it.
+#![tactic(auto)]
+
 mod checks;
 pub mod listing;
 mod members;

@@ -1,3 +1,5 @@
 // A split, and taking it back, on the words of a matrix.
+#![tactic(auto)]
+
 pub mod back;
 pub mod merge;

@@ -1,4 +1,6 @@
 // Extending: the word of the sent bits, in which each added check is even.
+#![tactic(auto)]
+
 mod added;
 
 ghost use Rattle.std.specs.Prelude.{◌≡◌};

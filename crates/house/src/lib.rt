@@ -1,4 +1,6 @@
 // The house codes: copied into matrix words by their names, which are the numbers below 5.
+#![tactic(auto)]
+
 pub mod rule;
 pub mod tables;
 

@@ -1,4 +1,6 @@
 // Prints the house codes by rising name, as the generator computes them: a line for each check, its bits as 0 and 1, rising.
+#![tactic(auto)]
+
 ghost use Rattle.std.specs.Prelude.{◌<◌, ◌≤◌, length};
 ghost use Rattle.parity.specs.House.{house_code};
 

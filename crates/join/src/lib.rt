@@ -1,4 +1,6 @@
 // Two matrices over the same n bits, joined into the words of a third.
+#![tactic(auto)]
+
 mod gather;
 
 ghost use Rattle.std.specs.Prelude.{◌≡◌, [], ◌≤◌, ◌<◌, min, replicate};

@@ -1,4 +1,6 @@
 // Packets, whose bits at one place are a lane: a plan of solving that is carried out in all lanes at once.
+#![tactic(auto)]
+
 pub mod mend;
 pub mod run;
 pub mod sums;

@@ -1,4 +1,6 @@
 // The lines that the program mend writes, put into lent bytes: a refusal's, and the three of a report.
+#![tactic(auto)]
+
 pub mod text;
 
 ghost use Rattle.std.specs.Prelude.{◌≡◌, ◌+◌, ◌≤◌, length};

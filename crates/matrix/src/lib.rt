@@ -1,4 +1,6 @@
 // Acceptance of a lent matrix, by causes 1 to 4.
+#![tactic(auto)]
+
 mod outside;
 pub mod rule;
 

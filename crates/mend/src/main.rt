@@ -1,4 +1,6 @@
 // Mends a word: reads a record and a word from standard input, and writes the report or the refusal to standard output.
+#![tactic(auto)]
+
 ghost use Rattle.std.specs.Prelude.{◌≡◌, length};
 
 // Room for the longest input that is not refused, and one byte more, to know that more came.

@@ -1,4 +1,6 @@
 // Which bits hold a message, and the message put there.
+#![tactic(auto)]
+
 pub mod message;
 
 ghost use Rattle.std.specs.Prelude.{◌≡◌, ◌≤◌, length, replicate};

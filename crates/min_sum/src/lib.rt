@@ -1,4 +1,6 @@
 // Soft bits: min-sum rounds on a word of sure, soft and erased bits.
+#![tactic(auto)]
+
 mod clear;
 mod judge;
 mod rounds;

@@ -1,4 +1,6 @@
 // The range of one check's min-sum answer, for soft values known within a range.
+#![tactic(auto)]
+
 mod combine;
 mod judge;
 

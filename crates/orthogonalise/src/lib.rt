@@ -1,4 +1,6 @@
 // Orthogonalising.
+#![tactic(auto)]
+
 mod course;
 
 ghost use Rattle.std.specs.Prelude.{◌≡◌};

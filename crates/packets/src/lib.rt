@@ -1,4 +1,6 @@
 // Packets: each bit of the code is a packet of words, and every lane of bits at one place is determined, all by one plan.
+#![tactic(auto)]
+
 mod lengths;
 mod lost;
 

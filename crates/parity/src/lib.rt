@@ -1,5 +1,6 @@
 // The types that the calls share: the numbers of bits and of checks, the checks that hold a pair, the forms of a record, losses, channel values,
 // ranges, refusals, and numbers with their values.
+#![tactic(auto)]
 
 // A bit's number: sent bits first, then added ones.
 #[derive(Clone, Copy)]

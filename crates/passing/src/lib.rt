@@ -1,4 +1,6 @@
 // A reply as a caller in C gets it: a number, and values in lent slices of any length.
+#![tactic(auto)]
+
 ghost use Rattle.std.specs.Prelude.{◌≡◌, [], ◌∷◌, set};
 ghost use Rattle.parity.specs.Causes.{numbered_reply};
 ghost use Rattle.passing.specs.Passed.{Passed, filled, ends_filled};

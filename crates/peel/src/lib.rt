@@ -1,4 +1,6 @@
 // Peeling: what the checks with exactly one erased bit recover of a word.
+#![tactic(auto)]
+
 ghost use Rattle.std.specs.Prelude.{◌≡◌, false, ◌+◌, ◌≤◌, ◌<◌, length};
 ghost use Rattle.parity.specs.Matrix.{lent, cause};
 ghost use Rattle.parity.specs.Calls.{wrong_byte, peel_outcome};

@@ -1,4 +1,6 @@
 // What reduced rows say: a contradiction, or the value of a pivot whose row has no other bit of the residue.
+#![tactic(auto)]
+
 ghost use Rattle.std.specs.Prelude.{◌≡◌, ◌+◌, ◌*◌, ◌<◌, ◌≤◌, length};
 ghost use Rattle.parity.specs.Matrix.{lent};
 ghost use Rattle.pivots.specs.Pivots.{EvenFrom, PivotWritten, PivotsWritten, Low};

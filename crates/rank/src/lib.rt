@@ -1,4 +1,6 @@
 // The rank of a matrix with k = 0, and the elimination that tells it.
+#![tactic(auto)]
+
 ghost use Rattle.std.specs.Prelude.{◌≡◌, ◌≤◌, length};
 ghost use Rattle.parity.specs.Matrix.{lent};
 ghost use Rattle.parity.specs.Encoding.{rank_of};

@@ -1,4 +1,6 @@
 // What the receiver does with a record and a word: a function from the input's bytes to the output's.
+#![tactic(auto)]
+
 mod input;
 mod stages;
 

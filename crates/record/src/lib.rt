@@ -1,4 +1,6 @@
 // Records: a matrix is loaded from one, and written as one.
+#![tactic(auto)]
+
 mod fill;
 
 ghost use Rattle.std.specs.Prelude.{◌≡◌, false, length};

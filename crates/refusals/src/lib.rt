@@ -1,4 +1,6 @@
 // The table of refusals: the number of each, and the values that it carries.
+#![tactic(auto)]
+
 ghost use Rattle.std.specs.Prelude.{◌≡◌, ◌∷◌};
 ghost use Rattle.parity.specs.Causes.{refusal, held_values, refusal_of, numbered_reply};
 

@@ -1,4 +1,6 @@
 // Each call's answer, or its refusal, as document 01's number and values.
+#![tactic(auto)]
+
 ghost use Rattle.std.specs.Prelude.{◌≡◌};
 ghost use Rattle.parity.specs.Causes.{answer, loss_values, numbered_reply};
 ghost use Rattle.writing.specs.Answers.{writing_reply};

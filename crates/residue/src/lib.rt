@@ -1,4 +1,6 @@
 // What the checks determine of the bits that peeling leaves, by elimination in these bits alone.
+#![tactic(auto)]
+
 mod eliminate;
 pub mod gather;
 

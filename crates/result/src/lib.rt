@@ -1,4 +1,6 @@
 // What the sets of a word's erased bits and of its ones come to: whether the checks agree, and the word.
+#![tactic(auto)]
+
 ghost use Rattle.std.specs.Prelude.{◌≡◌, ◌*◌, ◌<◌, ◌≤◌, length};
 ghost use Rattle.parity.specs.Finite.{one, list_from};
 ghost use Rattle.parity.specs.Matrix.{lent};

@@ -1,4 +1,6 @@
 // Rows of `width` words of 64 bits: the checks of a matrix, its columns, or a set of bits, which is one row.
+#![tactic(auto)]
+
 pub mod bits;
 pub mod ones;
 pub mod whole;

@@ -1,4 +1,6 @@
 // What the programs that run the calls share: answers as text, matrices of document 01's cases, and words compared.
+#![tactic(auto)]
+
 pub mod cases;
 pub mod say;
 pub mod words;

@@ -1,5 +1,7 @@
 // The search for a check that peeling can solve, in a list of the checks that may still have an erased bit. The list shrinks as it is gone through: a check
 // that has none is left out.
+#![tactic(auto)]
+
 ghost use Rattle.std.specs.Prelude.{◌≡◌, ◌*◌, ◌≤◌, ◌<◌, length};
 ghost use Rattle.parity.specs.Matrix.{lent};
 ghost use Rattle.sets.specs.Sets.{Short};

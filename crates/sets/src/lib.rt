@@ -1,4 +1,6 @@
 // Sets of bits, as a row of words: made from bytes, met with a check, counted. The matrix has rows of eight words.
+#![tactic(auto)]
+
 pub mod bytes;
 pub mod losses;
 pub mod pairs;

@@ -1,4 +1,6 @@
 // A split of two bits, and taking it back.
+#![tactic(auto)]
+
 ghost use Rattle.std.specs.Prelude.{◌≡◌};
 ghost use Rattle.parity.specs.Matrix.{cause};
 ghost use Rattle.parity.specs.Calls.{split_outcome, take_back_outcome};

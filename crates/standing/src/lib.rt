@@ -1,4 +1,6 @@
 // Whether a round leaves the messages as they were. The `w` messages of the round before are kept in the places after the messages, if there is room before the row.
+#![tactic(auto)]
+
 ghost use Rattle.std.specs.Prelude.{◌≡◌, true};
 ghost use Rattle.messages.specs.Memory.{Sized};
 ghost use Rattle.standing.specs.Standing.{Kept, Standing};

@@ -1,4 +1,6 @@
 // Peeling on sets of bits: checks with exactly one erased bit are solved, on the sets of the erased bits and of the ones.
+#![tactic(auto)]
+
 ghost use Rattle.std.specs.Prelude.{◌≡◌, ◌*◌, ◌<◌, ◌≤◌, length};
 ghost use Rattle.parity.specs.Matrix.{lent};
 ghost use Rattle.parity.specs.Words.{inside, odd};

@@ -1,4 +1,6 @@
 // The stopping sets of a few sent bits.
+#![tactic(auto)]
+
 ghost use Rattle.std.specs.Prelude.{◌≡◌, not, ◌*◌, ◌≤◌};
 ghost use Rattle.parity.specs.Calls.{wrong_size, stopping_sets_outcome};
 ghost use Rattle.stopping_sets.specs.Answers.{listing_reply};

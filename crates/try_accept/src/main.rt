@@ -1,4 +1,6 @@
 // Acceptance on good and bad matrices: each line is a case and the number of its cause, 0 where it is accepted.
+#![tactic(auto)]
+
 ghost use Rattle.std.specs.Prelude.{◌<◌};
 
 use matrix::Accepting;

@@ -1,5 +1,7 @@
 // Mending blocks by each of the three stages, words that each of them refuses, and bad input. A line has the case, what the call answers (the last
 // stage to run, and how many bits the two peelings recovered together), and the word afterwards, with ? for erased and x for a byte above 2.
+#![tactic(auto)]
+
 use block::Mending;
 use samples::say::{end_line, field, refused, show_word};
 

@@ -1,5 +1,7 @@
 // Determining beside peeling, on document 01's cases, on longer gaps and on bad input. A line has the case, what the call answers (of the bits
 // recovered and left, how many are sent bits and how many added), and the word afterwards, with ? for erased and x for a byte above 2.
+#![tactic(auto)]
+
 use determine::Determining;
 use peel::Peeling;
 use samples::say::{end_line, recovered_and_left, refused, show_word};

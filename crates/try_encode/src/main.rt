@@ -1,5 +1,7 @@
 // Rank and encoding on case J's matrix, which is A's, for all 16 messages, on case L's circulant for some, and on bad input; and the message's bits.
 // A message that is encoded is followed by its codeword, one that is refused by the number of its cause, and the place of cause 11.
+#![tactic(auto)]
+
 use encode::Encoding;
 use message_bits::Marking;
 use rank::Ranking;

@@ -1,5 +1,7 @@
 // Each house code, copied over words that are all ones: its n, m, rank and cycle count, and the splits, sum and k of its orthogonalising. Then
 // names that no code has, and slices of another length than 4,096, which are left as they were.
+#![tactic(auto)]
+
 ghost use Rattle.std.specs.Prelude.{◌≤◌};
 
 use cycles::Counting;

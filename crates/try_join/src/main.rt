@@ -1,5 +1,7 @@
 // Joining document 01's matrices, a matrix with itself, matrices that come to 120 checks and to more, and bad input. The third words are ones before. A
 // line has the pair, the number of checks and the two words in use of the first seven, or the refusal, and a digest of the third words afterwards.
+#![tactic(auto)]
+
 ghost use Rattle.std.specs.Prelude.{◌≤◌, ◌<◌};
 
 use join::Joining;

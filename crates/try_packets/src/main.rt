@@ -1,5 +1,7 @@
 // Mending packets, on document 01's cases and on bad input. A line has the case, what the call answers (of the packets recovered and left, how many are sent and how many
 // added; and how many lanes are odd), the packets that are lost afterwards as ones, the words of all packets and those of the odd lanes.
+#![tactic(auto)]
+
 use packets::MendingPackets;
 use samples::say::{end_line, field, recovered_and_left, refused, show_word};
 

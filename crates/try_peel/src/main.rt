@@ -1,5 +1,7 @@
 // Peeling, verifying and testing sets on document 01's cases and on bad input. A line has the case, what the call answers (of the bits
 // recovered and left, how many are sent bits and how many added), and after peeling the word, with ? for erased and x for a byte above 2.
+#![tactic(auto)]
+
 ghost use Rattle.std.specs.Prelude.{◌<◌, ◌≤◌};
 
 use peel::Peeling;

@@ -1,5 +1,7 @@
 // Ranges of one check's min-sum answer, and bad input. A line has the case, and what the call answers: sure 0, or the eight hexadecimal digits of low
 // and high.
+#![tactic(auto)]
+
 use min_sum_range::Ranging;
 use samples::say::{end_line, refused, show_float};
 use soft::floats::infinity;

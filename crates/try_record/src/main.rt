@@ -1,4 +1,6 @@
 // Records loaded and written: each line is a case and its reply.
+#![tactic(auto)]
+
 mod build;
 mod same;
 mod say;

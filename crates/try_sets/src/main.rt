@@ -1,6 +1,8 @@
 // The stopping sets of one to four sent bits. First how many known codes have, given and orthogonalised. Then sets that are listed, on slices of
 // several lengths whose places held 900, and bad input: such a line has the case and the size, how many sets there are, or the number of the
 // refusal and the places needed, and what stands in the slice.
+#![tactic(auto)]
+
 ghost use Rattle.std.specs.Prelude.{◌≡◌, ◌≤◌, length};
 
 use house::Copying;

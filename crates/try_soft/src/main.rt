@@ -1,5 +1,7 @@
 // Min-sum rounds on words of sure, soft and erased bits, and bad input. A line has the case, what the call answers, and the bits afterwards: 0 or 1,
 // ? for erased, x for a byte above 3, and of a soft bit the eight hexadecimal digits of its float.
+#![tactic(auto)]
+
 use min_sum::Decoding;
 use samples::say::{end_line, field, refused, show_float};
 use soft::floats::infinity;

@@ -1,5 +1,7 @@
 // Sharing, counting, splitting, taking back and orthogonalising on the bench's matrices A, C, E and L, and on a dense matrix that is refused 9;
 // splits at k = 391 and 392; matrices that no splits made, taken back; pairs held by checks at the edges of words.
+#![tactic(auto)]
+
 ghost use Rattle.std.specs.Prelude.{◌≡◌, ◌≤◌, length};
 
 use cycles::{Counting, Sharing};

@@ -1,4 +1,6 @@
 // Words and sets of bits, one byte for each bit: verifying, and testing stopping sets.
+#![tactic(auto)]
+
 ghost use Rattle.std.specs.Prelude.{◌≡◌, ◌*◌, ◌<◌, ◌≤◌, length};
 ghost use Rattle.parity.specs.Matrix.{lent};
 ghost use Rattle.parity.specs.Words.{is_one, even_checks, codeword, stopping};

@@ -1,4 +1,6 @@
 // Writing an accepted matrix as a record.
+#![tactic(auto)]
+
 mod emit;
 
 ghost use Rattle.std.specs.Prelude.{◌≡◌, false, ◌*◌, ◌≤◌, length, replicate};

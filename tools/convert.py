@@ -17,8 +17,13 @@ NAME = r"[\w'][\w'-]*"
 PATH = re.compile(r"(?<![\w'.◌-])(" + NAME + r")((?:\.[\w'-]+)+)?(?![\w'-])")
 
 
+# what port.py or respell.py turned in a path that is the source's own name
+GARBLED = {"lone_at_lem": "lone_at", "Each_back": "all_back", "Some_with": "once_with"}
+
+
 def norm(s):
-    return s.replace("-", "_")
+    s = s.replace("-", "_")
+    return GARBLED.get(s, s)
 
 
 class Fn:
@@ -84,26 +89,18 @@ class Fn:
         return [new] + rest
 
     def resolve(self, place, segs):
-        i = 0
-        while i < len(segs) and segs[i] == "before":
-            p = self.places[place][1]
-            if p is None:
-                self.say(f"before the start: {'.'.join(segs)} at {place}")
-                break
-            place = p
-            i += 1
-        if i == len(segs):
+        """A path without its steps back: the nearest place at or before the goal's that has the field."""
+        segs = [s for k, s in enumerate(segs) if s != "before" or any(x != "before" for x in segs[:k])]
+        if not segs:
             return "place", place
-        at = place
+        at = self.goal
         while at is not None:
-            f = self.field(at, segs[i:])
+            f = self.field(at, segs)
             if f:
-                if at != place:
-                    self.say(f"found {'.'.join(segs[i:])} at {at}, not at {place}")
                 return "path", f
             at = self.places[at][1]
-        self.say(f"no field {segs[i]} at {place} (it has {self.places[place][2]})")
-        return "path", segs[i:]
+        self.say(f"no field {segs[0]} ({'.'.join(segs)}) at or before {self.goal}")
+        return "path", segs
 
     def body(self, text, place, root="c"):
         self.goal = place
@@ -126,14 +123,11 @@ class Fn:
                 return m[0]
             segs = [s for s in (m[2] or "").split(".") if s]
             if not segs:
-                if m[1] != root:
-                    self.say(f"bare {m[1]} (place {aliases[m[1]]})")
-                else:
-                    self.say(f"bare {root}")
+                self.say(f"bare {m[1]}")
                 return m[0]
             kind, to = self.resolve(aliases[m[1]], segs)
             if kind == "place":
-                self.say(f"bare place {m[0]} = {to}")
+                self.say(f"bare place {m[0]}")
                 return m[0]
             return ".".join([root] + to)
         return PATH.sub(sub, text)

@@ -23,7 +23,7 @@ GARBLED = {"lone_at_lem": "lone_at", "Each_back": "all_back", "Some_with": "once
 
 def norm(s):
     s = s.replace("-", "_")
-    return GARBLED.get(s, s)
+    return GARBLED.get(s, s[:-4] if s.endswith("_lem") else s)
 
 
 class Fn:

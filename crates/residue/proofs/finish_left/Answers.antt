@@ -24,7 +24,7 @@ returns-then-width-eq8 c = record { sets = rw (not-false c.eliminate.result c.if
 
 pub eliminate-requires-2 : goal.eliminate-requires-2
 eliminate-requires-2 c = let P = c.requires.0 in
-    let w = c.width_of_lem in
+    let w = c.width_of-width in
     record { given = P.given; even = P.even; narrow = w.ensures.1; wide = w.ensures.0 }
 
 pub returns-then-not-eliminate-2 : goal.returns-then-not-eliminate-2

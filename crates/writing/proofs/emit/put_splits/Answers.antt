@@ -21,7 +21,7 @@ pub bounds-target-p : goal.bounds-target-p
 bounds-target-p c = omega (arith, c.requires.2, wrote_length _ _ _ _ _ c.loop-j.invariant.1)
 
 pub loop-j-preserved : goal.loop-j-preserved
-loop-j-preserved c = (omega arith, splits_next _ _ _ _ _ _ c.loop-j.invariant.1 c.split_word_lem.ensures)
+loop-j-preserved c = (omega arith, splits_next _ _ _ _ _ _ c.loop-j.invariant.1 c.split_word.ensures)
 
 pub overflow_add-result : goal.overflow_add-result
 overflow_add-result c = omega (arith, c.requires.2)

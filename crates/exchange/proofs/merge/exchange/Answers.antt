@@ -1,0 +1,18 @@
+-- `exchange` meets its contract. Assumes nothing.
+use mathlib.Core.Path.{◌∙◌}
+use Rattle.exchange.proofs.merge.exchange.Goals as goal
+
+pub take_out-requires : goal.take_out-requires
+take_out-requires c = let s = c.requires in (s.0, s.1, s.2)
+
+pub take_out-requires-2 : goal.take_out-requires-2
+take_out-requires-2 c = let s = c.requires in (c.take_out.auto.0 ∙ s.0, s.1, s.3)
+
+pub put_in-requires : goal.put_in-requires
+put_in-requires c = let s = c.requires in (c.take_out-2.auto.0 ∙ c.take_out.auto.0 ∙ s.0, s.1, s.4)
+
+pub shape_of-words : goal.shape_of-words
+shape_of-words c = c.put_in.auto.0 ∙ c.take_out-2.auto.0 ∙ c.take_out.auto.0
+
+pub returns : goal.returns
+returns c = c.put_in.ensures ∙ rw (c.take_out-2.ensures, c.take_out.ensures)

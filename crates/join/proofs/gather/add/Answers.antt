@@ -1,0 +1,14 @@
+-- `gather::add` meets its contract. Assumes nothing.
+use mathlib.Core.Path.{sym, ◌∙◌}
+use native.Mathlib.Omega.{arith}
+use Rattle.join.proofs.Rows.{added_none, added_full, added_one}
+use Rattle.join.proofs.gather.add.Goals as goal
+
+pub returns-then-is_there : goal.returns-then-is_there
+returns-then-is_there c = added_none c.args.words.now c.requires.0 (λ i. (c.shared_slice_known-1.given i).fits) c.args.c c.requires.1 c.args.rows.now c.args.at c.requires.3 (sym c.is_there.ensures ∙ c.if-is_there.true)
+
+pub returns-then-at-eq120 : goal.returns-then-at-eq120
+returns-then-at-eq120 c = added_full c.args.words.now c.requires.0 (λ i. (c.shared_slice_known-1.given i).fits) c.args.c c.requires.1 c.args.rows.now c.args.at c.if-at-eq120.true (sym c.is_there.ensures ∙ c.if-is_there.false)
+
+pub returns : goal.returns
+returns c = added_one c.args.words.now c.requires.0 (λ i. (c.shared_slice_known-1.given i).fits) c.args.c c.requires.1 c.args.rows.now c.args.at (omega (arith, c.requires.3, c.if-at-eq120.false)) (sym c.is_there.ensures ∙ c.if-is_there.false) _ c.copy_words.ensures

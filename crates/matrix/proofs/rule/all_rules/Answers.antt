@@ -1,0 +1,33 @@
+-- `rule::all_rules` meets its contract. Assumes nothing.
+use mathlib.Core.Path.{◌≡◌, refl, sym, ◌∙◌}
+use Prim.Native.Nat.{◌-◌}
+use native.Mathlib.Omega.{arith}
+use borrow.Author.Rules.{rules}
+use borrow.Author.Tests.{not-true, not-false}
+use Rattle.parity.specs.Matrix.{lent, rule_a}
+use Rattle.parity.proofs.Finite.Sums.{all_false}
+use Rattle.matrix.proofs.Passing.{passed_rule}
+use Rattle.matrix.proofs.rule.all_rules.Goals as goal
+
+pub loop-j-init : goal.loop-j-init
+loop-j-init c = (omega arith, refl, search rules)
+
+pub rule_at-requires : goal.rule_at-requires
+rule_at-requires c = let l = c.loop-j in
+    let p = c.requires in
+    record { words_len = (p.0.0, p.0.1, l.invariant.1 ∙ p.0.2, p.0.3, p.0.4, p.0.5, p.0.6, omega arith); words_value = (p.1.0, p.1.1, l.invariant.2) }
+
+pub returns-then-not-rule_at : goal.returns-then-not-rule_at
+unfolding rule_a
+returns-then-not-rule_at c = let r = c.rule_at in
+    sym (all_false _ _ _ (omega arith) (r.ensures.no (not-true r.result c.if-not-rule_at.true)))
+
+pub loop-j-preserved : goal.loop-j-preserved
+loop-j-preserved c = let r = c.rule_at in
+    let l = c.loop-j in
+    (omega arith, r.auto.1.1.0 ∙ l.invariant.1, r.ensures.yes (not-false r.result c.if-not-rule_at.false))
+
+pub returns : goal.returns
+returns c = let a = c.args in
+    let e : c.loop-j.j ≡ a.k = omega arith in
+    sym (passed_rule (lent 8 a.words.now) a.n a.m a.k (rw e at c.loop-j.invariant.2).passed)

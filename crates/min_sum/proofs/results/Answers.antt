@@ -1,0 +1,26 @@
+-- `results` meets its contract. Assumes nothing.
+use mathlib.Core.Path.{◌≡◌, ap, ◌∙◌}
+use lib.ListN.{length, replicate}
+use Rattle.parity.specs.Floats.{positive_zero}
+use Rattle.min_sum.proofs.results.Goals as goal
+
+pub by_columns-requires : goal.by_columns-requires
+by_columns-requires c = let e : length c.args.word.now ≡ c.args.checks = c.if-bits-checks.true in
+    rw e c.requires
+
+pub returns-then-bits-checks : goal.returns-then-bits-checks
+returns-then-bits-checks c = let B = c.by_columns in
+    let e : length c.args.word.now ≡ c.args.checks = c.if-bits-checks.true in
+    record {
+      held = rw (← e) B.ensures;
+      tags_zero = c.clear_bytes.ensures ∙ ap (λ n. replicate n 0) (B.auto.1.1.1.1.1.0 ∙ c.requires.0.laid.memory.tags);
+      values_zero = c.clear_floats.ensures ∙ ap (λ n. replicate n positive_zero) (B.auto.1.1.1.1.1.1.0 ∙ c.requires.0.laid.memory.values);
+    }
+
+pub returns : goal.returns
+returns c = let B = c.by_columns-2 in
+    record {
+      held = B.ensures;
+      tags_zero = c.clear_bytes-2.ensures ∙ ap (λ n. replicate n 0) (B.auto.1.1.1.1.1.0 ∙ c.requires.0.laid.memory.tags);
+      values_zero = c.clear_floats-2.ensures ∙ ap (λ n. replicate n positive_zero) (B.auto.1.1.1.1.1.1.0 ∙ c.requires.0.laid.memory.values);
+    }

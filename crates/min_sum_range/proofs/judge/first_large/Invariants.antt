@@ -1,0 +1,13 @@
+-- What the loops of `first_large` keep.
+use Rattle.parity.specs.SoftRange.{unfit}
+use lib.ListN.{length}
+use Prim.Native.Nat.{ℕ, ◌≤◌, ◌<◌, ◌-◌}
+use mathlib.Core.Bool.{false}
+use mathlib.Core.Path.{◌≡◌}
+use Rattle.min_sum_range.proofs.judge.first_large.Given as goal
+
+abbrev pub invariant-loop-i : goal.invariant-loop-i
+invariant-loop-i l = (l.n ≡ length l.xs) × (l.i ≤ l.n) × ((j : ℕ) → j < l.i → unfit l.xs j ≡ false)
+
+abbrev pub decreases-loop-i : goal.decreases-loop-i
+decreases-loop-i l = l.n - l.i

@@ -1,0 +1,17 @@
+-- `orthogonalise` meets its contract. Assumes nothing.
+use mathlib.Core.Path.{refl, sym, ap, ◌∙◌}
+use Rattle.parity.proofs.Causes.Refused.{accepted_cause}
+use Rattle.parity.proofs.Splits.Splitting.{orthogonalise_refused}
+use Rattle.matrix.specs.Answers.{accepting_reply}
+use Rattle.orthogonalise.proofs.orthogonalise.Goals as goal
+
+pub orthogonalise_accepted-requires : goal.orthogonalise_accepted-requires
+orthogonalise_accepted-requires c = let s = c.args in
+    accepted_cause s.words.now s.n s.m s.k (sym (ap accepting_reply c.in-Accepted.is) ∙ c.accept.ensures)
+
+pub returns-in-Refused : goal.returns-in-Refused
+returns-in-Refused c = let s = c.args in
+    rw (orthogonalise_refused s.words.now s.n s.m s.k c.in-Refused.r (sym (ap accepting_reply c.in-Refused.is) ∙ c.accept.ensures)) record { result_value = refl; words_after = refl }
+
+pub returns-in-Accepted : goal.returns-in-Accepted
+returns-in-Accepted c = record { result_value = c.orthogonalise_accepted.ensures.result_value; words_after = c.orthogonalise_accepted.ensures.words_after }

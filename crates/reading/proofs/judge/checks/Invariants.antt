@@ -1,0 +1,7 @@
+-- What the loops of `checks` keep.
+use Prim.Native.Nat.{◌-◌, ◌≤◌}
+use Rattle.reading.specs.Judge.{Reached}
+use Rattle.reading.proofs.judge.checks.Given as goal
+
+abbrev pub invariant-loop-c : goal.invariant-loop-c
+invariant-loop-c l = (l.c ≤ l.m) × Reached l.form l.n l.m l.source l.p l.c

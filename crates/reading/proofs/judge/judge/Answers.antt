@@ -1,0 +1,12 @@
+-- `judge::judge` meets its contract. Assumes nothing.
+use Rattle.reading.proofs.Judging.{load_empty, load_other, load_head}
+use Rattle.reading.proofs.judge.judge.Goals as goal
+
+pub returns-then-source-eq0 : goal.returns-then-source-eq0
+returns-then-source-eq0 c = load_empty _ c.if-source-eq0.true
+
+pub returns-in_default : goal.returns-in_default
+returns-in_default c = load_other _ c.if-source-eq0.false (rw c.in_default.is at c.first_word.ensures)
+
+pub checks-requires : goal.checks-requires
+checks-requires c = load_head _ _ _ _ c.if-source-eq0.false (rw c.in-Sizes.is at c.first_word.ensures)

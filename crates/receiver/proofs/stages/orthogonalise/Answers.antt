@@ -1,0 +1,44 @@
+-- `receiver::stages::orthogonalise` meets its contract. Assumes nothing.
+use mathlib.Core.Path.{sym, ap, ◌∙◌}
+use native.Mathlib.Omega.{arith}
+use lib.ListN.{length}
+use Rattle.orthogonalise.specs.Answers.{orthogonalising_reply}
+use Rattle.lines.proofs.Lines.{same_text}
+use Rattle.parity.specs.Causes.{held_values}
+use Rattle.receiver.proofs.Passing.{orthogonalise_refused, orthogonalise_passes, orthogonalise_accepted}
+use Rattle.receiver.proofs.stages.orthogonalise.Goals as goal
+
+pub orthogonalise_accepted-requires : goal.orthogonalise_accepted-requires
+orthogonalise_accepted-requires c = c.requires.j_value
+
+pub put_refused-requires : goal.put_refused-requires
+put_refused-requires c = let a = c.args in
+    let p = c.orthogonalise_accepted in
+    let g = c.r-1.given in
+    let e = sym (ap orthogonalising_reply g.1) ∙ p.ensures.0 in
+    rw (orthogonalise_refused a.words.now a.n a.m a.j a.sent.now g.0.0 e) c.requires.sent_in_bounds
+
+pub peel_sent-requires : goal.peel_sent-requires
+peel_sent-requires c = let a = c.args in
+    let p = c.orthogonalise_accepted in
+    let g = c.splits-1.given in
+    let e = sym (ap orthogonalising_reply g.1) ∙ p.ensures.0 in
+    let t = orthogonalise_passes a.words.now a.n a.m a.j g.0.0 g.0.1.0 g.0.1.1.0 (held_values g.0.1.1.1.0) e a.sent.now in record { k_in_bounds = rw p.ensures.1 (omega (arith, ap length t, c.requires.sent_in_bounds)); k_value = rw p.ensures.1 (orthogonalise_accepted a.words.now a.n a.m a.j g.0.0 g.0.1.0 g.0.1.1.0 (held_values g.0.1.1.1.0) e) }
+
+pub returns-in-Refused : goal.returns-in-Refused
+returns-in-Refused c = let a = c.args in
+    let p = c.orthogonalise_accepted in
+    let g = c.r-1.given in
+    let e = sym (ap orthogonalising_reply g.1) ∙ p.ensures.0 in
+    same_text
+    (orthogonalise_refused a.words.now a.n a.m a.j a.sent.now g.0.0 e)
+    c.Put-refused.ensures
+
+pub returns-in-Finished : goal.returns-in-Finished
+returns-in-Finished c = let a = c.args in
+    let p = c.orthogonalise_accepted in
+    let g = c.splits-1.given in
+    let e = sym (ap orthogonalising_reply g.1) ∙ p.ensures.0 in
+    same_text
+    (rw p.ensures.1 (orthogonalise_passes a.words.now a.n a.m a.j g.0.0 g.0.1.0 g.0.1.1.0 (held_values g.0.1.1.1.0) e a.sent.now))
+    c.peel_sent.ensures

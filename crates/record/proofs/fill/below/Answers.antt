@@ -1,0 +1,36 @@
+-- `fill::below` meets its contract. Assumes nothing.
+use mathlib.Core.Path.{◌≡◌}
+use mathlib.Core.Logic.{⊎_elim}
+use Prim.Native.Nat.{◌-◌}
+use native.Mathlib.Omega.{arith}
+use Rattle.record.proofs.Filling.{part_none, part_low, part_high}
+use Rattle.record.proofs.fill.below.Goals as goal
+
+pub loop-i-init : goal.loop-i-init
+loop-i-init c = (omega arith, part_none _ _)
+
+pub overflow_add-from : goal.overflow_add-from
+overflow_add-from c = omega (arith, c.requires.0.inside)
+
+pub offset_bounds-source-from : goal.offset_bounds-source-from
+offset_bounds-source-from c = omega (arith, c.requires.0.inside)
+
+pub bounds-source-from : goal.bounds-source-from
+bounds-source-from c = omega (arith, c.requires.0.inside)
+
+pub overflow_add-k : goal.overflow_add-k
+overflow_add-k c = omega (arith, c.loop-i.invariant.1.top)
+
+pub loop-i-preserved : goal.loop-i-preserved
+loop-i-preserved c = let e = c.payload.ensures in
+    let l = c.loop-i in
+    let P = c.requires.0 in
+    ⊎_elim
+    (λ w. rw w.1 (omega arith, part_low _ _ _ _ _ _ P (omega arith) l.invariant.1 (rw (← e) w.0.taken)))
+    (λ w. rw w.1 (omega arith, part_high _ _ _ _ _ _ P (omega arith) l.invariant.1 (rw (← e) w.0.left)))
+    c.if-payload-lt64.branch
+
+pub returns : goal.returns
+returns c = let l = c.loop-i in
+    let e : l.i ≡ c.args.count = omega arith in
+    rw e at l.invariant.1

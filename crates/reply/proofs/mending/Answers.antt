@@ -1,0 +1,10 @@
+-- `reply::mending` meets its contract. Assumes nothing.
+use mathlib.Core.Path.{sym, ap, ◌∙◌}
+use Rattle.block.specs.Answers.{mending_reply}
+use Rattle.reply.proofs.mending.Goals as goal
+
+pub returns-in-Made : goal.returns-in-Made
+returns-in-Made c = sym (ap mending_reply c.in-Made.is)
+
+pub returns-in-Refused : goal.returns-in-Refused
+returns-in-Refused c = c.refused.ensures ∙ sym (ap mending_reply c.in-Refused.is)

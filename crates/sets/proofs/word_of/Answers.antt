@@ -1,0 +1,27 @@
+-- `word_of` meets its contract. Assumes nothing.
+use Prim.Native.Nat.{◌*◌, ◌-◌, ◌<◌}
+use mathlib.Core.Path.{refl}
+use mathlib.Core.Logic.{⊎_elim}
+use native.Mathlib.Omega.{arith}
+use Rattle.parity.proofs.Matrix.Digits.{one_shl}
+use Rattle.sets.proofs.Making.{upto_none, upto_in, upto_out, upto_all}
+use Rattle.sets.proofs.word_of.Goals as goal
+
+pub loop-b-init : goal.loop-b-init
+loop-b-init c = (refl, c.lesser-end.ensures, omega arith, omega arith, upto_none _ _ _)
+
+pub loop-b-preserved : goal.loop-b-preserved
+loop-b-preserved c = let l = c.loop-b in
+    (
+      refl,
+      c.lesser-end.ensures,
+      omega arith,
+      omega arith,
+      ⊎_elim
+          (λ w. let k : l.b - c.args.i * 64 < 64 = omega arith in rw (w.1, one_shl _ k) (upto_in _ _ _ _ _ l.invariant.4 (omega arith) w.0.taken))
+          (λ w. rw w.1 (upto_out _ _ _ _ _ l.invariant.4 w.0.left)) c.if-bytes-b.branch,
+    )
+
+pub returns : goal.returns
+returns c = let l = c.loop-b in
+    upto_all _ _ _ _ _ l.invariant.4 (omega arith) (omega arith)

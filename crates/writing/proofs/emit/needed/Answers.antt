@@ -1,0 +1,34 @@
+-- `emit::needed` meets its contract. Assumes nothing.
+use mathlib.Core.Path.{◌≡◌}
+use Prim.Native.Nat.{◌*◌, ◌-◌}
+use native.Mathlib.Numerals.{add-one}
+use native.Mathlib.Omega.{arith}
+use Rattle.parity.specs.Matrix.{lent}
+use Rattle.parity.specs.Finite.{sum}
+use Rattle.parity.proofs.Finite.Sums.{count_bound}
+use Rattle.parity.proofs.Matrix.Lent.{row_room}
+use Rattle.writing.proofs.emit.needed.Goals as goal
+
+pub loop-c-init : goal.loop-c-init
+loop-c-init c = unfold sum in (omega arith, omega arith, omega arith)
+
+pub weight-requires : goal.weight-requires
+weight-requires c = (omega (arith, row_room c.args.width c.loop-c.c c.args.m (omega arith)), c.requires.1, c.requires.2)
+
+pub overflow_add-total : goal.overflow_add-total
+overflow_add-total c = omega (arith, c.weight.ensures, count_bound (c.args.used * 64) (lent c.args.width c.args.rows.now c.loop-c.c))
+
+pub overflow_add-total-in-loop-c : goal.overflow_add-total-in-loop-c
+overflow_add-total-in-loop-c c = omega (arith, c.weight.ensures, count_bound (c.args.used * 64) (lent c.args.width c.args.rows.now c.loop-c.c))
+
+pub loop-c-preserved : goal.loop-c-preserved
+loop-c-preserved c = let l = c.loop-c in
+    let h = lent c.args.width c.args.rows.now in (
+      omega arith,
+      omega (arith, c.weight.ensures, count_bound (c.args.used * 64) (h l.c)),
+      rw (add-one l.c) (unfold sum in omega (arith, c.weight.ensures)),
+    )
+
+pub returns : goal.returns
+returns c = let e : c.loop-c.c ≡ c.args.m = omega arith in
+    rw e at c.loop-c.invariant.2

@@ -18,8 +18,8 @@ settle-requires c = let u = c.words_of.ensures in
 pub finish-requires : goal.finish-requires
 finish-requires c = let t = c.settle in
     let (E, O) = c.make_sets.ensures in
-    let e = t.auto.1.1.1.0 ∙ E.size in
-    let o = t.auto.1.1.1.1.0 ∙ O.size in (
+    let e = t.auto.erased ∙ E.size in
+    let o = t.auto.ones ∙ O.size in (
       record { words = c.requires.0; bits = c.requires.3; checks = omega (arith, c.requires.1); residue = e; known = o; left = refl; values = refl; apart = word_apart 8 (lent 8 c.args.words.now) c.args.n c.args.k c.args.checks c.args.word.now _ _ c.requires.2 (omega (arith, c.requires.2, c.requires.3)) c.requires.5 E O _ _ t.ensures },
       E.size,
       set_short 8 c.args.word.now 2 _ E,
@@ -36,7 +36,7 @@ pub losses_of-requires : goal.losses_of-requires
 losses_of-requires c = let t = c.settle in
     let v = c.finish in
     let (E, O) = c.make_sets.ensures in
-    (E.size, v.auto.1.1.1.1.1.1.1.0 ∙ t.auto.1.1.1.0 ∙ E.size, c.requires.4, word_within 8 (lent 8 c.args.words.now) c.args.n c.args.k c.args.checks c.args.word.now _ _ c.requires.2 (omega (arith, c.requires.2, c.requires.3)) c.requires.5 E O _ _ t.ensures _ _ _ v.ensures.sets)
+    (E.size, v.auto.left ∙ t.auto.erased ∙ E.size, c.requires.4, word_within 8 (lent 8 c.args.words.now) c.args.n c.args.k c.args.checks c.args.word.now _ _ c.requires.2 (omega (arith, c.requires.2, c.requires.3)) c.requires.5 E O _ _ t.ensures _ _ _ v.ensures.sets)
 
 pub returns : goal.returns
 returns c = let v = c.finish in

@@ -16,8 +16,8 @@ returns-then-at-message c = let a = c.first_above-at in
 pub fill-requires : goal.fill-requires
 fill-requires c = let e = c.eliminate-r in
     let p = c.place in
-    let k = p.auto.1.1.1.0 in
-    let few = e.ensures.reduction.form.few in record { rows_len = (e.auto.1.1.1.0, omega (arith, few), omega (arith, few, e.auto.1.1.1.1.0), omega (arith, k)); fact = rw k (opened _ _ _ _ _ _ e.ensures c.args.message.now _ p.ensures) }
+    let k = p.auto.word in
+    let few = e.ensures.reduction.form.few in record { rows_len = (e.auto.rows, omega (arith, few), omega (arith, few, e.auto.pivots), omega (arith, k)); fact = rw k (opened _ _ _ _ _ _ e.ensures c.args.message.now _ p.ensures) }
 
 pub returns : goal.returns
 returns c = let R = c.eliminate-r.ensures in
@@ -26,4 +26,4 @@ returns c = let R = c.eliminate-r.ensures in
     let p = c.place in
     let f = c.fill in
     given_written c.args.words.now c.args.m c.args.message.now c.args.word.now _ (is_rank _ _ _ _ _ _ R) c.if-message-r.false right _
-    (codeword_read _ _ _ _ _ _ R c.args.message.now _ p.ensures right _ (f.auto.1.1.1.0 ∙ p.auto.1.1.1.0) (rw p.auto.1.1.1.0 at f.ensures))
+    (codeword_read _ _ _ _ _ _ R c.args.message.now _ p.ensures right _ (f.auto.word ∙ p.auto.word) (rw p.auto.word at f.ensures))

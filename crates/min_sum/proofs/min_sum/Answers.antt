@@ -7,6 +7,7 @@ use Rattle.parity.proofs.Causes.Refused.{accepted_words, refused_same, refused_n
 use Rattle.parity.specs.Causes.{answer, refusal_of}
 use Rattle.parity.specs.Matrix.{lent}
 use native.Mathlib.Omega.{arith}
+use mathlib.Core.List.{[]}
 use mathlib.Core.Path.{sym, ap, ◌∙◌}
 use Rattle.min_sum.proofs.min_sum.Goals as goal
 

@@ -20,7 +20,7 @@ settle-requires c = let u = c.words_of-used.ensures in
 pub finish-requires : goal.finish-requires
 finish-requires c = let t = c.settle in
     let u = c.words_of-used in
-    let (E, O) = c.make_sets.ensures in record { words_len = (c.requires.0, c.requires.1, E.size, t.auto.1.1.1.0 ∙ E.size, t.auto.1.1.1.1.0 ∙ O.size, omega (arith, u.ensures.1, c.requires.3), set_short 8 c.args.word.now 2 _ E); both_short = settled_short 8 (lent 8 c.args.words.now) _ c.args.word.now _ _ (omega (arith, c.requires.2, c.requires.3)) c.requires.5 E O _ _ t.ensures (u.result * 64) (omega (arith, u.ensures.0, c.requires.2)) }
+    let (E, O) = c.make_sets.ensures in record { words_len = (c.requires.0, c.requires.1, E.size, t.auto.erased ∙ E.size, t.auto.ones ∙ O.size, omega (arith, u.ensures.1, c.requires.3), set_short 8 c.args.word.now 2 _ E); both_short = settled_short 8 (lent 8 c.args.words.now) _ c.args.word.now _ _ (omega (arith, c.requires.2, c.requires.3)) c.requires.5 E O _ _ t.ensures (u.result * 64) (omega (arith, u.ensures.0, c.requires.2)) }
 
 pub returns-then-not-finish : goal.returns-then-not-finish
 returns-then-not-finish c = let g = c.finish in
@@ -32,7 +32,7 @@ returns-then-not-finish c = let g = c.finish in
 pub losses_of-requires : goal.losses_of-requires
 losses_of-requires c = let t = c.settle in
     let (E, O) = c.make_sets.ensures in
-    (E.size, t.auto.1.1.1.0 ∙ E.size, c.requires.4, settled_within 8 (lent 8 c.args.words.now) _ c.args.word.now _ _ (omega (arith, c.requires.2, c.requires.3)) c.requires.5 E O _ _ t.ensures)
+    (E.size, t.auto.erased ∙ E.size, c.requires.4, settled_within 8 (lent 8 c.args.words.now) _ c.args.word.now _ _ (omega (arith, c.requires.2, c.requires.3)) c.requires.5 E O _ _ t.ensures)
 
 pub returns : goal.returns
 returns c = let g = c.finish in

@@ -17,7 +17,7 @@ returns-then-not-eliminate c = record { sets = rw (not-true c.eliminate.result c
 pub write-requires : goal.write-requires
 write-requires c = let G = c.requires.0.given in
     let x = c.eliminate in
-    (omega arith, c.requires.1, x.auto.1.1.1.1.1.1.0 ∙ ap length G.left ∙ G.residue, x.auto.1.1.1.1.1.1.1.0 ∙ ap length G.values ∙ G.known, c.requires.2)
+    (omega arith, c.requires.1, x.auto.left ∙ ap length G.left ∙ G.residue, x.auto.values ∙ ap length G.values ∙ G.known, c.requires.2)
 
 pub returns-then-width-eq8 : goal.returns-then-width-eq8
 returns-then-width-eq8 c = record { sets = rw (not-false c.eliminate.result c.if-not-eliminate.false) at c.eliminate.ensures; word = c.write.ensures }
@@ -33,7 +33,7 @@ returns-then-not-eliminate-2 c = record { sets = rw (not-true c.eliminate-2.resu
 pub write-requires-2 : goal.write-requires-2
 write-requires-2 c = let G = c.requires.0.given in
     let x = c.eliminate-2 in
-    (omega arith, c.requires.1, x.auto.1.1.1.1.1.1.0 ∙ ap length G.left ∙ G.residue, x.auto.1.1.1.1.1.1.1.0 ∙ ap length G.values ∙ G.known, c.requires.2)
+    (omega arith, c.requires.1, x.auto.left ∙ ap length G.left ∙ G.residue, x.auto.values ∙ ap length G.values ∙ G.known, c.requires.2)
 
 pub returns : goal.returns
 returns c = record { sets = rw (not-false c.eliminate-2.result c.if-not-eliminate-2.false) at c.eliminate-2.ensures; word = c.write-2.ensures }

@@ -2,7 +2,7 @@
 use mathlib.Core.Path.{◌≡◌, refl, sym, ap, ◌∙◌}
 use mathlib.Core.Bool.{true, false, not, not-not}
 use native.Mathlib.Numerals.{add-one}
-use mathlib.Core.List.{◌∷◌}
+use mathlib.Core.List.{[], ◌∷◌}
 use Prim.Native.Nat.{ℕ, ◌+◌}
 use native.Mathlib.Omega.{arith}
 use borrow.Author.Tests.{not-false, not-true}
@@ -93,4 +93,4 @@ returns c = let s = c.args in
     let A = (accepts s.words.now s.n s.m s.k).0 c.requires in
     let E = c.split_columns in
     rw (split_made s.words.now s.n s.m s.k A s.u.0 s.v.0 (paired d) (rw (shared a).0 at c.if-share-lt2.false) c.if-k-eq392.false, add-one)
-    record { result_value = rw (← (shared a).0, ← (shared a).1) refl; words_after = packed _ _ (E.auto.0 ∙ A.words) (λ i. (c.type_inv.words i).fits) E.ensures }
+    record { result_value = rw (← (shared a).0, ← (shared a).1) refl; words_after = packed _ _ (E.auto.words ∙ A.words) (λ i. (c.type_inv.words i).fits) E.ensures }

@@ -1,6 +1,6 @@
 -- `perform::perform` meets its contract. Assumes nothing.
 use mathlib.Core.Path.{refl, sym, ◌∙◌}
-use mathlib.Core.List.{◌∷◌}
+use mathlib.Core.List.{[], ◌∷◌}
 use Prim.Native.Nat.{◌-◌}
 use native.Mathlib.Omega.{arith}
 use borrow.Author.Tests.{not-true, not-false}
@@ -41,7 +41,7 @@ perform_split-requires c = let l = c.loop-k in
     record { with_columns = (l.invariant.0 ∙ c.requires.words_len.0, l.invariant.1); sound = (l.invariant.2.sound, l.invariant.2.columns) }
 
 pub shape_of-words-then-not-perform_split : goal.shape_of-words-then-not-perform_split
-shape_of-words-then-not-perform_split c = c.perform_split.auto.0 ∙ c.loop-k.invariant.0
+shape_of-words-then-not-perform_split c = c.perform_split.auto.words ∙ c.loop-k.invariant.0
 
 pub returns-then-not-perform_split : goal.returns-then-not-perform_split
 returns-then-not-perform_split c = let E = c.perform_split in
@@ -55,8 +55,8 @@ pub loop-k-preserved : goal.loop-k-preserved
 loop-k-preserved c = let E = c.perform_split in
     let l = c.loop-k in
     let K = rw c.in-Split.is at c.read.ensures in (
-      E.auto.0 ∙ l.invariant.0,
-      E.auto.1.0 ∙ l.invariant.1,
+      E.auto.words ∙ l.invariant.0,
+      E.auto.cols ∙ l.invariant.1,
       going_next _ _ _ _ _ _ _ _ l.invariant.2 _ K _ _ E.result E.ensures (not-false E.result c.if-not-perform_split.false) (omega arith),
     )
 

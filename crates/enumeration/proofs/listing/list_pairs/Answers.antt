@@ -1,6 +1,6 @@
 -- `list_pairs` meets its contract. Assumes nothing.
 use mathlib.Core.Path.{refl, sym}
-use mathlib.Core.List.{◌∷◌}
+use mathlib.Core.List.{[], ◌∷◌}
 use Prim.Native.Nat.{◌+◌, ◌*◌, ◌-◌}
 use native.Mathlib.Omega.{arith}
 use lib.ListN.{length, length-append, length-set}

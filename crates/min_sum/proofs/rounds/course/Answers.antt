@@ -30,7 +30,7 @@ pub renew-requires : goal.renew-requires
 renew-requires c = let R = c.one_round.ensures.sent in record { tags = R.tags; values = R.values }
 
 pub shape_of-at-then-renew : goal.shape_of-at-then-renew
-shape_of-at-then-renew c = c.one_round.auto.1.1.1.1.1.0 ∙ c.loop-r.invariant.2 ∙ sym c.requires.2
+shape_of-at-then-renew c = c.one_round.auto.at ∙ c.loop-r.invariant.2 ∙ sym c.requires.2
 
 pub shape_of-tags-then-renew : goal.shape_of-tags-then-renew
 shape_of-tags-then-renew c = c.renew.ensures.kept.tags ∙ c.one_round.ensures.sent.tags ∙ sym c.requires.0.laid.memory.tags
@@ -61,7 +61,7 @@ loop-r-preserved c = let R = c.one_round in
     let H = round_more h _ c.args.checks c.requires.0.inner.below _ l.r _ _ l.invariant.3 _ _ R.ensures in (
       l.invariant.0,
       omega (arith, c.loop-r-test.true),
-      R.auto.1.1.1.1.1.0 ∙ l.invariant.2,
+      R.auto.at ∙ l.invariant.2,
       rw (add-one l.r) (holds_kept h c.args.checks _ _ _ _ l.invariant.0 H _ _ K),
       twice_kept _ _ _ _ _ K,
     )

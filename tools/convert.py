@@ -18,11 +18,12 @@ PATH = re.compile(r"(?<![\w'.◌-])(" + NAME + r")((?:\.[\w'-]+)+)?(?![\w'-])")
 
 
 # what port.py or respell.py turned in a path that is the source's own name
-GARBLED = {"lone_at_lem": "lone_at", "Each_back": "all_back", "Some_with": "once_with"}
+GARBLED = {"lone_at_lem": "lone_at", "each_back": "all_back", "some_with": "once_with"}
 
 
 def norm(s):
     s = s.replace("-", "_")
+    s = s[0].lower() + s[1:]
     return GARBLED.get(s, s[:-4] if s.endswith("_lem") else s)
 
 
@@ -154,8 +155,11 @@ class Fn:
             if kind == "place":
                 self.say(f"bare place {m[0]}")
                 return m[0]
-            return ".".join([root] + to)
-        return PATH.sub(sub, text)
+            path = ".".join([root] + to)
+            # the condition of `if !f(..)` says f's result itself now
+            return f"(ap not {path})" if len(to) == 2 and to[0].startswith("if-not-") and to[1] in ("true", "false") else path
+        text = PATH.sub(sub, text)
+        return re.sub(r"\(?not-true (?:_|[\w.'-]+|\((?:[^()]|\([^()]*\))*\)) \(ap not (c\.[\w.'-]+)\)\)?", lambda m: m[1] if m[0].startswith("(") and m[0].endswith("))") else ("(" if m[0].startswith("(") else "") + m[1] + (")" if m[0].endswith("))") else ""), text)
 
 
 def items(text):
@@ -452,6 +456,14 @@ def convert(fn):
                     keep.append(n)
             if keep:
                 out.append(f"use {m[1]}.{{{', '.join(keep)}}}")
+        if "(ap not " in text:
+            for module, n in (("mathlib.Core.Path", "ap"), ("mathlib.Core.Bool", "not")):
+                if not any(re.search(r"[{ ]" + n + r"[,}]", u) for u in out):
+                    at = next((j for j, u in enumerate(out) if u.startswith(f"use {module}.{{")), None)
+                    if at is None:
+                        out.insert(0, f"use {module}.{{{n}}}")
+                    else:
+                        out[at] = out[at][:-1] + f", {n}}}"
         return out
 
     result = {}

@@ -2,7 +2,6 @@
 use mathlib.Core.Path.{sym, ap, ◌∙◌}
 use mathlib.Core.List.{[], ◌∷◌}
 use native.Mathlib.Omega.{arith}
-use borrow.Author.Tests.{not-true}
 use Rattle.parity.specs.Demand3.{orthogonalises}
 use Rattle.parity.proofs.Matrix.Accept.{accepts}
 use Rattle.orthogonalise.specs.Answers.{orthogonalising_reply}
@@ -19,7 +18,7 @@ peel_front-requires c = let A = (accepts c.args.words.now c.args.n c.args.m 0).0
 
 pub returns-then-not-peel_front : goal.returns-then-not-peel_front
 returns-then-not-peel_front c = refused c.args.words.now c.args.n c.args.m c.requires.0 c.args.given.now c.requires.2 _ _
-    (sym (not-true c.peel_front.result c.if-not-peel_front.true) ∙ c.peel_front.ensures.value)
+    (sym c.if-not-peel_front.true ∙ c.peel_front.ensures.value)
 
 pub peel_front-requires-in-Refused : goal.peel_front-requires-in-Refused
 peel_front-requires-in-Refused c = let A = (accepts c.args.words.now c.args.n c.args.m 0).0 c.requires.0 in

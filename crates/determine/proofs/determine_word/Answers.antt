@@ -1,7 +1,8 @@
 -- `determine_word` meets its contract. Assumes nothing.
+use mathlib.Core.Bool.{not}
 use mathlib.Core.Path.{refl, sym, ap, ◌∙◌}
 use native.Mathlib.Omega.{arith}
-use borrow.Author.Tests.{not-true, not-false}
+use borrow.Author.Tests.{not-false}
 use Rattle.parity.specs.Matrix.{lent}
 use Rattle.parity.specs.Causes.{answer, Outcome}
 use Rattle.sets.proofs.Short.{set_short}
@@ -28,7 +29,7 @@ finish-requires c = let t = c.settle in
 pub returns-then-not-finish : goal.returns-then-not-finish
 returns-then-not-finish c = let v = c.finish in
     let (E, O) = c.make_sets.ensures in
-    let f = not-true v.result c.if-not-finish.true in
+    let f = c.if-not-finish.true in
     let r = word_refused 8 (lent 8 c.args.words.now) c.args.n c.args.k c.args.checks c.args.word.now _ _ c.requires.2 (omega (arith, c.requires.2, c.requires.3)) c.requires.5 E O _ _ c.settle.ensures _ _ _ v.ensures.sets f in
     record { result_value = sym (ap (λ (o : Outcome). o.reply) r); word_after = (rw f at v.ensures.word) ∙ sym (ap (λ (o : Outcome). o.after) r) }
 
@@ -41,6 +42,6 @@ losses_of-requires c = let t = c.settle in
 pub returns : goal.returns
 returns c = let v = c.finish in
     let (E, O) = c.make_sets.ensures in
-    let f = not-false v.result c.if-not-finish.false in
+    let f = not-false v.result (ap not c.if-not-finish.false) in
     let r = word_made 8 (lent 8 c.args.words.now) c.args.n c.args.k c.args.checks c.args.word.now _ _ c.requires.2 (omega (arith, c.requires.2, c.requires.3)) c.requires.5 E O _ _ c.settle.ensures _ _ _ v.ensures.sets f in
     record { result_value = ap answer c.losses_of.ensures ∙ sym (ap (λ (o : Outcome). o.reply) r); word_after = (rw f at v.ensures.word) ∙ sym (ap (λ (o : Outcome). o.after) r) }

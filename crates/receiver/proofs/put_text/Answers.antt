@@ -16,7 +16,7 @@ pub returns-then-is_wrong : goal.returns-then-is_wrong
 returns-then-is_wrong c = let input = c.args.input.now in
     same_text
     (wrong_mend input (sym c.is_wrong.ensures ∙ c.if-is_wrong.true))
-    c.Put-refused.ensures
+    c.put_refused.ensures
 
 pub size-w-requires : goal.size-w-requires
 size-w-requires c = sym c.is_wrong.ensures ∙ c.if-is_wrong.false

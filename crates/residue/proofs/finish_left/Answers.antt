@@ -1,8 +1,9 @@
 -- `finish_left` meets its contract. Assumes nothing.
+use mathlib.Core.Bool.{not}
 use mathlib.Core.Path.{refl, ap, ◌∙◌}
 use native.Mathlib.Omega.{arith}
 use lib.ListN.{length}
-use borrow.Author.Tests.{not-true, not-false}
+use borrow.Author.Tests.{not-false}
 use Rattle.residue.proofs.finish_left.Goals as goal
 
 pub width_of-width-requires : goal.width_of-width-requires
@@ -12,7 +13,7 @@ pub eliminate-requires : goal.eliminate-requires
 eliminate-requires c = c.requires.0
 
 pub returns-then-not-eliminate : goal.returns-then-not-eliminate
-returns-then-not-eliminate c = record { sets = rw (not-true c.eliminate.result c.if-not-eliminate.true) at c.eliminate.ensures; word = refl }
+returns-then-not-eliminate c = record { sets = rw c.if-not-eliminate.true at c.eliminate.ensures; word = refl }
 
 pub write-requires : goal.write-requires
 write-requires c = let G = c.requires.0.given in
@@ -20,7 +21,7 @@ write-requires c = let G = c.requires.0.given in
     (omega arith, c.requires.1, x.auto.left ∙ ap length G.left ∙ G.residue, x.auto.values ∙ ap length G.values ∙ G.known, c.requires.2)
 
 pub returns-then-width-eq8 : goal.returns-then-width-eq8
-returns-then-width-eq8 c = record { sets = rw (not-false c.eliminate.result c.if-not-eliminate.false) at c.eliminate.ensures; word = c.write.ensures }
+returns-then-width-eq8 c = record { sets = rw (not-false c.eliminate.result (ap not c.if-not-eliminate.false)) at c.eliminate.ensures; word = c.write.ensures }
 
 pub eliminate-requires-2 : goal.eliminate-requires-2
 eliminate-requires-2 c = let P = c.requires.0 in
@@ -28,7 +29,7 @@ eliminate-requires-2 c = let P = c.requires.0 in
     record { given = P.given; even = P.even; narrow = w.ensures.1; wide = w.ensures.0 }
 
 pub returns-then-not-eliminate-2 : goal.returns-then-not-eliminate-2
-returns-then-not-eliminate-2 c = record { sets = rw (not-true c.eliminate-2.result c.if-not-eliminate-2.true) at c.eliminate-2.ensures; word = refl }
+returns-then-not-eliminate-2 c = record { sets = rw c.if-not-eliminate-2.true at c.eliminate-2.ensures; word = refl }
 
 pub write-requires-2 : goal.write-requires-2
 write-requires-2 c = let G = c.requires.0.given in
@@ -36,4 +37,4 @@ write-requires-2 c = let G = c.requires.0.given in
     (omega arith, c.requires.1, x.auto.left ∙ ap length G.left ∙ G.residue, x.auto.values ∙ ap length G.values ∙ G.known, c.requires.2)
 
 pub returns : goal.returns
-returns c = record { sets = rw (not-false c.eliminate-2.result c.if-not-eliminate-2.false) at c.eliminate-2.ensures; word = c.write-2.ensures }
+returns c = record { sets = rw (not-false c.eliminate-2.result (ap not c.if-not-eliminate-2.false)) at c.eliminate-2.ensures; word = c.write-2.ensures }

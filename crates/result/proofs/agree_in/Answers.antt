@@ -3,7 +3,7 @@ use mathlib.Core.Path.{◌≡◌, sym, ◌∙◌}
 use mathlib.Core.Bool.{true}
 use Prim.Native.Nat.{◌-◌}
 use native.Mathlib.Omega.{arith}
-use borrow.Author.Tests.{not-true, not-false}
+use borrow.Author.Tests.{not-false}
 use Rattle.result.proofs.Agreeing.{agreeing_none, agreeing_not, agreeing_even, agreeing_erased}
 use Rattle.result.proofs.agree_in.Goals as goal
 use Rattle.result.proofs.agree_in.Goals.{then-is_odd, else-is_odd}
@@ -13,7 +13,7 @@ loop-c-init c = (omega arith, agreeing_none _ _ _ _)
 
 pub returns-then-not-touches : goal.returns-then-not-touches
 returns-then-not-touches c = let l = c.loop-c in
-    sym (agreeing_not _ _ _ _ c.args.checks l.c (omega arith) (sym c.is_odd.ensures ∙ c.if-is_odd.true) (sym c.touches.ensures ∙ not-true c.touches.result c.if-not-touches.true))
+    sym (agreeing_not _ _ _ _ c.args.checks l.c (omega arith) (sym c.is_odd.ensures ∙ c.if-is_odd.true) (sym c.touches.ensures ∙ c.if-not-touches.true))
 
 pub loop-c-preserved : goal.loop-c-preserved
 loop-c-preserved c = let l = c.loop-c in (

@@ -5,7 +5,7 @@ use native.Mathlib.Numerals.{add-one}
 use mathlib.Core.List.{[], ◌∷◌}
 use Prim.Native.Nat.{ℕ, ◌+◌}
 use native.Mathlib.Omega.{arith}
-use borrow.Author.Tests.{not-false, not-true}
+use borrow.Author.Tests.{not-false}
 use Rattle.parity.specs.Matrix.{lent}
 use Rattle.parity.specs.Cycles.{share, held_by}
 use Rattle.parity.specs.Causes.{refusal, held_values}
@@ -48,7 +48,7 @@ overflow_add-checks c = let s = c.args in
 pub returns-then-not-is_pair : goal.returns-then-not-is_pair
 returns-then-not-is_pair c = let s = c.args in
     let A = (accepts s.words.now s.n s.m s.k).0 c.requires in
-    let p : not_pair (s.n + s.k) s.u.0 s.v.0 ≡ true = sym (not-not _) ∙ ap not (sym c.is_pair.ensures ∙ not-true c.is_pair.result c.if-not-is_pair.true) in
+    let p : not_pair (s.n + s.k) s.u.0 s.v.0 ≡ true = sym (not-not _) ∙ ap not (sym c.is_pair.ensures ∙ c.if-not-is_pair.true) in
     rw (split_no_pair s.words.now s.n s.m s.k A s.u.0 s.v.0 p) record { result_value = refl; words_after = refl }
 
 pub column-both-requires : goal.column-both-requires

@@ -1,9 +1,10 @@
 -- `perform::perform` meets its contract. Assumes nothing.
-use mathlib.Core.Path.{refl, sym, ◌∙◌}
+use mathlib.Core.Bool.{not}
+use mathlib.Core.Path.{refl, sym, ◌∙◌, ap}
 use mathlib.Core.List.{[], ◌∷◌}
 use Prim.Native.Nat.{◌-◌}
 use native.Mathlib.Omega.{arith}
-use borrow.Author.Tests.{not-true, not-false}
+use borrow.Author.Tests.{not-false}
 use Rattle.columns.proofs.Filling.{two_words}
 use Rattle.reading.proofs.Other.{other_kind}
 use Rattle.carried.proofs.Performing.{going_start, going_ends, going_other, going_stops, going_next}
@@ -46,7 +47,7 @@ shape_of-words-then-not-perform_split c = c.perform_split.auto.words ∙ c.loop-
 pub returns-then-not-perform_split : goal.returns-then-not-perform_split
 returns-then-not-perform_split c = let E = c.perform_split in
     let K = rw c.in-Split.is at c.read.ensures in
-    going_stops _ _ _ _ _ _ _ _ c.loop-k.invariant.2 _ K _ _ E.result E.ensures (not-true E.result c.if-not-perform_split.true)
+    going_stops _ _ _ _ _ _ _ _ c.loop-k.invariant.2 _ K _ _ E.result E.ensures c.if-not-perform_split.true
 
 pub overflow_add-k : goal.overflow_add-k
 overflow_add-k c = omega (arith, c.loop-k.invariant.2.inside)
@@ -57,7 +58,7 @@ loop-k-preserved c = let E = c.perform_split in
     let K = rw c.in-Split.is at c.read.ensures in (
       E.auto.words ∙ l.invariant.0,
       E.auto.cols ∙ l.invariant.1,
-      going_next _ _ _ _ _ _ _ _ l.invariant.2 _ K _ _ E.result E.ensures (not-false E.result c.if-not-perform_split.false) (omega arith),
+      going_next _ _ _ _ _ _ _ _ l.invariant.2 _ K _ _ E.result E.ensures (not-false E.result (ap not c.if-not-perform_split.false)) (omega arith),
     )
 
 pub shape_of-words : goal.shape_of-words

@@ -1,9 +1,10 @@
 -- `rule::all_rules` meets its contract. Assumes nothing.
-use mathlib.Core.Path.{◌≡◌, refl, sym, ◌∙◌}
+use mathlib.Core.Bool.{not}
+use mathlib.Core.Path.{◌≡◌, refl, sym, ◌∙◌, ap}
 use Prim.Native.Nat.{◌-◌}
 use native.Mathlib.Omega.{arith}
 use borrow.Author.Rules.{rules}
-use borrow.Author.Tests.{not-true, not-false}
+use borrow.Author.Tests.{not-false}
 use Rattle.parity.specs.Matrix.{lent, rule_a}
 use Rattle.parity.proofs.Finite.Sums.{all_false}
 use Rattle.matrix.proofs.Passing.{passed_rule}
@@ -20,12 +21,12 @@ rule_at-requires c = let l = c.loop-j in
 pub returns-then-not-rule_at : goal.returns-then-not-rule_at
 unfolding rule_a
 returns-then-not-rule_at c = let r = c.rule_at in
-    sym (all_false _ _ _ (omega arith) (r.ensures.no (not-true r.result c.if-not-rule_at.true)))
+    sym (all_false _ _ _ (omega arith) (r.ensures.no c.if-not-rule_at.true))
 
 pub loop-j-preserved : goal.loop-j-preserved
 loop-j-preserved c = let r = c.rule_at in
     let l = c.loop-j in
-    (omega arith, r.auto.pairs ∙ l.invariant.1, r.ensures.yes (not-false r.result c.if-not-rule_at.false))
+    (omega arith, r.auto.pairs ∙ l.invariant.1, r.ensures.yes (not-false r.result (ap not c.if-not-rule_at.false)))
 
 pub returns : goal.returns
 returns c = let a = c.args in

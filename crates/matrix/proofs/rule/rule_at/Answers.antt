@@ -1,10 +1,10 @@
 -- `rule::rule_at` meets its contract. Assumes nothing.
-use mathlib.Core.Path.{◌≡◌, sym, ◌∙◌}
-use mathlib.Core.Bool.{false}
+use mathlib.Core.Path.{◌≡◌, sym, ◌∙◌, ap}
+use mathlib.Core.Bool.{false, not}
 use mathlib.Core.List.{List}
 use Prim.Native.Nat.{ℕ, ◌+◌, ◌*◌, ◌≤◌, ◌<◌}
 use native.Mathlib.Omega.{arith}
-use borrow.Author.Tests.{not-true, not-false}
+use borrow.Author.Tests.{not-false}
 use Rattle.parity.specs.Finite.{count}
 use Rattle.parity.specs.Matrix.{lent, rule_at}
 use Rattle.parity.proofs.Matrix.Clean.{clean_bits}
@@ -54,7 +54,7 @@ returns-then-weight-ne3 c = let a = c.args in
 
 pub returns-then-not-has : goal.returns-then-not-has
 returns-then-not-has c = let a = c.args in
-    fails s _ (not_own 512 (lent 8 a.words.now) a.n a.m a.k a.j (added s) (end s) (few s) (sym c.has.ensures ∙ not-true c.has.result c.if-not-has.true))
+    fails s _ (not_own 512 (lent 8 a.words.now) a.n a.m a.k a.j (added s) (end s) (few s) (sym c.has.ensures ∙ c.if-not-has.true))
 
 pub next_one-y-requires : goal.next_one-y-requires
 next_one-y-requires c = let a = c.args in
@@ -69,7 +69,7 @@ returns-then-not-apart c = let a = c.args in
     let m128 : a.m ≤ 2 * 64 = omega (arith, c.requires.words_len) in
     fails s _ (unless (rule_at (lent 8 a.words.now) a.n a.m a.k a.j) c.apart.result
     (λ t. c.apart.ensures.none_yes (columns_none 128 (lent 8 a.words.now) (lent 2 a.cols.now) a.m c.next_one-x.result c.next_one-y.result (a.n + a.j) c.requires.words_value.1 m128 (rule_given (lent 8 a.words.now) a.n a.m a.k a.j c.next_one-x.result c.next_one-y.result (added s) (these g) t)))
-    (not-true c.apart.result c.if-not-apart.true))
+    c.if-not-apart.true)
 
 pub fresh-requires : goal.fresh-requires
 fresh-requires c = record { words_len = (c.requires.words_len.0, c.requires.words_len.2, c.requires.words_len.3, omega (arith, c.requires.words_len), omega (arith, c.requires.words_len)); three = (these g, c.requires.words_value.2) }
@@ -79,5 +79,5 @@ returns c = let a = c.args in
     let m128 : a.m ≤ 2 * 64 = omega (arith, c.requires.words_len) in
     let top : a.n + a.j < 64 * a.width = omega (arith, c.requires.words_len) in
     judged a.width (lent 8 a.words.now) a.n a.m a.k a.j c.next_one-x.result c.next_one-y.result a.pairs.now _ c.fresh.result (added s) top (these g) c.requires.words_value.2
-    (none_columns 128 (lent 8 a.words.now) (lent 2 a.cols.now) a.m c.next_one-x.result c.next_one-y.result (a.n + a.j) c.requires.words_value.1 m128 (c.apart.ensures.yes_none (not-false c.apart.result c.if-not-apart.false)))
+    (none_columns 128 (lent 8 a.words.now) (lent 2 a.cols.now) a.m c.next_one-x.result c.next_one-y.result (a.n + a.j) c.requires.words_value.1 m128 (c.apart.ensures.yes_none (not-false c.apart.result (ap not c.if-not-apart.false))))
     c.fresh.ensures

@@ -28,7 +28,7 @@ returns-in-Refused c = let a = c.args in
     let e = sym (ap loading_reply g.1) ∙ p.ensures.result_value in
     same_text
     (load_refused z.result a.source.now a.sent.now g.0.0 e ∙ load_zero z.result a.source.now a.sent.now z.ensures)
-    c.Put-refused.ensures
+    c.put_refused.ensures
 
 pub returns-in-Loaded : goal.returns-in-Loaded
 returns-in-Loaded c = let a = c.args in

@@ -32,7 +32,7 @@ returns-in-Refused c = let a = c.args in
     let e = sym (ap orthogonalising_reply g.1) ∙ p.ensures.result_value in
     same_text
     (orthogonalise_refused a.words.now a.n a.m a.j a.sent.now g.0.0 e)
-    c.Put-refused.ensures
+    c.put_refused.ensures
 
 pub returns-in-Finished : goal.returns-in-Finished
 returns-in-Finished c = let a = c.args in

@@ -24,7 +24,7 @@ pub returns-then-sent-n : goal.returns-then-sent-n
 returns-then-sent-n c = let a = c.args in
     same_text
     (peel_short a.words.now a.n a.m a.k a.splits a.sum a.sent.now c.requires.k_value (search rules))
-    c.Put-refused.ensures
+    c.put_refused.ensures
 
 pub erased_behind-word-requires : goal.erased_behind-word-requires
 erased_behind-word-requires c = let a = c.args in

@@ -18,7 +18,7 @@ returns-then-place-word c = let a = c.args in
     let f = c.first_above-place.ensures in
     same_text
     (peel_wrong a.words.now a.n a.m a.k a.splits a.sum a.word.now _ c.requires.k_value.0 c.requires.k_value.1 f (byte_wrong a.word.now 2 _ f c.if-place-word.true))
-    c.Put-refused.ensures
+    c.put_refused.ensures
 
 pub peel_admitted-requires : goal.peel_admitted-requires
 peel_admitted-requires c = (c.requires.k_value.0, c.requires.k_value.1, byte_right c.args.word.now 2 _ c.first_above-place.ensures (λ q. omega (arith, c.if-place-word.false)))

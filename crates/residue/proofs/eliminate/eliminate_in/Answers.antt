@@ -1,10 +1,11 @@
 -- `eliminate::eliminate_in` meets its contract. Assumes nothing.
+use mathlib.Core.Bool.{not}
 use Prim.Native.Nat.{◌≤◌}
 use mathlib.Core.Path.{ap, ◌∙◌}
 use native.Mathlib.Nat.{mul-le-mul_right}
 use native.Mathlib.Omega.{arith}
 use lib.ListN.{length}
-use borrow.Author.Tests.{not-true, not-false}
+use borrow.Author.Tests.{not-false}
 use Rattle.residue.proofs.Solving.{rows_low, rows_none, rows_some}
 use Rattle.residue.proofs.eliminate.eliminate_in.Goals as goal
 
@@ -22,7 +23,7 @@ even_from-requires c = let g = c.gather-count in
 
 pub returns-then-not-even_from : goal.returns-then-not-even_from
 returns-then-not-even_from c = let e = c.even_from in
-    rows_none _ _ _ _ _ _ _ _ c.requires.0 _ _ _ _ _ c.gather-count.ensures c.reduce_in-r.ensures (rw (not-true e.result c.if-not-even_from.true) at e.ensures)
+    rows_none _ _ _ _ _ _ _ _ c.requires.0 _ _ _ _ _ c.gather-count.ensures c.reduce_in-r.ensures (rw c.if-not-even_from.true at e.ensures)
 
 pub write_pivots-requires : goal.write_pivots-requires
 write_pivots-requires c = let P = c.requires.0 in
@@ -41,4 +42,4 @@ write_pivots-requires c = let P = c.requires.0 in
 
 pub returns : goal.returns
 returns c = let e = c.even_from in
-    rows_some _ _ _ _ _ _ _ _ c.requires.0 _ _ _ _ _ c.gather-count.ensures c.reduce_in-r.ensures (rw (not-false e.result c.if-not-even_from.false) at e.ensures) _ _ c.write_pivots.ensures
+    rows_some _ _ _ _ _ _ _ _ c.requires.0 _ _ _ _ _ c.gather-count.ensures c.reduce_in-r.ensures (rw (not-false e.result (ap not c.if-not-even_from.false)) at e.ensures) _ _ c.write_pivots.ensures

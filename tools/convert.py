@@ -159,7 +159,7 @@ class Fn:
             # the condition of `if !f(..)` says f's result itself now
             return f"(ap not {path})" if len(to) == 2 and to[0].startswith("if-not-") and to[1] in ("true", "false") else path
         text = PATH.sub(sub, text)
-        return re.sub(r"\(?not-true (?:_|[\w.'-]+|\((?:[^()]|\([^()]*\))*\)) \(ap not (c\.[\w.'-]+)\)\)?", lambda m: m[1] if m[0].startswith("(") and m[0].endswith("))") else ("(" if m[0].startswith("(") else "") + m[1] + (")" if m[0].endswith("))") else ""), text)
+        return re.sub(r"\(?not-(?:true|false) (?:_|[\w.'-]+|\((?:[^()]|\([^()]*\))*\)) \(ap not (c\.[\w.'-]+)\)\)?", lambda m: m[1] if m[0].startswith("(") and m[0].endswith("))") else ("(" if m[0].startswith("(") else "") + m[1] + (")" if m[0].endswith("))") else ""), text)
 
 
 def items(text):

@@ -38,6 +38,6 @@ losses_of-requires c = let t = c.settle in
 pub returns : goal.returns
 returns c = let g = c.finish in
     let (E, O) = c.make_sets.ensures in
-    let f = not-false g.result (ap not c.if-not-finish.false) in
+    let f = c.if-not-finish.false in
     let r = word_made 8 (lent 8 c.args.words.now) c.args.n c.args.k c.args.checks c.args.word.now _ _ c.requires.2 (omega (arith, c.requires.2, c.requires.3)) c.requires.5 E O _ _ c.settle.ensures (sym g.ensures.told ∙ f) in
     record { result_value = ap answer c.losses_of.ensures ∙ sym (ap (λ (o : Outcome). o.reply) r); word_after = (rw f at g.ensures.word) ∙ sym (ap (λ (o : Outcome). o.after) r) }

@@ -40,10 +40,10 @@ returns-then-size-eq0 c = let G = c.requires.0 in
     let a = c.agree in
     record {
       sets = rw (G.left, G.values) (all_known (lent 8 c.args.words.now) c.args.bits c.args.checks (lent 8 c.args.residue.now 0) (lent 8 c.args.known.now 0) G.bits G.apart
-          (sym a.ensures ∙ not-false a.result (ap not c.if-not-agree.false)) (sym c.size.ensures ∙ c.if-size-eq0.true));
+          (sym a.ensures ∙ c.if-not-agree.false) (sym c.size.ensures ∙ c.if-size-eq0.true));
       word = c.write.ensures;
     }
 
 pub finish_left-requires : goal.finish_left-requires
 finish_left-requires c = let a = c.agree in
-    (record { given = c.requires.0; even = sym a.ensures ∙ not-false a.result (ap not c.if-not-agree.false); narrow = omega arith; wide = c.requires.0.bits }, c.requires.1, c.requires.2)
+    (record { given = c.requires.0; even = sym a.ensures ∙ c.if-not-agree.false; narrow = omega arith; wide = c.requires.0.bits }, c.requires.1, c.requires.2)

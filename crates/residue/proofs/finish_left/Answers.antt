@@ -21,7 +21,7 @@ write-requires c = let G = c.requires.0.given in
     (omega arith, c.requires.1, x.auto.left ∙ ap length G.left ∙ G.residue, x.auto.values ∙ ap length G.values ∙ G.known, c.requires.2)
 
 pub returns-then-width-eq8 : goal.returns-then-width-eq8
-returns-then-width-eq8 c = record { sets = rw (not-false c.eliminate.result (ap not c.if-not-eliminate.false)) at c.eliminate.ensures; word = c.write.ensures }
+returns-then-width-eq8 c = record { sets = rw c.if-not-eliminate.false at c.eliminate.ensures; word = c.write.ensures }
 
 pub eliminate-requires-2 : goal.eliminate-requires-2
 eliminate-requires-2 c = let P = c.requires.0 in
@@ -37,4 +37,4 @@ write-requires-2 c = let G = c.requires.0.given in
     (omega arith, c.requires.1, x.auto.left ∙ ap length G.left ∙ G.residue, x.auto.values ∙ ap length G.values ∙ G.known, c.requires.2)
 
 pub returns : goal.returns
-returns c = record { sets = rw (not-false c.eliminate-2.result (ap not c.if-not-eliminate-2.false)) at c.eliminate-2.ensures; word = c.write-2.ensures }
+returns c = record { sets = rw c.if-not-eliminate-2.false at c.eliminate-2.ensures; word = c.write-2.ensures }

@@ -23,7 +23,7 @@ pub loop-i-preserved : goal.loop-i-preserved
 loop-i-preserved c = let S = c.same_float in
     let l = c.loop-i in
     let t = c.loop-i-test.true in
-    (omega (arith, t), l.invariant.1, twice_more _ _ _ l.i l.invariant.2 c.if-tags-i.false (S.ensures (not-false S.result (ap not c.if-not-same_float.false))))
+    (omega (arith, t), l.invariant.1, twice_more _ _ _ l.i l.invariant.2 c.if-tags-i.false (S.ensures c.if-not-same_float.false))
 
 pub returns : goal.returns
 returns c = let l = c.loop-i in

@@ -35,7 +35,7 @@ pub write_checks-requires-2 : goal.write_checks-requires-2
 write_checks-requires-2 c = let A = (accepts _ _ _ _).0 c.requires.0 in
     let E = c.all_back in
     let e = c.no_rows-rows.ensures in
-    let r = not-false E.result (ap not c.if-not-all_back.false) in
+    let r = c.if-not-all_back.false in
     record { width_in_bounds = (omega (arith, E.auto.rows, ap length e, length-replicate {A = ℕ} 256 0, A.sound.m120), omega arith, omega arith); k_value = (c.requires.0, E.ensures.decides ∙ ap not r); checks_value = (E.ensures.matrix r, c.requires.1) }
 
 pub returns : goal.returns

@@ -58,7 +58,7 @@ loop-k-preserved c = let E = c.perform_split in
     let K = rw c.in-Split.is at c.read.ensures in (
       E.auto.words ∙ l.invariant.0,
       E.auto.cols ∙ l.invariant.1,
-      going_next _ _ _ _ _ _ _ _ l.invariant.2 _ K _ _ E.result E.ensures (not-false E.result (ap not c.if-not-perform_split.false)) (omega arith),
+      going_next _ _ _ _ _ _ _ _ l.invariant.2 _ K _ _ E.result E.ensures c.if-not-perform_split.false (omega arith),
     )
 
 pub shape_of-words : goal.shape_of-words

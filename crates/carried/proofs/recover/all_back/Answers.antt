@@ -26,4 +26,4 @@ fill_checks-requires c = let l : length c.each_back.new.cols ≡ 1024 = search r
 
 pub returns : goal.returns
 returns c = let E = c.each_back in
-    rows_made _ _ _ _ _ _ c.requires.3 E.ensures.columns c.fill_checks.ensures E.result E.ensures.all_back (not-false E.result (ap not c.if-not-each_back.false))
+    rows_made _ _ _ _ _ _ c.requires.3 E.ensures.columns c.fill_checks.ensures E.result E.ensures.all_back c.if-not-each_back.false

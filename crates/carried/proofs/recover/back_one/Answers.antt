@@ -50,6 +50,6 @@ returns c = let R = rw (add-one c.args.j) at c.requires.raw.0 in
     let b = standing_higher _ _ _ _ _ R _ _ a c.next_one-v.ensures in
     let E = c.apart in
     let w = c.weight in
-    let A = one_keeps _ _ _ _ R _ C _ _ E.result a b E.ensures (not-false E.result (ap not c.if-not-apart.false)) in
+    let A = one_keeps _ _ _ _ R _ C _ _ E.result a b E.ensures c.if-not-apart.false in
     let J = c.join.ensures in
     rw (add-one c.args.j) record { back_one = one_made _ _ _ _ R _ C A w.result w.ensures c.if-weight-lt2.false _ (joined_back _ _ _ _ _ R _ _ _ a b A J); columns = joined_columns _ _ _ _ _ R _ _ _ a b A J C }

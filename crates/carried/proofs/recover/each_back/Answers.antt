@@ -33,7 +33,7 @@ loop-j-preserved c = let E = c.back_one in
     let l = c.loop-j in
     let e : l.j - 1 + 1 ≡ suc (l.j - 1) = add-one (l.j - 1) in
     let f : suc (l.j - 1) ≡ l.j = omega arith in
-    (E.auto.cols ∙ l.invariant.0, taking_next _ _ _ _ _ (l.j - 1) c.requires.sound.0 (rw f l.invariant.1) _ E.result (rw e at E.ensures.back_one) (not-false E.result (ap not c.if-not-back_one.false)), E.ensures.columns)
+    (E.auto.cols ∙ l.invariant.0, taking_next _ _ _ _ _ (l.j - 1) c.requires.sound.0 (rw f l.invariant.1) _ E.result (rw e at E.ensures.back_one) c.if-not-back_one.false, E.ensures.columns)
 
 pub shape_of-cols : goal.shape_of-cols
 shape_of-cols c = c.loop-j.invariant.0 ∙ sym c.requires.with_columns.1

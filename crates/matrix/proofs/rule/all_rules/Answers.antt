@@ -26,7 +26,7 @@ returns-then-not-rule_at c = let r = c.rule_at in
 pub loop-j-preserved : goal.loop-j-preserved
 loop-j-preserved c = let r = c.rule_at in
     let l = c.loop-j in
-    (omega arith, r.auto.pairs ∙ l.invariant.1, r.ensures.yes (not-false r.result (ap not c.if-not-rule_at.false)))
+    (omega arith, r.auto.pairs ∙ l.invariant.1, r.ensures.yes c.if-not-rule_at.false)
 
 pub returns : goal.returns
 returns c = let a = c.args in

@@ -79,5 +79,5 @@ returns c = let a = c.args in
     let m128 : a.m ≤ 2 * 64 = omega (arith, c.requires.words_len) in
     let top : a.n + a.j < 64 * a.width = omega (arith, c.requires.words_len) in
     judged a.width (lent 8 a.words.now) a.n a.m a.k a.j c.next_one-x.result c.next_one-y.result a.pairs.now _ c.fresh.result (added s) top (these g) c.requires.words_value.2
-    (none_columns 128 (lent 8 a.words.now) (lent 2 a.cols.now) a.m c.next_one-x.result c.next_one-y.result (a.n + a.j) c.requires.words_value.1 m128 (c.apart.ensures.yes_none (not-false c.apart.result (ap not c.if-not-apart.false))))
+    (none_columns 128 (lent 8 a.words.now) (lent 2 a.cols.now) a.m c.next_one-x.result c.next_one-y.result (a.n + a.j) c.requires.words_value.1 m128 (c.apart.ensures.yes_none c.if-not-apart.false))
     c.fresh.ensures

@@ -42,4 +42,4 @@ write_pivots-requires c = let P = c.requires.0 in
 
 pub returns : goal.returns
 returns c = let e = c.even_from in
-    rows_some _ _ _ _ _ _ _ _ c.requires.0 _ _ _ _ _ c.gather-count.ensures c.reduce_in-r.ensures (rw (not-false e.result (ap not c.if-not-even_from.false)) at e.ensures) _ _ c.write_pivots.ensures
+    rows_some _ _ _ _ _ _ _ _ c.requires.0 _ _ _ _ _ c.gather-count.ensures c.reduce_in-r.ensures (rw c.if-not-even_from.false at e.ensures) _ _ c.write_pivots.ensures

@@ -18,11 +18,12 @@ PATH = re.compile(r"(?<![\w'.◌-])(" + NAME + r")((?:\.[\w'-]+)+)?(?![\w'-])")
 
 
 # what port.py or respell.py turned in a path that is the source's own name
-GARBLED = {"lone_at_lem": "lone_at", "Each_back": "all_back", "Some_with": "once_with"}
+GARBLED = {"lone_at_lem": "lone_at", "each_back": "all_back", "some_with": "once_with"}
 
 
 def norm(s):
     s = s.replace("-", "_")
+    s = s[0].lower() + s[1:]
     return GARBLED.get(s, s[:-4] if s.endswith("_lem") else s)
 
 
@@ -63,7 +64,7 @@ class Fn:
                     self.say(f"requires at {'.'.join(segs)}")
                 else:
                     rest = c
-            return [head] + rest
+            return [norm(head)] + rest
         arm = self.data["arms"][i]
         if arm:
             best = None
@@ -75,6 +76,7 @@ class Fn:
                 return [arm[0], best[0]] + rest[best[1]:]
         if norm(head) != norm(old):
             return None
+        rest = self.parameter(callee, rest)
         if rest[:1] == ["given"] and getattr(self, "goal", None):
             for var, known in self.data["typed"][self.places[self.goal][0]]:
                 if norm(known) == norm(head):
@@ -87,6 +89,18 @@ class Fn:
             else:
                 rest = ["ensures"] + k
         return [new] + rest
+
+    def parameter(self, callee, rest):
+        """.auto.1.1.0 (and .new, .last) by the parameter's name."""
+        if callee and rest and rest[0] in ("auto", "new", "last", "old") and len(rest) > 1 and rest[1] in ("0", "1"):
+            i = 1
+            while i < len(rest) and rest[i] == "1":
+                i += 1
+            names = self.data["params"].get(callee, [])
+            if i < len(rest) and rest[i] == "0" and i - 1 < len(names):
+                return [rest[0], names[i - 1]] + rest[i + 1:]
+            self.say(f"parameter {'.'.join(rest)} of {callee} {names}")
+        return rest
 
     def resolve(self, place, segs):
         """A path without its steps back: the nearest place at or before the goal's that has the field."""
@@ -118,7 +132,19 @@ class Fn:
             else:
                 break
 
+        steps = {}
+        for m in let.finditer(text):
+            if m[2] in aliases and m[1] not in aliases:
+                segs = [s for s in m[3].split(".") if s and s != "before"]
+                if len(segs) == 1 and norm(segs[0]) != "args" or len(segs) == 2 and segs[1] in ("ensures", "given"):
+                    steps[m[1]] = segs
+
         def sub(m):
+            if m[1] in steps and m[2] and m[1] not in aliases:
+                segs = steps[m[1]] + [s for s in m[2].split(".") if s]
+                kind, to = self.resolve(place, segs)
+                kind, step = self.resolve(place, steps[m[1]])
+                return ".".join([m[1]] + to[len(step):]) if to[:len(step)] == step else ".".join([root] + to)
             if m[1] not in aliases:
                 return m[0]
             segs = [s for s in (m[2] or "").split(".") if s]
@@ -129,8 +155,11 @@ class Fn:
             if kind == "place":
                 self.say(f"bare place {m[0]}")
                 return m[0]
-            return ".".join([root] + to)
-        return PATH.sub(sub, text)
+            path = ".".join([root] + to)
+            # the condition of `if !f(..)` says f's result itself now
+            return f"(ap not {path})" if len(to) == 2 and to[0].startswith("if-not-") and to[1] in ("true", "false") else path
+        text = PATH.sub(sub, text)
+        return re.sub(r"\(?not-(?:true|false) (?:_|[\w.'-]+|\((?:[^()]|\([^()]*\))*\)) \(ap not (c\.[\w.'-]+)\)\)?", lambda m: m[1] if m[0].startswith("(") and m[0].endswith("))") else ("(" if m[0].startswith("(") else "") + m[1] + (")" if m[0].endswith("))") else ""), text)
 
 
 def items(text):
@@ -167,6 +196,48 @@ def tuple_parts(s):
     return parts if len(parts) > 1 else None
 
 
+def group_end(s, at):
+    """The index after the group that opens at s[at]."""
+    depth = 0
+    for i in range(at, len(s)):
+        if s[i] in "([{":
+            depth += 1
+        elif s[i] in ")]}":
+            depth -= 1
+            if depth == 0:
+                return i + 1
+    return len(s)
+
+
+def joins(fn, body):
+    """⊎_elim (λ w. A) (λ w. B) c.if-x.branch as elim c.if-x.branch [ then-x w ↦ A | else-x w ↦ B ]; and the names that it needs."""
+    need = []
+    while True:
+        m = None
+        for m in re.finditer(r"⊎_elim\s+(?=\(λ w\.)", body):
+            a = m.end()
+            ea = group_end(body, a)
+            mb = re.match(r"\s+(?=\(λ w\.)", body[ea:])
+            if not mb:
+                continue
+            b = ea + mb.end()
+            eb = group_end(body, b)
+            mc = re.match(r"\s+((?:c|[\w']+)\.(?:[\w'-]+\.)*)?(if-[\w'-]+)\.branch", body[eb:])
+            if not mc:
+                continue
+            x = mc[2][3:]
+            A, B = (re.match(r"\(λ w\.\s*(.*)\)$", body[i:j], re.S)[1] for i, j in ((a, ea), (b, eb)))
+            A = A.replace("w.0.taken", f"w.if-{x}.true").replace("w.0.left", f"w.if-{x}.false")
+            B = B.replace("w.0.taken", f"w.if-{x}.true").replace("w.0.left", f"w.if-{x}.false")
+            need += [f"then-{x}", f"else-{x}"]
+            path = (mc[1] or "") + mc[2] + ".branch"
+            body = body[:m.start()] + f"(elim {path} [ then-{x} w ↦ {A} | else-{x} w ↦ {B} ])" + body[eb + mc.end():]
+            fn.say(f"join at if-{x}: {sorted(set(re.findall(r'w[.][0-9][a-z0-9.]*', A + B)))}")
+            break
+        else:
+            return body, need
+
+
 def last_group(s):
     """Where the parenthesised group begins that ends s, or None."""
     s = s.rstrip()
@@ -201,7 +272,14 @@ def as_record(fn, body, fields, known):
     m = re.search(r"(?<![\w.'-])(c(?:\.[\w'-]+)*\.ensures)$", body)
     if m:
         return body[:m.start()] + "record { " + "; ".join(f"{f} = {m[1]}.{f}" for f in fields) + " }"
-    fn.say(f"asked {fields}: the answer is no tuple")
+    m = re.match(r"(.*\bin\s+)?(.*)$", body, re.S)
+    last = (m[2] or "").strip()
+    if re.match(r"[a-z][\w'-]* ", last) and not re.match(r"(rw|elim|simp|let|unfold|cc|search) ", last):
+        value = ["both.0", "both.1"] if len(fields) == 2 else [f"all.{k}" for k in range(len(fields))]
+        name = "both" if len(fields) == 2 else "all"
+        fn.say(f"asked {fields}: by the parts of {last[:60]}")
+        return (m[1] or "") + f"let {name} = {last} in record {{ " + "; ".join(f"{f} = {v}" for f, v in zip(fields, value)) + " }"
+    fn.say(f"asked {fields}: the answer is no tuple: {last[:80]}")
     return body
 
 
@@ -238,6 +316,7 @@ def convert(fn):
         fn.say("its source was not found")
         loops = {}
     answers, invariants, dropped = {}, [], 0
+    constructors = []
     its = items(text)
     # the order of the needs in the last declaration
     m = re.search(r"tie\.spec\b(.*)\Z", text, re.S)
@@ -349,6 +428,8 @@ def convert(fn):
                     dropped += 1
                     continue
                 body = fn.body(body, place)
+                body, more = joins(fn, body)
+                constructors.extend(more)
                 fields = d["asked"].get(goal) or d["asked"].get(m[1]) or next((v for kk, v in d["asked"].items() if norm(kk) == norm([o for o, n in d["needs"] if n == goal][0])), None)
                 if fields and len(fields) > 1:
                     body = as_record(fn, body, fields, None)
@@ -378,10 +459,18 @@ def convert(fn):
                     continue
                 w = n.split(" as ")[-1].strip()
                 bare = w.replace("◌", "")
-                if w in words or ("◌" in w and (bare in words or bare in ops or any(b in text for b in [bare]))):
+                if w in words or (w == "[]" and "[]" in text) or ("◌" in w and (bare in words or bare in ops or any(b in text for b in [bare]))):
                     keep.append(n)
             if keep:
                 out.append(f"use {m[1]}.{{{', '.join(keep)}}}")
+        if "(ap not " in text:
+            for module, n in (("mathlib.Core.Path", "ap"), ("mathlib.Core.Bool", "not")):
+                if not any(re.search(r"[{ ]" + n + r"[,}]", u) for u in out):
+                    at = next((j for j, u in enumerate(out) if u.startswith(f"use {module}.{{")), None)
+                    if at is None:
+                        out.insert(0, f"use {module}.{{{n}}}")
+                    else:
+                        out[at] = out[at][:-1] + f", {n}}}"
         return out
 
     result = {}
@@ -397,7 +486,8 @@ def convert(fn):
         for g, (unf, b) in answers.items():
             text += f"\npub {g} : goal.{g}\n" + "".join(u + "\n" for u in unf) + f"{g} c = {b}\n"
         text = hs + text
-        result["Answers.antt"] = "\n".join([first, *used(text), f"use {own}.Goals as goal"]) + "\n" + text
+        extra = [f"use {own}.Goals.{{{', '.join(dict.fromkeys(constructors))}}}"] if constructors else []
+        result["Answers.antt"] = "\n".join([first, *used(text), f"use {own}.Goals as goal", *extra]) + "\n" + text
     return folder, file, result, dropped
 
 

@@ -1,7 +1,6 @@
 -- `determine_word` meets its contract. Assumes nothing.
 use mathlib.Core.Path.{refl, sym, ap, ◌∙◌}
 use native.Mathlib.Omega.{arith}
-use borrow.Author.Tests.{not-true, not-false}
 use Rattle.parity.specs.Matrix.{lent}
 use Rattle.parity.specs.Causes.{answer, Outcome}
 use Rattle.sets.proofs.Short.{set_short}
@@ -18,8 +17,8 @@ settle-requires c = let u = c.words_of.ensures in
 pub finish-requires : goal.finish-requires
 finish-requires c = let t = c.settle in
     let (E, O) = c.make_sets.ensures in
-    let e = t.auto.1.1.1.0 ∙ E.size in
-    let o = t.auto.1.1.1.1.0 ∙ O.size in (
+    let e = t.auto.erased ∙ E.size in
+    let o = t.auto.ones ∙ O.size in (
       record { words = c.requires.0; bits = c.requires.3; checks = omega (arith, c.requires.1); residue = e; known = o; left = refl; values = refl; apart = word_apart 8 (lent 8 c.args.words.now) c.args.n c.args.k c.args.checks c.args.word.now _ _ c.requires.2 (omega (arith, c.requires.2, c.requires.3)) c.requires.5 E O _ _ t.ensures },
       E.size,
       set_short 8 c.args.word.now 2 _ E,
@@ -28,7 +27,7 @@ finish-requires c = let t = c.settle in
 pub returns-then-not-finish : goal.returns-then-not-finish
 returns-then-not-finish c = let v = c.finish in
     let (E, O) = c.make_sets.ensures in
-    let f = not-true v.result c.if-not-finish.true in
+    let f = c.if-not-finish.true in
     let r = word_refused 8 (lent 8 c.args.words.now) c.args.n c.args.k c.args.checks c.args.word.now _ _ c.requires.2 (omega (arith, c.requires.2, c.requires.3)) c.requires.5 E O _ _ c.settle.ensures _ _ _ v.ensures.sets f in
     record { result_value = sym (ap (λ (o : Outcome). o.reply) r); word_after = (rw f at v.ensures.word) ∙ sym (ap (λ (o : Outcome). o.after) r) }
 
@@ -36,11 +35,11 @@ pub losses_of-requires : goal.losses_of-requires
 losses_of-requires c = let t = c.settle in
     let v = c.finish in
     let (E, O) = c.make_sets.ensures in
-    (E.size, v.auto.1.1.1.1.1.1.1.0 ∙ t.auto.1.1.1.0 ∙ E.size, c.requires.4, word_within 8 (lent 8 c.args.words.now) c.args.n c.args.k c.args.checks c.args.word.now _ _ c.requires.2 (omega (arith, c.requires.2, c.requires.3)) c.requires.5 E O _ _ t.ensures _ _ _ v.ensures.sets)
+    (E.size, v.auto.left ∙ t.auto.erased ∙ E.size, c.requires.4, word_within 8 (lent 8 c.args.words.now) c.args.n c.args.k c.args.checks c.args.word.now _ _ c.requires.2 (omega (arith, c.requires.2, c.requires.3)) c.requires.5 E O _ _ t.ensures _ _ _ v.ensures.sets)
 
 pub returns : goal.returns
 returns c = let v = c.finish in
     let (E, O) = c.make_sets.ensures in
-    let f = not-false v.result c.if-not-finish.false in
+    let f = c.if-not-finish.false in
     let r = word_made 8 (lent 8 c.args.words.now) c.args.n c.args.k c.args.checks c.args.word.now _ _ c.requires.2 (omega (arith, c.requires.2, c.requires.3)) c.requires.5 E O _ _ c.settle.ensures _ _ _ v.ensures.sets f in
     record { result_value = ap answer c.losses_of.ensures ∙ sym (ap (λ (o : Outcome). o.reply) r); word_after = (rw f at v.ensures.word) ∙ sym (ap (λ (o : Outcome). o.after) r) }

@@ -16,7 +16,7 @@ overflow_mul-r c = record { fits = omega (arith, row_room c.args.width c.args.r 
 pub copy_words-requires : goal.copy_words-requires
 copy_words-requires c = (
       omega (arith, c.requires.1, c.row_of-row.ensures.blank.size),
-      omega (arith, c.clear.auto.0, row_room c.args.width c.args.r c.args.checks c.requires.4),
+      omega (arith, c.clear.auto.rows, row_room c.args.width c.args.r c.args.checks c.requires.4),
     )
 
 pub returns : goal.returns

@@ -28,7 +28,7 @@ pub clear_around-requires : goal.clear_around-requires
 clear_around-requires c = (omega (arith, (joined c.before).0), c.requires.1, c.requires.2, c.requires.3, c.requires.4)
 
 pub shape_of-rows : goal.shape_of-rows
-shape_of-rows c = c.clear_around.auto.0 ∙ (joined c.before.before.before.before).0
+shape_of-rows c = c.clear_around.auto.rows ∙ (joined c.before.before.before.before).0
 
 pub returns : goal.returns
 returns c = c.clear_around.ensures ∙ ap (around c.args.first c.args.checks c.args.r c.args.b) (joined c.before.before.before.before).1

@@ -15,8 +15,8 @@ turn-r-requires c = let l = c.loop-b in
 pub loop-b-preserved : goal.loop-b-preserved
 loop-b-preserved c = let l = c.loop-b in (
       omega arith,
-      c.turn-r.auto.0 ∙ l.invariant.1,
-      c.turn-r.auto.1.1.1.1.1.1.0 ∙ l.invariant.2,
+      c.turn-r.auto.rows ∙ l.invariant.1,
+      c.turn-r.auto.pivots ∙ l.invariant.2,
       c.turn-r.ensures.below refl _ _ l.invariant.3,
     )
 

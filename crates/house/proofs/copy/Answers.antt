@@ -22,4 +22,4 @@ returns c = let l : length c.args.words.now ≡ 4096 = c.if-words-ne4096.false i
     let k : c.args.name < 5 = omega (arith, c.if-name-ge5.false) in
     let e = house_right _ _ l k in
     let z = house_sizes _ k in
-    let p = c.put_checks in record { result_value = rw (c.bits.ensures, c.checks.ensures) (sym (ap (λ (o : Outcome). o.reply) e)); words_after = holding_all 8 (lit< tt) _ _ _ (house_clean c.args.name) (omega arith) p.new.1.0 (p.auto.1.0 ∙ c.clear.auto.0 ∙ l) p.ensures ∙ sym (ap (λ (o : Outcome). o.after) e) }
+    let p = c.put_checks in record { result_value = rw (c.bits.ensures, c.checks.ensures) (sym (ap (λ (o : Outcome). o.reply) e)); words_after = holding_all 8 (lit< tt) _ _ _ (house_clean c.args.name) (omega arith) p.new.words (p.auto.words ∙ c.clear.auto.words ∙ l) p.ensures ∙ sym (ap (λ (o : Outcome). o.after) e) }

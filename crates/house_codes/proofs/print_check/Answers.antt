@@ -11,7 +11,7 @@ pub overflow_add-line : goal.overflow_add-line
 overflow_add-line c = let s = house_sizes _ c.requires.0 in record { fits = omega (arith, c.bits-n.ensures) }
 
 pub slice_bounds-line-end : goal.slice_bounds-line-end
-slice_bounds-line-end c = let s = house_sizes _ c.requires.0 in omega (arith, c.bits-n.ensures, c.put_bits.auto.1.1.0)
+slice_bounds-line-end c = let s = house_sizes _ c.requires.0 in omega (arith, c.bits-n.ensures, c.put_bits.auto.line)
 
 pub slice_bounds-write_all-end : goal.slice_bounds-write_all-end
-slice_bounds-write_all-end c = let s = house_sizes _ c.requires.0 in rw length-take (omega (arith, c.bits-n.ensures, c.put_bits.auto.1.1.0))
+slice_bounds-write_all-end c = let s = house_sizes _ c.requires.0 in rw length-take (omega (arith, c.bits-n.ensures, c.put_bits.auto.line))

@@ -1,5 +1,6 @@
 -- `refusal_of` meets its contract. Assumes nothing.
 use mathlib.Core.Path.{◌≡◌, sym, ap}
+use mathlib.Core.List.{[]}
 use native.Mathlib.Omega.{arith}
 use Rattle.parity.specs.Causes.{refusal}
 use Rattle.join.proofs.refusal_of.Goals as goal

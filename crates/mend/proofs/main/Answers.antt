@@ -11,4 +11,4 @@ slice_bounds-output-end c = let f = c.put_text-size.ensures in
 
 pub slice_bounds-write_all-end : goal.slice_bounds-write_all-end
 slice_bounds-write_all-end c = let p = c.put_text-size in
-    sym (length-take-le p.result p.new.0 (omega (arith, p.ensures.room, same_size p.ensures)))
+    sym (length-take-le p.result p.new.out (omega (arith, p.ensures.room, same_size p.ensures)))

@@ -18,7 +18,7 @@ pub place-requires : goal.place-requires
 place-requires c = let o = c.all_ones-message in
     let e = c.eliminate-r in
     let l = length-take-le (length c.args.set.now - e.result) o.result (omega (arith, c.requires.2, ap length o.ensures ∙ length-replicate {A = ℕ} 120 1)) in
-    (omega (arith, e.ensures.reduction.form.few, e.auto.1.1.1.1.0), omega (arith, l, few _ _ _ _ _ _ e.ensures), rising _ _ _ _ _ _ e.ensures)
+    (omega (arith, e.ensures.reduction.form.few, e.auto.pivots), omega (arith, l, few _ _ _ _ _ _ e.ensures), rising _ _ _ _ _ _ e.ensures)
 
 pub returns : goal.returns
 returns c = let o = c.all_ones-message in

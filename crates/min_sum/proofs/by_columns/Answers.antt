@@ -15,7 +15,7 @@ fill-requires c = let e = c.no_columns-cols.ensures in
 
 pub run-requires : goal.run-requires
 run-requires c = let C = c.fill in
-    let long = C.auto.1.0 ∙ ap length c.no_columns-cols.ensures ∙ length-replicate {A = ℕ} 4096 0 in
+    let long = C.auto.cols ∙ ap length c.no_columns-cols.ensures ∙ length-replicate {A = ℕ} 4096 0 in
     let places = ap length c.no_places-at.ensures ∙ length-replicate {A = ℕ} 512 0 in
     (c.requires.0, record { long = long; same = across_is (lent 8 c.args.words.now) _ c.args.checks c.requires.0.within C.ensures }, places, c.requires.1)
 

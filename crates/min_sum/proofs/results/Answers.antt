@@ -13,14 +13,14 @@ returns-then-bits-checks c = let B = c.by_columns in
     let e : length c.args.word.now ≡ c.args.checks = c.if-bits-checks.true in
     record {
       held = rw (← e) B.ensures;
-      tags_zero = c.clear_bytes.ensures ∙ ap (λ n. replicate n 0) (B.auto.1.1.1.1.1.0 ∙ c.requires.0.laid.memory.tags);
-      values_zero = c.clear_floats.ensures ∙ ap (λ n. replicate n positive_zero) (B.auto.1.1.1.1.1.1.0 ∙ c.requires.0.laid.memory.values);
+      tags_zero = c.clear_bytes.ensures ∙ ap (λ n. replicate n 0) (B.auto.tags ∙ c.requires.0.laid.memory.tags);
+      values_zero = c.clear_floats.ensures ∙ ap (λ n. replicate n positive_zero) (B.auto.values ∙ c.requires.0.laid.memory.values);
     }
 
 pub returns : goal.returns
 returns c = let B = c.by_columns-2 in
     record {
       held = B.ensures;
-      tags_zero = c.clear_bytes-2.ensures ∙ ap (λ n. replicate n 0) (B.auto.1.1.1.1.1.0 ∙ c.requires.0.laid.memory.tags);
-      values_zero = c.clear_floats-2.ensures ∙ ap (λ n. replicate n positive_zero) (B.auto.1.1.1.1.1.1.0 ∙ c.requires.0.laid.memory.values);
+      tags_zero = c.clear_bytes-2.ensures ∙ ap (λ n. replicate n 0) (B.auto.tags ∙ c.requires.0.laid.memory.tags);
+      values_zero = c.clear_floats-2.ensures ∙ ap (λ n. replicate n positive_zero) (B.auto.values ∙ c.requires.0.laid.memory.values);
     }

@@ -15,4 +15,4 @@ returns c = let s = c.args in
     let A = (accepts s.words.now s.n s.m s.k).0 c.requires in
     let E = c.repeat in
     rw (orthogonalises s.words.now s.n s.m s.k A)
-    record { result_value = c.told.ensures ∙ ended_reply _ _ _ _ _ _ _ _ _ _ E.ensures; words_after = packed _ _ (E.auto.0 ∙ A.words) (λ i. (c.type_inv.words i).fits) (ended_matrix _ _ _ _ _ _ _ _ _ _ E.ensures) }
+    record { result_value = c.told.ensures ∙ ended_reply _ _ _ _ _ _ _ _ _ _ E.ensures; words_after = packed _ _ (E.auto.words ∙ A.words) (λ i. (c.type_inv.words i).fits) (ended_matrix _ _ _ _ _ _ _ _ _ _ E.ensures) }

@@ -1,7 +1,7 @@
 -- `mend_admitted` meets its contract. Assumes nothing.
 use mathlib.Core.Path.{◌≡◌, refl, sym, ap, ◌∙◌, fun_ext}
 use mathlib.Core.Bool.{false}
-use mathlib.Core.List.{List, ◌∷◌, ◌++◌}
+use mathlib.Core.List.{List, [], ◌∷◌, ◌++◌}
 use Prim.Native.Nat.{ℕ}
 use lib.ListN.{replicate}
 use Rattle.parity.specs.Matrix.{lent}
@@ -44,18 +44,18 @@ losses_of-losses-requires c = let A = (accepts c.args.words.now c.args.n c.args.
     (c.set_of-gone.ensures.size, t.ensures.0, omega (arith, A.sound.n120), fewer_packets c.args.words.now c.args.n c.args.m c.args.k c.args.lost.now c.args.packets.now c.args.odd.now _ _ _ _ A c.requires.1 c.requires.2 c.requires.4 c.requires.3 c.set_of-gone.ensures t.ensures.1)
 
 pub count_lanes-odd_lanes-requires : goal.count_lanes-odd_lanes-requires
-count_lanes-odd_lanes-requires c = omega (arith, c.requires.3, c.mend_set-left.auto.1.1.1.1.1.0)
+count_lanes-odd_lanes-requires c = omega (arith, c.requires.3, c.mend_set-left.auto.odd)
 
 pub shape_of-lost : goal.shape_of-lost
-shape_of-lost c = c.write.auto.0
+shape_of-lost c = c.write.auto.word
 
 pub shape_of-packets : goal.shape_of-packets
-shape_of-packets c = c.mend_set-left.auto.1.1.1.1.0
+shape_of-packets c = c.mend_set-left.auto.packets
 
 pub shape_of-odd : goal.shape_of-odd
-shape_of-odd c = c.mend_set-left.auto.1.1.1.1.1.0
+shape_of-odd c = c.mend_set-left.auto.odd
 
 pub returns : goal.returns
 returns c = let A = (accepts c.args.words.now c.args.n c.args.m c.args.k).0 c.requires.0 in
     let t = c.mend_set-left in
-    let o = outcome_is c.args.words.now c.args.n c.args.m c.args.k c.args.lost.now c.args.packets.now c.args.odd.now _ _ _ _ A c.requires.1 c.requires.2 c.requires.4 c.requires.3 c.set_of-gone.ensures t.ensures.1 t.auto.1.1.1.1.0 t.auto.1.1.1.1.1.0 (λ i. (c.type_inv.packets i).fits) (λ i. (c.slice_known-5-1.given i).fits) (omega (arith, A.sound.n120, A.sound.k392)) in record { result_value = ap (λ (v : List ℕ). answer (v ++ (c.count_lanes-odd_lanes.result ∷ []))) c.losses_of-losses.ensures ∙ rw (c.count_lanes-odd_lanes.ensures, t.auto.1.1.1.1.1.0) (sym (ap (λ (o : PacketsOutcome). o.reply) o)); lost_after = (rw no_bits at c.write.ensures) ∙ sym (ap (λ (o : PacketsOutcome). o.lost) o); packets_after = sym (ap (λ (o : PacketsOutcome). o.packets) o); odd_after = sym (ap (λ (o : PacketsOutcome). o.odd) o) }
+    let o = outcome_is c.args.words.now c.args.n c.args.m c.args.k c.args.lost.now c.args.packets.now c.args.odd.now _ _ _ _ A c.requires.1 c.requires.2 c.requires.4 c.requires.3 c.set_of-gone.ensures t.ensures.1 t.auto.packets t.auto.odd (λ i. (c.type_inv.packets i).fits) (λ i. (c.slice_known-5-1.given i).fits) (omega (arith, A.sound.n120, A.sound.k392)) in record { result_value = ap (λ (v : List ℕ). answer (v ++ (c.count_lanes-odd_lanes.result ∷ []))) c.losses_of-losses.ensures ∙ rw (c.count_lanes-odd_lanes.ensures, t.auto.odd) (sym (ap (λ (o : PacketsOutcome). o.reply) o)); lost_after = (rw no_bits at c.write.ensures) ∙ sym (ap (λ (o : PacketsOutcome). o.lost) o); packets_after = sym (ap (λ (o : PacketsOutcome). o.packets) o); odd_after = sym (ap (λ (o : PacketsOutcome). o.odd) o) }

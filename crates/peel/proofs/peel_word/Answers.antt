@@ -2,7 +2,6 @@
 use mathlib.Core.Path.{sym, ap, ◌∙◌}
 use Prim.Native.Nat.{◌*◌}
 use native.Mathlib.Omega.{arith}
-use borrow.Author.Tests.{not-true, not-false}
 use Rattle.parity.specs.Matrix.{lent}
 use Rattle.parity.specs.Causes.{answer, Outcome}
 use Rattle.sets.proofs.Short.{set_short}
@@ -20,23 +19,23 @@ settle-requires c = let u = c.words_of-used.ensures in
 pub finish-requires : goal.finish-requires
 finish-requires c = let t = c.settle in
     let u = c.words_of-used in
-    let (E, O) = c.make_sets.ensures in record { words_len = (c.requires.0, c.requires.1, E.size, t.auto.1.1.1.0 ∙ E.size, t.auto.1.1.1.1.0 ∙ O.size, omega (arith, u.ensures.1, c.requires.3), set_short 8 c.args.word.now 2 _ E); both_short = settled_short 8 (lent 8 c.args.words.now) _ c.args.word.now _ _ (omega (arith, c.requires.2, c.requires.3)) c.requires.5 E O _ _ t.ensures (u.result * 64) (omega (arith, u.ensures.0, c.requires.2)) }
+    let (E, O) = c.make_sets.ensures in record { words_len = (c.requires.0, c.requires.1, E.size, t.auto.erased ∙ E.size, t.auto.ones ∙ O.size, omega (arith, u.ensures.1, c.requires.3), set_short 8 c.args.word.now 2 _ E); both_short = settled_short 8 (lent 8 c.args.words.now) _ c.args.word.now _ _ (omega (arith, c.requires.2, c.requires.3)) c.requires.5 E O _ _ t.ensures (u.result * 64) (omega (arith, u.ensures.0, c.requires.2)) }
 
 pub returns-then-not-finish : goal.returns-then-not-finish
 returns-then-not-finish c = let g = c.finish in
     let (E, O) = c.make_sets.ensures in
-    let f = not-true g.result c.if-not-finish.true in
+    let f = c.if-not-finish.true in
     let r = word_refused 8 (lent 8 c.args.words.now) c.args.n c.args.k c.args.checks c.args.word.now _ _ c.requires.2 (omega (arith, c.requires.2, c.requires.3)) c.requires.5 E O _ _ c.settle.ensures (sym g.ensures.told ∙ f) in
     record { result_value = sym (ap (λ (o : Outcome). o.reply) r); word_after = (rw f at g.ensures.word) ∙ sym (ap (λ (o : Outcome). o.after) r) }
 
 pub losses_of-requires : goal.losses_of-requires
 losses_of-requires c = let t = c.settle in
     let (E, O) = c.make_sets.ensures in
-    (E.size, t.auto.1.1.1.0 ∙ E.size, c.requires.4, settled_within 8 (lent 8 c.args.words.now) _ c.args.word.now _ _ (omega (arith, c.requires.2, c.requires.3)) c.requires.5 E O _ _ t.ensures)
+    (E.size, t.auto.erased ∙ E.size, c.requires.4, settled_within 8 (lent 8 c.args.words.now) _ c.args.word.now _ _ (omega (arith, c.requires.2, c.requires.3)) c.requires.5 E O _ _ t.ensures)
 
 pub returns : goal.returns
 returns c = let g = c.finish in
     let (E, O) = c.make_sets.ensures in
-    let f = not-false g.result c.if-not-finish.false in
+    let f = c.if-not-finish.false in
     let r = word_made 8 (lent 8 c.args.words.now) c.args.n c.args.k c.args.checks c.args.word.now _ _ c.requires.2 (omega (arith, c.requires.2, c.requires.3)) c.requires.5 E O _ _ c.settle.ensures (sym g.ensures.told ∙ f) in
     record { result_value = ap answer c.losses_of.ensures ∙ sym (ap (λ (o : Outcome). o.reply) r); word_after = (rw f at g.ensures.word) ∙ sym (ap (λ (o : Outcome). o.after) r) }

@@ -23,8 +23,8 @@ write_pivot-requires c = let l = c.loop-c in (
 pub loop-c-preserved : goal.loop-c-preserved
 loop-c-preserved c = let l = c.loop-c in (
       omega arith,
-      c.write_pivot.auto.1.1.1.1.1.1.0 ∙ l.invariant.1,
-      c.write_pivot.auto.1.1.1.1.1.1.1.0 ∙ l.invariant.2,
+      c.write_pivot.auto.left ∙ l.invariant.1,
+      c.write_pivot.auto.values ∙ l.invariant.2,
       pivots_more _ _ _ _ _ _ _ _ _ _ _ _ l.invariant.3 c.write_pivot.ensures,
     )
 

@@ -16,13 +16,13 @@ pub returns-then-is_wrong : goal.returns-then-is_wrong
 returns-then-is_wrong c = let input = c.args.input.now in
     same_text
     (wrong_mend input (sym c.is_wrong.ensures ∙ c.if-is_wrong.true))
-    c.Put-refused.ensures
+    c.put_refused.ensures
 
 pub size-w-requires : goal.size-w-requires
 size-w-requires c = sym c.is_wrong.ensures ∙ c.if-is_wrong.false
 
 pub slice_bounds-load-end-2 : goal.slice_bounds-load-end-2
-slice_bounds-load-end-2 c = sym (length-take-le c.size-w.result c.read_words.new.1.1.0 (search rules))
+slice_bounds-load-end-2 c = sym (length-take-le c.size-w.result c.read_words.new.out (search rules))
 
 pub load-requires : goal.load-requires
 load-requires c = let input = c.args.input.now in

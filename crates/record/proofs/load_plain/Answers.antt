@@ -19,5 +19,5 @@ returns-in-Broken c = let E = rw c.in-Broken.is at c.end.ensures in
 pub returns-in-Complete : goal.returns-in-Complete
 returns-in-Complete c = let E = rw c.in-Complete.is at c.end.ensures in
     let e = load_right _ _ _ _ _ _ c.requires.0 (plain_loads _ _ _ _ _ c.requires.2 c.requires.1 E) in
-    let ws = c.fill.new.1.0 in
-    let f = right_filled _ _ _ _ _ c.requires.2 ws c.fill.ensures in record { result_value = sym (ap (λ (o : Outcome). o.reply) e); words_after = sym (pack_lent 8 (lit< tt) ws (c.fill.auto.1.0 ∙ c.requires.0) (λ i. (c.type_inv.words i).fits)) ∙ ap (pack 8) f ∙ sym (ap (λ (o : Outcome). o.after) e) }
+    let ws = c.fill.new.words in
+    let f = right_filled _ _ _ _ _ c.requires.2 ws c.fill.ensures in record { result_value = sym (ap (λ (o : Outcome). o.reply) e); words_after = sym (pack_lent 8 (lit< tt) ws (c.fill.auto.words ∙ c.requires.0) (λ i. (c.type_inv.words i).fits)) ∙ ap (pack 8) f ∙ sym (ap (λ (o : Outcome). o.after) e) }

@@ -16,7 +16,7 @@ pub fill-requires : goal.fill-requires
 fill-requires c = (c.no_words-copy.ensures, record { form = Third; n = c.args.n; place = c.args.p; right = c.requires.1 })
 
 pub perform-k-requires : goal.perform-k-requires
-perform-k-requires c = let F = c.fill in record { words_len = (F.auto.1.0 ∙ c.no_words-copy.ensures, c.requires.1.inside); sound = rw (right_filled _ _ _ _ _ c.requires.1 _ F.ensures) (right_sound _ _ _ _ _ c.requires.1) }
+perform-k-requires c = let F = c.fill in record { words_len = (F.auto.words ∙ c.no_words-copy.ensures, c.requires.1.inside); sound = rw (right_filled _ _ _ _ _ c.requires.1 _ F.ensures) (right_sound _ _ _ _ _ c.requires.1) }
 
 pub overflow_add-p : goal.overflow_add-p
 overflow_add-p c = omega (arith, c.perform-k.ensures.inside)
@@ -25,7 +25,7 @@ pub end-requires : goal.end-requires
 end-requires c = c.perform-k.ensures.inside
 
 pub put_words-requires : goal.put_words-requires
-put_words-requires c = c.perform-k.auto.1.0 ∙ c.fill.auto.1.0 ∙ c.no_words-copy.ensures ∙ sym c.requires.0
+put_words-requires c = c.perform-k.auto.words ∙ c.fill.auto.words ∙ c.no_words-copy.ensures ∙ sym c.requires.0
 
 pub returns-in-Broken : goal.returns-in-Broken
 returns-in-Broken c = let E = rw c.in-Broken.is at c.end.ensures in
@@ -38,5 +38,5 @@ returns-in-Complete c = let E = rw c.in-Complete.is at c.end.ensures in
     let f = right_filled _ _ _ _ _ c.requires.1 _ c.fill.ensures in
     let e = load_right _ _ _ _ _ _ c.requires.0 (splits_loads _ _ _ _ c.requires.1 _ _ _ f c.perform-k.ensures E) in
     let P = c.put_words in
-    let ws = P.new.1.0 in record { result_value = sym (ap (λ (o : Outcome). o.reply) e); words_after = sym (pack_lent 8 (lit< tt) ws (P.auto.1.0 ∙ c.requires.0) (λ i. (c.type_inv.words i).fits))
+    let ws = P.new.words in record { result_value = sym (ap (λ (o : Outcome). o.reply) e); words_after = sym (pack_lent 8 (lit< tt) ws (P.auto.words ∙ c.requires.0) (λ i. (c.type_inv.words i).fits))
           ∙ ap (λ (l : List ℕ). pack 8 (lent 8 l)) P.ensures ∙ sym (ap (λ (o : Outcome). o.after) e) }

@@ -1,8 +1,9 @@
 -- `finish` meets its contract. Assumes nothing.
+use mathlib.Core.Bool.{not}
 use mathlib.Core.Path.{refl, sym, ap, ◌∙◌}
 use native.Mathlib.Omega.{arith}
 use lib.ListN.{length}
-use borrow.Author.Tests.{not-true, not-false}
+use borrow.Author.Tests.{not-false}
 use Rattle.parity.specs.Matrix.{lent}
 use Rattle.residue.proofs.Solving.{refused, uneven_none, all_known}
 use Rattle.residue.proofs.finish.Goals as goal
@@ -22,7 +23,7 @@ returns-then-not-agree c = let G = c.requires.0 in
     let o = lent 8 c.args.known.now 0 in
     record {
       sets = refused h c.args.bits c.args.checks e o G.bits G.apart
-          (uneven_none h c.args.bits c.args.checks e o G.bits G.apart (sym a.ensures ∙ not-true a.result c.if-not-agree.true))
+          (uneven_none h c.args.bits c.args.checks e o G.bits G.apart (sym a.ensures ∙ c.if-not-agree.true))
           _ _ (λ b q. rw G.left at q);
       word = refl;
     }
@@ -39,10 +40,10 @@ returns-then-size-eq0 c = let G = c.requires.0 in
     let a = c.agree in
     record {
       sets = rw (G.left, G.values) (all_known (lent 8 c.args.words.now) c.args.bits c.args.checks (lent 8 c.args.residue.now 0) (lent 8 c.args.known.now 0) G.bits G.apart
-          (sym a.ensures ∙ not-false a.result c.if-not-agree.false) (sym c.size.ensures ∙ c.if-size-eq0.true));
+          (sym a.ensures ∙ c.if-not-agree.false) (sym c.size.ensures ∙ c.if-size-eq0.true));
       word = c.write.ensures;
     }
 
 pub finish_left-requires : goal.finish_left-requires
 finish_left-requires c = let a = c.agree in
-    (record { given = c.requires.0; even = sym a.ensures ∙ not-false a.result c.if-not-agree.false; narrow = omega arith; wide = c.requires.0.bits }, c.requires.1, c.requires.2)
+    (record { given = c.requires.0; even = sym a.ensures ∙ c.if-not-agree.false; narrow = omega arith; wide = c.requires.0.bits }, c.requires.1, c.requires.2)

@@ -6,7 +6,7 @@ use Rattle.result.proofs.agree_beside.Goals as goal
 
 pub returns-then-used-eq1 : goal.returns-then-used-eq1
 returns-then-used-eq1 c = let f = rw c.if-used-eq1.true at c.requires.both_short in
-    c.Agree-left.ensures ∙ agreeing_wider _ _ _ _ _ _ (omega arith) f.0 f.1
+    c.agree_left.ensures ∙ agreeing_wider _ _ _ _ _ _ (omega arith) f.0 f.1
 
 pub returns-then-used-eq2 : goal.returns-then-used-eq2
 returns-then-used-eq2 c = let f = rw c.if-used-eq2.true at c.requires.both_short in

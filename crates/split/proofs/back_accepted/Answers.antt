@@ -1,6 +1,6 @@
 -- `back_accepted` meets its contract. Assumes nothing.
 use mathlib.Core.Path.{◌≡◌, refl, sym, ap, ◌∙◌}
-use mathlib.Core.List.{◌∷◌}
+use mathlib.Core.List.{[], ◌∷◌}
 use Prim.Native.Nat.{ℕ, ◌+◌, ◌-◌}
 use native.Mathlib.Omega.{arith}
 use mathlib.Core.Bool.{true, false}
@@ -66,7 +66,7 @@ rule_a-requires c = let s = c.args in
     let S = A.sound in
     let R = read_back (lent 8 s.words.now) s.n s.m (s.k - 1) (sound_back s.words.now s.n s.m s.k a d) _ _ c.next_one-u.ensures c.next_one-v.ensures in
     let E = c.back_pair-share in (
-      E.auto.0 ∙ A.words,
+      E.auto.words ∙ A.words,
       omega (arith, S.n120, S.k392),
       omega (arith, S.m120, S.k392),
       S.m120,
@@ -83,7 +83,7 @@ returns-then-rule_a c = let s = c.args in
     let t = taken_back (lent 8 s.words.now) (s.n + (s.k - 1)) (s.m + (s.k - 1)) in
     let r : rule_a t s.n s.m (s.k - 1) ≡ true = ap (λ (g : Matrix). rule_a g s.n s.m (s.k - 1)) (sym E.ensures.0) ∙ sym c.rule_a.ensures ∙ c.if-rule_a.true in
     rw (back_made s.words.now s.n s.m s.k A d r)
-    record { result_value = ap (λ (x : ℕ). answer (x ∷ (s.k - 1) ∷ [])) E.ensures.1; words_after = packed _ _ (E.auto.0 ∙ A.words) (λ i. (c.slice_known-2-1.given i).fits) E.ensures.0 }
+    record { result_value = ap (λ (x : ℕ). answer (x ∷ (s.k - 1) ∷ [])) E.ensures.1; words_after = packed _ _ (E.auto.words ∙ A.words) (λ i. (c.slice_known-2-1.given i).fits) E.ensures.0 }
 
 pub split_pair-requires : goal.split_pair-requires
 split_pair-requires c = let s = c.args in
@@ -93,7 +93,7 @@ split_pair-requires c = let s = c.args in
     let S = A.sound in
     let R = read_back (lent 8 s.words.now) s.n s.m (s.k - 1) (sound_back s.words.now s.n s.m s.k a d) _ _ c.next_one-u.ensures c.next_one-v.ensures in
     let E = c.back_pair-share in
-    let N = R.newer in record { words_len = (E.auto.0 ∙ A.words, omega (arith, S.m120), omega arith, omega (arith, S.m120, S.k392), N.below.0, N.below.1, omega (arith, S.n120, S.k392)); clean = (rw E.ensures.0 R.clean, rw E.ensures.0 R.apart) }
+    let N = R.newer in record { words_len = (E.auto.words ∙ A.words, omega (arith, S.m120), omega arith, omega (arith, S.m120, S.k392), N.below.0, N.below.1, omega (arith, S.n120, S.k392)); clean = (rw E.ensures.0 R.clean, rw E.ensures.0 R.apart) }
 
 pub returns : goal.returns
 returns c = let s = c.args in
@@ -108,4 +108,4 @@ returns c = let s = c.args in
     let r : rule_a t s.n s.m (s.k - 1) ≡ false = ap (λ (g : Matrix). rule_a g s.n s.m (s.k - 1)) (sym E.ensures.0) ∙ sym c.rule_a.ensures ∙ c.if-rule_a.false in
     let e = F.ensures ∙ ap (λ (g : Matrix). split_of g (s.n + (s.k - 1)) (s.m + (s.k - 1)) c.next_one-u.result c.next_one-v.result) E.ensures.0 ∙ R.again in
     rw (back_broken s.words.now s.n s.m s.k A d r)
-    record { result_value = refl; words_after = packed _ _ (F.auto.0 ∙ E.auto.0 ∙ A.words) (λ i. (c.type_inv.words i).fits) e ∙ pack_words s.words.now s.n s.m s.k A }
+    record { result_value = refl; words_after = packed _ _ (F.auto.words ∙ E.auto.words ∙ A.words) (λ i. (c.type_inv.words i).fits) e ∙ pack_words s.words.now s.n s.m s.k A }

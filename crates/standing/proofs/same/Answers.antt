@@ -3,8 +3,8 @@ use Rattle.standing.proofs.Kept.{twice_none, twice_more}
 use borrow.Author.Tests.{not-false}
 use native.Mathlib.Omega.{arith}
 use Prim.Native.Nat.{◌-◌}
-use mathlib.Core.Bool.{false≢true}
-use mathlib.Core.Path.{◌≡◌}
+use mathlib.Core.Bool.{false≢true, not}
+use mathlib.Core.Path.{◌≡◌, ap}
 use Rattle.standing.proofs.same.Goals as goal
 
 pub returns-then-w-gt32512 : goal.returns-then-w-gt32512
@@ -23,7 +23,7 @@ pub loop-i-preserved : goal.loop-i-preserved
 loop-i-preserved c = let S = c.same_float in
     let l = c.loop-i in
     let t = c.loop-i-test.true in
-    (omega (arith, t), l.invariant.1, twice_more _ _ _ l.i l.invariant.2 c.if-tags-i.false (S.ensures (not-false S.result c.if-not-same_float.false)))
+    (omega (arith, t), l.invariant.1, twice_more _ _ _ l.i l.invariant.2 c.if-tags-i.false (S.ensures c.if-not-same_float.false))
 
 pub returns : goal.returns
 returns c = let l = c.loop-i in

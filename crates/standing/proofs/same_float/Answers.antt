@@ -17,7 +17,7 @@ float_to_bits-result-then-x-y c = let p = equal_left c.args.x c.args.y c.if-x-y.
 
 pub returns-then-x-y : goal.returns-then-x-y
 returns-then-x-y c = λ e.
-    same_bits c.args.x c.args.y (subst T (sym c.well-formed.0.1) tt) (subst T (sym c.well-formed.1.0.1) tt) (eqb-true _ _ e)
+    same_bits c.args.x c.args.y (subst T (sym c.well_formed.0.1) tt) (subst T (sym c.well_formed.1.0.1) tt) (eqb-true _ _ e)
 
 pub returns : goal.returns
 returns c = λ e. absurd (false≢true e)

@@ -33,7 +33,7 @@ loop-c-smaller-in-Found c = let A = rw c.in-Found.is at c.next_in-alone.ensures 
 
 pub loop-c-preserved-in-Found : goal.loop-c-preserved-in-Found
 loop-c-preserved-in-Found c = let A = rw c.in-Found.is at c.next_in-alone.ensures in
-    (c.next_in-alone.auto.1.1.1.0 ∙ c.loop-c.invariant.0, c.solve.auto.1.1.1.1.0 ∙ c.loop-c.invariant.1, c.solve.auto.1.1.1.1.1.0 ∙ c.loop-c.invariant.2, next c.loop-c.invariant.3 _ _ A.lone c.solve.ensures, short_solved _ _ _ _ _ _ _ _ _ c.loop-c.invariant.4 c.solve.ensures, short_valued _ _ _ _ _ _ _ _ _ c.loop-c.invariant.4 A.lone.gone c.loop-c.invariant.5 c.solve.ensures, c.loop-c.invariant.6, omega (arith, A.ahead), omega (arith, A.below), live_solved _ _ _ _ _ _ _ _ _ A.lone c.solve.ensures _ _ _ _ A.here A.live)
+    (c.next_in-alone.auto.live ∙ c.loop-c.invariant.0, c.solve.auto.erased ∙ c.loop-c.invariant.1, c.solve.auto.ones ∙ c.loop-c.invariant.2, next c.loop-c.invariant.3 _ _ A.lone c.solve.ensures, short_solved _ _ _ _ _ _ _ _ _ c.loop-c.invariant.4 c.solve.ensures, short_valued _ _ _ _ _ _ _ _ _ c.loop-c.invariant.4 A.lone.gone c.loop-c.invariant.5 c.solve.ensures, c.loop-c.invariant.6, omega (arith, A.ahead), omega (arith, A.below), live_solved _ _ _ _ _ _ _ _ _ A.lone c.solve.ensures _ _ _ _ A.here A.live)
 
 pub loop-c-smaller : goal.loop-c-smaller
 loop-c-smaller c = let A = rw c.in-Nothing.is at c.next_in-alone.ensures in
@@ -42,11 +42,11 @@ loop-c-smaller c = let A = rw c.in-Nothing.is at c.next_in-alone.ensures in
 
 pub loop-c-preserved : goal.loop-c-preserved
 loop-c-preserved c = let A = rw c.in-Nothing.is at c.next_in-alone.ensures in
-    (c.next_in-alone.auto.1.1.1.0 ∙ c.loop-c.invariant.0, c.loop-c.invariant.1, c.loop-c.invariant.2, c.loop-c.invariant.3, c.loop-c.invariant.4, c.loop-c.invariant.5, omega (arith, A.few, c.loop-c.invariant.6), omega arith, omega arith, live_again _ _ _ _ _ _ _ _ A)
+    (c.next_in-alone.auto.live ∙ c.loop-c.invariant.0, c.loop-c.invariant.1, c.loop-c.invariant.2, c.loop-c.invariant.3, c.loop-c.invariant.4, c.loop-c.invariant.5, omega (arith, A.few, c.loop-c.invariant.6), omega arith, omega arith, live_again _ _ _ _ _ _ _ _ A)
 
 pub shape_of-live : goal.shape_of-live
 shape_of-live c = let A = rw c.in-Nothing.is at c.next_in-alone.ensures in
-    c.next_in-alone.auto.1.1.1.0 ∙ c.loop-c.invariant.0 ∙ sym c.requires.2
+    c.next_in-alone.auto.live ∙ c.loop-c.invariant.0 ∙ sym c.requires.2
 
 pub shape_of-erased : goal.shape_of-erased
 shape_of-erased c = let A = rw c.in-Nothing.is at c.next_in-alone.ensures in

@@ -1,11 +1,11 @@
 -- `list` meets its contract. Assumes nothing.
 use mathlib.Core.Path.{◌≡◌, sym, ap, ◌∙◌}
 use mathlib.Core.Bool.{true, false, not, not-not}
-use mathlib.Core.List.{◌∷◌}
+use mathlib.Core.List.{[], ◌∷◌}
 use Prim.Native.Nat.{ℕ, ◌≤◌}
 use native.Mathlib.Omega.{arith}
 use borrow.Author.Rules.{rules}
-use borrow.Author.Tests.{not-true, not-false}
+use borrow.Author.Tests.{not-false}
 use lib.ListN.{length}
 use Rattle.parity.specs.Matrix.{cause}
 use Rattle.parity.specs.StoppingSets.{flat}
@@ -45,7 +45,7 @@ returns-in-Refused c = let A = rw c.in-Refused.is at c.accept-accepted.ensures i
     record { result_value = sym (ap (λ (o : Outcome). o.reply) e); sets_after = sym (ap (λ (o : Outcome). o.after) e) }
 
 pub returns-then-not-is_size : goal.returns-then-not-is_size
-returns-then-not-is_size c = let p : wrong_size c.args.t ≡ true = sym (not-not _) ∙ ap not (sym c.is_size.ensures ∙ not-true c.is_size.result c.if-not-is_size.true) in
+returns-then-not-is_size c = let p : wrong_size c.args.t ≡ true = sym (not-not _) ∙ ap not (sym c.is_size.ensures ∙ c.if-not-is_size.true) in
     let e = list_size c.args.words.now c.args.n c.args.m c.args.k c.args.t c.args.sets.now (accepted c.before.before) p in
     record { result_value = sym (ap (λ (o : Outcome). o.reply) e); sets_after = sym (ap (λ (o : Outcome). o.after) e) }
 

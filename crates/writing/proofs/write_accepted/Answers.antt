@@ -4,7 +4,7 @@ use mathlib.Core.Bool.{not}
 use Prim.Native.Nat.{ℕ}
 use native.Mathlib.Omega.{arith}
 use lib.ListN.{length, length-replicate}
-use borrow.Author.Tests.{not-true, not-false}
+use borrow.Author.Tests.{not-false}
 use Rattle.parity.specs.Splits.{all_back}
 use Rattle.parity.specs.Causes.{Outcome}
 use Rattle.parity.proofs.Matrix.Accept.{accepts}
@@ -28,15 +28,15 @@ all_back-requires c = let A = (accepts _ _ _ _).0 c.requires.0 in
 
 pub returns-then-not-all_back : goal.returns-then-not-all_back
 returns-then-not-all_back c = let E = c.all_back in
-    let e = write_unbuilt _ _ _ _ c.args.«record».now c.requires.0 (E.ensures.decides ∙ ap not (not-true E.result c.if-not-all_back.true)) in
+    let e = write_unbuilt _ _ _ _ c.args.«record».now c.requires.0 (E.ensures.decides ∙ ap not c.if-not-all_back.true) in
     record { result_value = sym (ap (λ (o : Outcome). o.reply) e); record_after = sym (ap (λ (o : Outcome). o.after) e) }
 
 pub write_checks-requires-2 : goal.write_checks-requires-2
 write_checks-requires-2 c = let A = (accepts _ _ _ _).0 c.requires.0 in
     let E = c.all_back in
     let e = c.no_rows-rows.ensures in
-    let r = not-false E.result c.if-not-all_back.false in
-    record { width_in_bounds = (omega (arith, E.auto.1.0, ap length e, length-replicate {A = ℕ} 256 0, A.sound.m120), omega arith, omega arith); k_value = (c.requires.0, E.ensures.decides ∙ ap not r); checks_value = (E.ensures.matrix r, c.requires.1) }
+    let r = c.if-not-all_back.false in
+    record { width_in_bounds = (omega (arith, E.auto.rows, ap length e, length-replicate {A = ℕ} 256 0, A.sound.m120), omega arith, omega arith); k_value = (c.requires.0, E.ensures.decides ∙ ap not r); checks_value = (E.ensures.matrix r, c.requires.1) }
 
 pub returns : goal.returns
 returns c = record { result_value = c.write_checks-2.ensures.result_value; record_after = c.write_checks-2.ensures.record_after }

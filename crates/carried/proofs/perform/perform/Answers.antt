@@ -1,9 +1,10 @@
 -- `perform::perform` meets its contract. Assumes nothing.
-use mathlib.Core.Path.{refl, sym, ◌∙◌}
-use mathlib.Core.List.{◌∷◌}
+use mathlib.Core.Bool.{not}
+use mathlib.Core.Path.{refl, sym, ◌∙◌, ap}
+use mathlib.Core.List.{[], ◌∷◌}
 use Prim.Native.Nat.{◌-◌}
 use native.Mathlib.Omega.{arith}
-use borrow.Author.Tests.{not-true, not-false}
+use borrow.Author.Tests.{not-false}
 use Rattle.columns.proofs.Filling.{two_words}
 use Rattle.reading.proofs.Other.{other_kind}
 use Rattle.carried.proofs.Performing.{going_start, going_ends, going_other, going_stops, going_next}
@@ -41,12 +42,12 @@ perform_split-requires c = let l = c.loop-k in
     record { with_columns = (l.invariant.0 ∙ c.requires.words_len.0, l.invariant.1); sound = (l.invariant.2.sound, l.invariant.2.columns) }
 
 pub shape_of-words-then-not-perform_split : goal.shape_of-words-then-not-perform_split
-shape_of-words-then-not-perform_split c = c.perform_split.auto.0 ∙ c.loop-k.invariant.0
+shape_of-words-then-not-perform_split c = c.perform_split.auto.words ∙ c.loop-k.invariant.0
 
 pub returns-then-not-perform_split : goal.returns-then-not-perform_split
 returns-then-not-perform_split c = let E = c.perform_split in
     let K = rw c.in-Split.is at c.read.ensures in
-    going_stops _ _ _ _ _ _ _ _ c.loop-k.invariant.2 _ K _ _ E.result E.ensures (not-true E.result c.if-not-perform_split.true)
+    going_stops _ _ _ _ _ _ _ _ c.loop-k.invariant.2 _ K _ _ E.result E.ensures c.if-not-perform_split.true
 
 pub overflow_add-k : goal.overflow_add-k
 overflow_add-k c = omega (arith, c.loop-k.invariant.2.inside)
@@ -55,9 +56,9 @@ pub loop-k-preserved : goal.loop-k-preserved
 loop-k-preserved c = let E = c.perform_split in
     let l = c.loop-k in
     let K = rw c.in-Split.is at c.read.ensures in (
-      E.auto.0 ∙ l.invariant.0,
-      E.auto.1.0 ∙ l.invariant.1,
-      going_next _ _ _ _ _ _ _ _ l.invariant.2 _ K _ _ E.result E.ensures (not-false E.result c.if-not-perform_split.false) (omega arith),
+      E.auto.words ∙ l.invariant.0,
+      E.auto.cols ∙ l.invariant.1,
+      going_next _ _ _ _ _ _ _ _ l.invariant.2 _ K _ _ E.result E.ensures c.if-not-perform_split.false (omega arith),
     )
 
 pub shape_of-words : goal.shape_of-words

@@ -1,8 +1,9 @@
 -- `recover::all_back` meets its contract. Assumes nothing.
+use mathlib.Core.Bool.{not}
 use native.Mathlib.Omega.{arith}
-use mathlib.Core.Path.{◌≡◌}
+use mathlib.Core.Path.{◌≡◌, ap}
 use lib.ListN.{length}
-use borrow.Author.Tests.{not-true, not-false}
+use borrow.Author.Tests.{not-false}
 use borrow.Author.Rules.{rules}
 use Rattle.columns.proofs.Filling.{two_words}
 use Rattle.carried.proofs.Recovering.{rows_left, rows_made}
@@ -16,13 +17,13 @@ pub each_back-requires : goal.each_back-requires
 each_back-requires c = record { with_columns = (c.requires.0, search rules); sound = (c.requires.3, c.fill.ensures) }
 
 pub returns-then-not-each_back : goal.returns-then-not-each_back
-returns-then-not-each_back c = let E = c.Each-back in
-    rows_left _ _ _ _ _ _ E.result E.ensures.0 (not-true E.result c.if-not-each_back.true)
+returns-then-not-each_back c = let E = c.each_back in
+    rows_left _ _ _ _ _ _ E.result E.ensures.all_back c.if-not-each_back.true
 
 pub fill_checks-requires : goal.fill_checks-requires
-fill_checks-requires c = let l : length c.Each-back.new.1.0 ≡ 1024 = search rules in
+fill_checks-requires c = let l : length c.each_back.new.cols ≡ 1024 = search rules in
     record { len_in_bounds = (omega (arith, l, c.requires.3.n120), omega arith, omega (arith, c.requires.1), omega (arith, c.requires.3.n120)); empty = c.requires.2 }
 
 pub returns : goal.returns
-returns c = let E = c.Each-back in
-    rows_made _ _ _ _ _ _ c.requires.3 E.ensures.1 c.fill_checks.ensures E.result E.ensures.0 (not-false E.result c.if-not-each_back.false)
+returns c = let E = c.each_back in
+    rows_made _ _ _ _ _ _ c.requires.3 E.ensures.columns c.fill_checks.ensures E.result E.ensures.all_back c.if-not-each_back.false

@@ -1,7 +1,9 @@
 -- `recover::back_one` meets its contract. Assumes nothing.
+use mathlib.Core.Bool.{not}
+use mathlib.Core.Path.{ap}
 use native.Mathlib.Numerals.{add-one}
 use native.Mathlib.Omega.{arith}
-use borrow.Author.Tests.{not-true, not-false}
+use borrow.Author.Tests.{not-false}
 use Rattle.carried.proofs.Standing.{standing_same, standing_lower, standing_higher, joined_back, joined_columns}
 use Rattle.carried.proofs.Newest.{bits_below, raw_small, one_stops, one_keeps, one_few, one_made}
 use Rattle.carried.proofs.recover.back_one.Goals as goal
@@ -26,7 +28,7 @@ returns-then-not-apart c = let R = rw (add-one c.args.j) at c.requires.raw.0 in
     let a = standing_lower _ _ _ _ _ R _ c.next_one-u.ensures in
     let b = standing_higher _ _ _ _ _ R _ _ a c.next_one-v.ensures in
     let E = c.apart in
-    rw (add-one c.args.j) record { back_one = one_stops _ _ _ _ R _ C _ _ E.result a b E.ensures (not-true E.result c.if-not-apart.true) _; columns = standing_same _ _ _ _ _ C }
+    rw (add-one c.args.j) record { back_one = one_stops _ _ _ _ R _ C _ _ E.result a b E.ensures c.if-not-apart.true _; columns = standing_same _ _ _ _ _ C }
 
 pub returns-then-weight-lt2 : goal.returns-then-weight-lt2
 returns-then-weight-lt2 c = let R = rw (add-one c.args.j) at c.requires.raw.0 in
@@ -48,6 +50,6 @@ returns c = let R = rw (add-one c.args.j) at c.requires.raw.0 in
     let b = standing_higher _ _ _ _ _ R _ _ a c.next_one-v.ensures in
     let E = c.apart in
     let w = c.weight in
-    let A = one_keeps _ _ _ _ R _ C _ _ E.result a b E.ensures (not-false E.result c.if-not-apart.false) in
+    let A = one_keeps _ _ _ _ R _ C _ _ E.result a b E.ensures c.if-not-apart.false in
     let J = c.join.ensures in
     rw (add-one c.args.j) record { back_one = one_made _ _ _ _ R _ C A w.result w.ensures c.if-weight-lt2.false _ (joined_back _ _ _ _ _ R _ _ _ a b A J); columns = joined_columns _ _ _ _ _ R _ _ _ a b A J C }

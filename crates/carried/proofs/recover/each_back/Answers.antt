@@ -1,9 +1,10 @@
 -- `recover::each_back` meets its contract. Assumes nothing.
-use mathlib.Core.Path.{◌≡◌, refl, sym, ◌∙◌}
+use mathlib.Core.Bool.{not}
+use mathlib.Core.Path.{◌≡◌, refl, sym, ◌∙◌, ap}
 use Prim.Native.Nat.{suc, ◌+◌, ◌-◌}
 use native.Mathlib.Numerals.{add-one}
 use native.Mathlib.Omega.{arith}
-use borrow.Author.Tests.{not-true, not-false}
+use borrow.Author.Tests.{not-false}
 use Rattle.carried.proofs.Standing.{standing_same, standing_start}
 use Rattle.carried.proofs.Recovering.{taking_start, taking_next, taking_stops, taking_ends}
 use Rattle.carried.proofs.recover.each_back.Goals as goal
@@ -18,21 +19,21 @@ back_one-requires c = let l = c.loop-j in
     record { with_columns = (c.requires.with_columns.0, l.invariant.0); raw = rw e (l.invariant.1.raw, l.invariant.2) }
 
 pub shape_of-cols-then-not-back_one : goal.shape_of-cols-then-not-back_one
-shape_of-cols-then-not-back_one c = c.back_one.auto.1.0 ∙ c.loop-j.invariant.0 ∙ sym c.requires.with_columns.1
+shape_of-cols-then-not-back_one c = c.back_one.auto.cols ∙ c.loop-j.invariant.0 ∙ sym c.requires.with_columns.1
 
 pub returns-then-not-back_one : goal.returns-then-not-back_one
 returns-then-not-back_one c = let E = c.back_one in
     let l = c.loop-j in
     let e : l.j - 1 + 1 ≡ suc (l.j - 1) = add-one (l.j - 1) in
     let f : suc (l.j - 1) ≡ l.j = omega arith in
-    record { all_back = taking_stops _ _ _ _ _ (l.j - 1) c.requires.sound.0 (rw f l.invariant.1) _ E.result (rw e at E.ensures.0) (not-true E.result c.if-not-back_one.true) _; columns = standing_same _ _ _ _ _ E.ensures.1 }
+    record { all_back = taking_stops _ _ _ _ _ (l.j - 1) c.requires.sound.0 (rw f l.invariant.1) _ E.result (rw e at E.ensures.back_one) c.if-not-back_one.true _; columns = standing_same _ _ _ _ _ E.ensures.columns }
 
 pub loop-j-preserved : goal.loop-j-preserved
 loop-j-preserved c = let E = c.back_one in
     let l = c.loop-j in
     let e : l.j - 1 + 1 ≡ suc (l.j - 1) = add-one (l.j - 1) in
     let f : suc (l.j - 1) ≡ l.j = omega arith in
-    (E.auto.1.0 ∙ l.invariant.0, taking_next _ _ _ _ _ (l.j - 1) c.requires.sound.0 (rw f l.invariant.1) _ E.result (rw e at E.ensures.0) (not-false E.result c.if-not-back_one.false), E.ensures.1)
+    (E.auto.cols ∙ l.invariant.0, taking_next _ _ _ _ _ (l.j - 1) c.requires.sound.0 (rw f l.invariant.1) _ E.result (rw e at E.ensures.back_one) c.if-not-back_one.false, E.ensures.columns)
 
 pub shape_of-cols : goal.shape_of-cols
 shape_of-cols c = c.loop-j.invariant.0 ∙ sym c.requires.with_columns.1

@@ -29,7 +29,7 @@ loop-i-smaller c = omega (arith, c.loop-i-test.true)
 pub loop-i-preserved : goal.loop-i-preserved
 loop-i-preserved c = (
       omega (arith, c.loop-i-test.true),
-      c.lift.auto.0 ∙ c.loop-i.invariant.1,
+      c.lift.auto.bound ∙ c.loop-i.invariant.1,
       raising_next _ (together_comm 2 _) _ _ _ _ _ _ c.loop-i.invariant.2 (shares_met 2 _ _ c.requires.given _ _ _ c.tally.ensures) c.lift.ensures,
     )
 

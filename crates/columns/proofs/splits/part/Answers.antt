@@ -14,7 +14,7 @@ part_word-requires c = (c.loop-i.invariant.1, c.requires.1, c.requires.2, c.requ
 pub loop-i-preserved : goal.loop-i-preserved
 loop-i-preserved c = let l = c.loop-i in
     let told = c.part_word in
-    (omega arith, told.auto.0 ∙ l.invariant.1, words_next _ (parted_local _ _ _) _ _ _ _ l.invariant.2 told.ensures)
+    (omega arith, told.auto.cols ∙ l.invariant.1, words_next _ (parted_local _ _ _) _ _ _ _ l.invariant.2 told.ensures)
 
 pub shape_of-cols : goal.shape_of-cols
 shape_of-cols c = c.loop-i.invariant.1 ∙ sym c.requires.0

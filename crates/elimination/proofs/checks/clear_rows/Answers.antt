@@ -22,7 +22,7 @@ loop-c-preserved c = let l = c.loop-c in
     let W = c.args.width in (
       omega arith,
       omega arith,
-      E.auto.0 ∙ l.invariant.2,
+      E.auto.rows ∙ l.invariant.2,
       E.ensures ∙ ap (λ (g : Matrix). plus l.c (when (g l.c c.args.b) (lent W c.args.row.now 1)) g) l.invariant.3 ∙ cleared_more _ _ _ _ _ l.invariant.0,
     )
 

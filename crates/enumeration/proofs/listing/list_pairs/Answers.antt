@@ -1,6 +1,6 @@
 -- `list_pairs` meets its contract. Assumes nothing.
 use mathlib.Core.Path.{refl, sym}
-use mathlib.Core.List.{◌∷◌}
+use mathlib.Core.List.{[], ◌∷◌}
 use Prim.Native.Nat.{◌+◌, ◌*◌, ◌-◌}
 use native.Mathlib.Omega.{arith}
 use lib.ListN.{length, length-append, length-set}
@@ -37,8 +37,8 @@ pub list_last-place-requires : goal.list_last-place-requires
 list_last-place-requires c = let l = c.loop-d in
     let P = c.requires in
     let g = begun_more c.args.first.now l.more c.member.result l.invariant.1 l.d c.member.ensures (omega (arith, c.requires.sized.2)) in
-    let X = c.once_with-x.ensures in
-    let Y = c.once_with-x.ensures in (
+    let X = c.some_with-u.ensures in
+    let Y = c.some_with-u.ensures in (
       (record { columns = P.0.0.columns; once = X.size; some = Y.size; least = P.0.0.least; most = P.0.0.most }, P.0.1, rw (g, length-append c.args.first.now (l.d ∷ [])) (omega (arith, P.0.2))),
       next_call c.args.cols.now c.args.first.now (c.args.search.used * 64) c.args.search.bits 1 2 refl l.invariant.2 1 refl g (omega arith) P.1.0.0 P.1.0.1 P.0.1 X Y 1099511627776 P.1.1,
     )

@@ -18,7 +18,7 @@ overflow_add-s c = let l = c.loop-d in
 pub loop-d-preserved : goal.loop-d-preserved
 loop-d-preserved c = let l = c.loop-d in
     let E = c.restore_at-s in
-    (restored_step _ _ _ _ _ _ _ _ _ l.invariant.0 E.ensures, E.auto.0 ∙ l.invariant.1, omega arith)
+    (restored_step _ _ _ _ _ _ _ _ _ l.invariant.0 E.ensures, E.auto.words ∙ l.invariant.1, omega arith)
 
 pub returns : goal.returns
 returns c = let e : c.loop-d.d ≡ c.args.m = omega arith in

@@ -6,13 +6,13 @@ pub take_out-requires : goal.take_out-requires
 take_out-requires c = let s = c.requires in (s.0, s.1, s.4)
 
 pub put_in-requires : goal.put_in-requires
-put_in-requires c = let s = c.requires in (c.take_out.auto.0 ∙ s.0, s.1, s.2)
+put_in-requires c = let s = c.requires in (c.take_out.auto.words ∙ s.0, s.1, s.2)
 
 pub put_in-requires-2 : goal.put_in-requires-2
-put_in-requires-2 c = let s = c.requires in (c.put_in.auto.0 ∙ c.take_out.auto.0 ∙ s.0, s.1, s.3)
+put_in-requires-2 c = let s = c.requires in (c.put_in.auto.words ∙ c.take_out.auto.words ∙ s.0, s.1, s.3)
 
 pub shape_of-words : goal.shape_of-words
-shape_of-words c = c.put_in-2.auto.0 ∙ c.put_in.auto.0 ∙ c.take_out.auto.0
+shape_of-words c = c.put_in-2.auto.words ∙ c.put_in.auto.words ∙ c.take_out.auto.words
 
 pub returns : goal.returns
 returns c = c.put_in-2.ensures ∙ rw (c.put_in.ensures, c.take_out.ensures)

@@ -27,7 +27,7 @@ pub loop-i-preserved : goal.loop-i-preserved
 loop-i-preserved c = let l = c.loop-i in
     let s = c.args in
     let told = c.exchange_ones in
-    (omega arith, told.auto.0 ∙ l.invariant.1, exchanged_next s.width s.cols.now s.row _ _ _ _ _ _ _ (omega arith) l.invariant.2 told.ensures)
+    (omega arith, told.auto.words ∙ l.invariant.1, exchanged_next s.width s.cols.now s.row _ _ _ _ _ _ _ (omega arith) l.invariant.2 told.ensures)
 
 pub shape_of-words : goal.shape_of-words
 shape_of-words c = c.loop-i.invariant.1 ∙ sym c.requires.0

@@ -26,7 +26,7 @@ loop-rest-smaller c = rest_less _ c.loop-rest-test.true
 pub loop-rest-preserved : goal.loop-rest-preserved
 loop-rest-preserved c = let l = c.loop-rest in
     let L = trailing_lowest 64 _ l.invariant.1.fits c.loop-rest-test.true in (
-      c.exchange.auto.0 ∙ l.invariant.0,
+      c.exchange.auto.words ∙ l.invariant.0,
       rw (c.exchange.ensures, c.wide-t.ensures) (exchanging_next _ _ _ _ _ _ _ _ _ l.invariant.1 L),
     )
 

@@ -6,9 +6,9 @@ use borrow.Author.Rules.{rules}
 use Rattle.extend.proofs.added.write_word.Goals as goal
 
 pub add_bits-requires : goal.add_bits-requires
-add_bits-requires c = let C : Copied c.args.sent.now c.args.n c.copy_front.new.1.0 = front_copied _ _ _ _ c.requires.2 c.copy_front.ensures in
-    (c.requires.0, search rules, copied_bits c.args.sent.now c.copy_front.new.1.0 c.args.n C c.requires.3)
+add_bits-requires c = let C : Copied c.args.sent.now c.args.n c.copy_front.new.to = front_copied _ _ _ _ c.requires.2 c.copy_front.ensures in
+    (c.requires.0, search rules, copied_bits c.args.sent.now c.copy_front.new.to c.args.n C c.requires.3)
 
 pub returns : goal.returns
-returns c = let C : Copied c.args.sent.now c.args.n c.copy_front.new.1.0 = front_copied _ _ _ _ c.requires.2 c.copy_front.ensures in
-    extended_all (lent 8 c.args.words.now) c.args.n c.args.m c.args.k c.args.sent.now c.copy_front.new.1.0 _ C (search rules) c.add_bits.ensures
+returns c = let C : Copied c.args.sent.now c.args.n c.copy_front.new.to = front_copied _ _ _ _ c.requires.2 c.copy_front.ensures in
+    extended_all (lent 8 c.args.words.now) c.args.n c.args.m c.args.k c.args.sent.now c.copy_front.new.to _ C (search rules) c.add_bits.ensures

@@ -16,7 +16,7 @@ unfolding joined
 loop-c-init c = let E = c.copy_rows in (
       omega arith,
       c.requires.1,
-      E.auto.1.1.1.1.0 ∙ c.requires.4,
+      E.auto.rows ∙ c.requires.4,
       refl,
       rows_first 2 8 (lit< tt) (omega arith) c.args.words1.now _ c.args.m1 c.requires.0 (λ i. (c.type_inv.words1 i).fits) (omega (arith, c.requires.1)) E.ensures,
     )
@@ -35,7 +35,7 @@ loop-c-preserved c = let l = c.loop-c in
     let E = c.add-at in
     let G = E.ensures.added (joined 128 (lent 8 c.args.words1.now) c.args.m1 (lent 8 c.args.words2.now) l.c) l.invariant.3 l.invariant.4 in
     let few : E.result ≤ 120 = omega (arith, c.if-at-gt120.false) in
-    (omega arith, few, E.auto.1.1.0 ∙ l.invariant.2, rw (joined_next 128 (lent 8 c.args.words1.now) c.args.m1 (lent 8 c.args.words2.now) l.c) (G.number few), rw (joined_next 128 (lent 8 c.args.words1.now) c.args.m1 (lent 8 c.args.words2.now) l.c) (G.held few))
+    (omega arith, few, E.auto.rows ∙ l.invariant.2, rw (joined_next 128 (lent 8 c.args.words1.now) c.args.m1 (lent 8 c.args.words2.now) l.c) (G.number few), rw (joined_next 128 (lent 8 c.args.words1.now) c.args.m1 (lent 8 c.args.words2.now) l.c) (G.held few))
 
 pub returns : goal.returns
 returns c = let l = c.loop-c in

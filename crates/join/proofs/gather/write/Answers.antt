@@ -6,7 +6,7 @@ use Rattle.join.proofs.Rows.{spread_none, spread_next}
 use Rattle.join.proofs.gather.write.Goals as goal
 
 pub loop-c-init : goal.loop-c-init
-loop-c-init c = (omega arith, c.clear.auto.0 ∙ c.requires.2, spread_none 2 8 _ _ c.clear.ensures)
+loop-c-init c = (omega arith, c.clear.auto.words ∙ c.requires.2, spread_none 2 8 _ _ c.clear.ensures)
 
 pub loop-c-preserved : goal.loop-c-preserved
 loop-c-preserved c = let l = c.loop-c in

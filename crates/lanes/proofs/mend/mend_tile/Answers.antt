@@ -25,7 +25,7 @@ load-requires c = let C = c.requires.carried.0 in
     )
 
 pub run-flags-requires : goal.run-flags-requires
-run-flags-requires c = (c.requires.carried.0, omega (arith, c.requires.carried.1.room, c.load.auto.1.1.1.1.0), c.requires.carried.1.most)
+run-flags-requires c = (c.requires.carried.0, omega (arith, c.requires.carried.1.room, c.load.auto.tile), c.requires.carried.1.most)
 
 pub slice_bounds-store-end : goal.slice_bounds-store-end
 slice_bounds-store-end c = sym c.run-flags.ensures.0
@@ -34,7 +34,7 @@ pub store-requires : goal.store-requires
 store-requires c = let C = c.requires.carried.0 in
     let T = c.requires.carried.1 in
     let r = c.part-count.ensures in
-    let t = c.run-flags.auto.1.1.1.1.1.1.1.1.0 ∙ c.load.auto.1.1.1.1.0 in (
+    let t = c.run-flags.auto.tile ∙ c.load.auto.tile in (
       record {
         packets = omega (arith, T.packets);
         most = omega (arith, C.bits, C.fits.used);
@@ -55,13 +55,13 @@ put_flags-requires c = let r = c.part-count.ensures in
     (r.2, r.1, omega (arith, c.run-flags.ensures.0, c.requires.carried.1.most))
 
 pub shape_of-packets : goal.shape_of-packets
-shape_of-packets c = c.store.auto.0
+shape_of-packets c = c.store.auto.packets
 
 pub shape_of-odd : goal.shape_of-odd
-shape_of-odd c = c.put_flags.auto.0
+shape_of-odd c = c.put_flags.auto.odd
 
 pub shape_of-tile : goal.shape_of-tile
-shape_of-tile c = c.run-flags.auto.1.1.1.1.1.1.1.1.0 ∙ c.load.auto.1.1.1.1.0
+shape_of-tile c = c.run-flags.auto.tile ∙ c.load.auto.tile
 
 pub returns : goal.returns
 returns c = let C = c.requires.carried.0 in
@@ -71,6 +71,6 @@ returns c = let C = c.requires.carried.0 in
     let L = c.load.ensures in (
       r.0,
       r.2,
-      empty_still _ _ _ _ _ _ C.ready _ (lent 8 c.args.left.now 0) _ _ _ (lent (length c.args.odd.now) c.store.new.0) _ _ _ _ c.requires.empty.0 L u X,
+      empty_still _ _ _ _ _ _ C.ready _ (lent 8 c.args.left.now 0) _ _ _ (lent (length c.args.odd.now) c.store.new.packets) _ _ _ _ c.requires.empty.0 L u X,
       tile_mended _ _ _ _ _ _ C.ready _ _ _ _ _ _ _ _ _ _ c.requires.empty.0 L u X c.store.ensures _ _ c.put_flags.ensures,
     )

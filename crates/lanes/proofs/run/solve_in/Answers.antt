@@ -25,7 +25,7 @@ solve-requires c = let l = c.loop-s in
 
 pub loop-s-preserved : goal.loop-s-preserved
 loop-s-preserved c = let l = c.loop-s in
-    (omega arith, c.solve.auto.1.1.1.1.0 ∙ l.invariant.1, ran_next _ _ _ _ _ _ _ _ l.invariant.2 (rw (c.place.ensures, c.place-in-loop-s.ensures) at c.solve.ensures))
+    (omega arith, c.solve.auto.tile ∙ l.invariant.1, ran_next _ _ _ _ _ _ _ _ l.invariant.2 (rw (c.place.ensures, c.place-in-loop-s.ensures) at c.solve.ensures))
 
 pub returns : goal.returns
 returns c = let l = c.loop-s in

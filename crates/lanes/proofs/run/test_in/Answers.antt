@@ -1,5 +1,4 @@
 -- `run::test_in` meets its contract. Assumes nothing.
-use mathlib.Core.Logic.{⊎_elim}
 use mathlib.Core.Path.{◌≡◌, refl, sym, ◌∙◌}
 use borrow.Author.Tests.{not-true, not-false}
 use Prim.Native.Nat.{◌-◌}
@@ -7,6 +6,7 @@ use Rattle.parity.proofs.Matrix.Lent.{row_room}
 use Rattle.lanes.proofs.Running.{tested_none, tested_next, tested_skip}
 use native.Mathlib.Omega.{arith}
 use Rattle.lanes.proofs.run.test_in.Goals as goal
+use Rattle.lanes.proofs.run.test_in.Goals.{then-not-contains, else-not-contains}
 
 pub loop-c-init : goal.loop-c-init
 loop-c-init c = (omega arith, omega arith, refl, tested_none _ _ _ _ _ _)
@@ -23,20 +23,17 @@ test-requires c = let l = c.loop-c in (
 pub loop-c-preserved : goal.loop-c-preserved
 loop-c-preserved c = let l = c.loop-c in
     let k = c.contains in
-    ⊎_elim
-    (λ w. rw w.5 (
+    (elim c.if-not-contains.branch [ then-not-contains w ↦ rw w.5 (
       omega arith,
       omega arith,
       w.2.kept.1.1.1.1.1.1.0 ∙ l.invariant.2,
-      tested_next _ _ _ _ _ _ _ _ _ l.invariant.0 l.invariant.3 (sym k.ensures ∙ not-true k.result w.0.taken) w.2.ensures,
-    ))
-    (λ w. rw w.1 (
+      tested_next _ _ _ _ _ _ _ _ _ l.invariant.0 l.invariant.3 (sym k.ensures ∙ not-true k.result w.if-not-contains.true) w.2.ensures,
+    ) | else-not-contains w ↦ rw w.1 (
       omega arith,
       omega arith,
       l.invariant.2,
-      tested_skip _ _ _ _ _ _ _ _ l.invariant.3 (sym k.ensures ∙ not-false k.result w.0.left),
-    ))
-    c.if-not-contains.branch
+      tested_skip _ _ _ _ _ _ _ _ l.invariant.3 (sym k.ensures ∙ not-false k.result w.if-not-contains.false),
+    ) ])
 
 pub returns : goal.returns
 returns c = let l = c.loop-c in

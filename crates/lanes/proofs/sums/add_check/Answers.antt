@@ -15,7 +15,7 @@ add_word-requires c = let k : (c.loop-i.i * 64 + 64) ≤ c.args.used * 64 = omeg
     (omega (arith, c.loop-i.invariant.1, ap length c.requires.1), omega arith, omega (arith, mul-le-mul_right c.args.lanes k))
 
 pub loop-i-preserved : goal.loop-i-preserved
-loop-i-preserved c = (omega arith, c.add_word.auto.0 ∙ c.loop-i.invariant.1, sum_next _ _ _ _ _ _ _ (omega arith) c.loop-i.invariant.2 c.add_word.ensures)
+loop-i-preserved c = (omega arith, c.add_word.auto.acc ∙ c.loop-i.invariant.1, sum_next _ _ _ _ _ _ _ (omega arith) c.loop-i.invariant.2 c.add_word.ensures)
 
 pub returns : goal.returns
 returns c = let l = c.loop-i in

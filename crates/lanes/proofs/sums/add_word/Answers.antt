@@ -27,7 +27,7 @@ loop-rest-smaller c = rest_less _ c.loop-rest-test.true
 
 pub loop-rest-preserved : goal.loop-rest-preserved
 loop-rest-preserved c = let L = trailing_lowest 64 _ c.loop-rest.invariant.1.fits c.loop-rest-test.true in
-    (c.add_row.auto.0 ∙ c.loop-rest.invariant.0, rest_next _ _ _ _ _ _ _ _ _ c.loop-rest.invariant.1 L refl (rw c.wide-t.ensures at c.add_row.ensures))
+    (c.add_row.auto.rows ∙ c.loop-rest.invariant.0, rest_next _ _ _ _ _ _ _ _ _ c.loop-rest.invariant.1 L refl (rw c.wide-t.ensures at c.add_row.ensures))
 
 pub returns : goal.returns
 returns c = rest_none _ _ _ _ _ _ c.loop-rest-test.false c.loop-rest.invariant.1

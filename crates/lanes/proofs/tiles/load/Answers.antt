@@ -1,11 +1,11 @@
 -- `tiles::load` meets its contract. Assumes nothing.
 use Rattle.lanes.proofs.Storing.{loaded_none, loaded_blank, loaded_take}
 use mathlib.Core.Path.{◌≡◌, refl, sym, ◌∙◌}
-use mathlib.Core.Logic.{⊎_elim}
 use Prim.Native.Nat.{◌-◌}
 use Rattle.parity.proofs.Matrix.Lent.{row_room}
 use native.Mathlib.Omega.{arith}
 use Rattle.lanes.proofs.tiles.load.Goals as goal
+use Rattle.lanes.proofs.tiles.load.Goals.{then-contains, else-contains}
 
 pub loop-b-init : goal.loop-b-init
 loop-b-init c = (omega arith, refl, loaded_none _ _ _ _ _)
@@ -29,10 +29,7 @@ take_row-requires c = let l = c.loop-b in
 pub loop-b-preserved : goal.loop-b-preserved
 loop-b-preserved c = let l = c.loop-b in
     let k = c.contains in
-    ⊎_elim
-    (λ w. rw w.5 (omega arith, w.2.kept.1.0 ∙ l.invariant.1, loaded_blank _ _ _ _ _ _ _ _ l.invariant.2 (sym k.ensures ∙ w.0.taken) w.2.ensures))
-    (λ w. rw w.5 (omega arith, w.2.kept.1.1.1.0 ∙ l.invariant.1, loaded_take _ _ _ _ _ _ _ _ l.invariant.2 (sym k.ensures ∙ w.0.left) w.2.ensures))
-    c.if-contains.branch
+    (elim c.if-contains.branch [ then-contains w ↦ rw w.5 (omega arith, w.2.kept.1.0 ∙ l.invariant.1, loaded_blank _ _ _ _ _ _ _ _ l.invariant.2 (sym k.ensures ∙ w.if-contains.true) w.2.ensures) | else-contains w ↦ rw w.5 (omega arith, w.2.kept.1.1.1.0 ∙ l.invariant.1, loaded_take _ _ _ _ _ _ _ _ l.invariant.2 (sym k.ensures ∙ w.if-contains.false) w.2.ensures) ])
 
 pub returns : goal.returns
 returns c = let l = c.loop-b in

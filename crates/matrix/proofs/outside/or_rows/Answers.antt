@@ -16,7 +16,7 @@ or_row-requires c = let l = c.loop-c in
 pub loop-c-preserved : goal.loop-c-preserved
 loop-c-preserved c = let l = c.loop-c in
     let E = c.or_row in
-    (omega arith, omega arith, E.auto.0 ∙ l.invariant.2, ored_more _ _ _ _ _ _ l.invariant.0 (λ i. omega (arith, c.type_inv.rows i)) l.invariant.3 E.ensures)
+    (omega arith, omega arith, E.auto.all ∙ l.invariant.2, ored_more _ _ _ _ _ _ l.invariant.0 (λ i. omega (arith, c.type_inv.rows i)) l.invariant.3 E.ensures)
 
 pub returns : goal.returns
 returns c = let e : c.loop-c.c ≡ c.args.end = omega arith in rw e at c.loop-c.invariant.3

@@ -20,9 +20,9 @@ fill-requires c = let e = two_words _ c.no_columns-cols.ensures in record { word
 pub all_rules-requires : goal.all_rules-requires
 all_rules-requires c = let p = c.no_first_pairs-pairs.ensures in
     let e = two_words _ c.no_columns-cols.ensures in
-    let a = c.args in record { words_len = (c.requires.0, c.fill.auto.1.0 ∙ e.0, rw p (length-replicate {A = ℕ} 516 0), omega arith, omega (arith, c.if-n-k-le256.true), c.requires.2, c.requires.3); words_value = (c.requires.4, c.fill.ensures, passing_none 4 (lent 8 a.words.now) a.n a.m 516 _ p) }
+    let a = c.args in record { words_len = (c.requires.0, c.fill.auto.cols ∙ e.0, rw p (length-replicate {A = ℕ} 516 0), omega arith, omega (arith, c.if-n-k-le256.true), c.requires.2, c.requires.3); words_value = (c.requires.4, c.fill.ensures, passing_none 4 (lent 8 a.words.now) a.n a.m 516 _ p) }
 
 pub all_rules-requires-2 : goal.all_rules-requires-2
 all_rules-requires-2 c = let p = c.no_pairs-pairs.ensures in
     let e = two_words _ c.no_columns-cols.ensures in
-    let a = c.args in record { words_len = (c.requires.0, c.fill.auto.1.0 ∙ e.0, rw p (length-replicate {A = ℕ} 2056 0), omega arith, c.requires.1, c.requires.2, c.requires.3); words_value = (c.requires.4, c.fill.ensures, passing_none 8 (lent 8 a.words.now) a.n a.m 2056 _ p) }
+    let a = c.args in record { words_len = (c.requires.0, c.fill.auto.cols ∙ e.0, rw p (length-replicate {A = ℕ} 2056 0), omega arith, c.requires.1, c.requires.2, c.requires.3); words_value = (c.requires.4, c.fill.ensures, passing_none 8 (lent 8 a.words.now) a.n a.m 2056 _ p) }

@@ -17,7 +17,7 @@ keep-requires c = let F = c.fill_all-w.ensures.holds in record { tags = F.tags; 
 pub loop-r-init : goal.loop-r-init
 loop-r-init c = let F = c.fill_all-w.ensures in
     let K = c.keep.ensures in
-    (F.0, omega arith, c.requires.2, holds_kept _ _ _ _ _ _ F.0 F.1 _ _ K, twice_kept _ _ _ _ _ K)
+    (F.value, omega arith, c.requires.2, holds_kept _ _ _ _ _ _ F.value F.holds _ _ K, twice_kept _ _ _ _ _ K)
 
 pub one_round-requires : goal.one_round-requires
 one_round-requires c = let l = c.loop-r in
@@ -30,7 +30,7 @@ pub renew-requires : goal.renew-requires
 renew-requires c = let R = c.one_round.ensures.sent in record { tags = R.tags; values = R.values }
 
 pub shape_of-at-then-renew : goal.shape_of-at-then-renew
-shape_of-at-then-renew c = c.one_round.auto.1.1.1.1.1.0 ∙ c.loop-r.invariant.2 ∙ sym c.requires.2
+shape_of-at-then-renew c = c.one_round.auto.at ∙ c.loop-r.invariant.2 ∙ sym c.requires.2
 
 pub shape_of-tags-then-renew : goal.shape_of-tags-then-renew
 shape_of-tags-then-renew c = c.renew.ensures.kept.tags ∙ c.one_round.ensures.sent.tags ∙ sym c.requires.0.laid.memory.tags
@@ -47,8 +47,8 @@ returns-then-renew c = let R = c.one_round.ensures in
     let h = lent 8 c.args.words.now in
     let H = round_more h _ c.args.checks Q.inner.below _ l.r _ _ l.invariant.3 _ _ R in
     let S = round_stands h c.args.checks _ l.r c.args.last _ _ _ _ _ Q.within Q.within.most l.invariant.0 l.invariant.1 l.invariant.3 l.invariant.4 R.above H
-    (N.0.room t) (N.0.twice t) in
-    holds_kept h c.args.checks _ _ _ _ l.invariant.0 S _ _ N.1
+    (N.standing.room t) (N.standing.twice t) in
+    holds_kept h c.args.checks _ _ _ _ l.invariant.0 S _ _ N.kept
 
 pub overflow_step-r : goal.overflow_step-r
 overflow_step-r c = omega (arith, c.loop-r-test.true, c.ranges.last)
@@ -61,7 +61,7 @@ loop-r-preserved c = let R = c.one_round in
     let H = round_more h _ c.args.checks c.requires.0.inner.below _ l.r _ _ l.invariant.3 _ _ R.ensures in (
       l.invariant.0,
       omega (arith, c.loop-r-test.true),
-      R.auto.1.1.1.1.1.0 ∙ l.invariant.2,
+      R.auto.at ∙ l.invariant.2,
       rw (add-one l.r) (holds_kept h c.args.checks _ _ _ _ l.invariant.0 H _ _ K),
       twice_kept _ _ _ _ _ K,
     )

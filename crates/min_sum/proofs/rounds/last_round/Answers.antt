@@ -9,14 +9,14 @@ pub result_all-requires : goal.result_all-requires
 result_all-requires c = let C = c.checks_send in
     let Q = c.requires.ready.0 in
     let M = Q.laid.memory in
-    rw c.requires.ready.1.same record { laid_across = (record { words = c.requires.ready.1.long; memory = record { tags = C.auto.1.1.1.0 ∙ M.tags; values = C.auto.1.1.1.1.0 ∙ M.values }; room = Q.laid.room }, Q.within); inner = (Q.inner, C.ensures.0) }
+    rw c.requires.ready.1.same record { laid_across = (record { words = c.requires.ready.1.long; memory = record { tags = C.auto.tags ∙ M.tags; values = C.auto.values ∙ M.values }; room = Q.laid.room }, Q.within); inner = (Q.inner, C.ensures.cursors) }
 
 pub returns : goal.returns
 returns c = let C = c.checks_send in
     let M = c.requires.ready.0.laid.memory in
     record {
-      mt = C.new.1.1.1.0;
-      mx = C.new.1.1.1.1.0;
-      heard = record { tags = C.auto.1.1.1.0 ∙ M.tags; values = C.auto.1.1.1.1.0 ∙ M.values; answering = C.ensures.1.0 };
+      mt = C.new.tags;
+      mx = C.new.values;
+      heard = record { tags = C.auto.tags ∙ M.tags; values = C.auto.values ∙ M.values; answering = C.ensures.answering };
       results = rw c.requires.ready.1.same at c.result_all.ensures;
     }

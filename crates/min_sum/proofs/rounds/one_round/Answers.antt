@@ -10,16 +10,16 @@ pub send_all-requires : goal.send_all-requires
 send_all-requires c = let C = c.checks_send in
     let Q = c.requires.ready.0 in
     let M = Q.laid.memory in
-    rw c.requires.ready.1.same record { laid_across = (record { words = c.requires.ready.1.long; memory = record { tags = C.auto.1.1.1.0 ∙ M.tags; values = C.auto.1.1.1.1.0 ∙ M.values }; room = Q.laid.room }, Q.within); inner = (Q.inner, C.ensures.0) }
+    rw c.requires.ready.1.same record { laid_across = (record { words = c.requires.ready.1.long; memory = record { tags = C.auto.tags ∙ M.tags; values = C.auto.values ∙ M.values }; room = Q.laid.room }, Q.within); inner = (Q.inner, C.ensures.cursors) }
 
 pub returns : goal.returns
 returns c = let C = c.checks_send in
     let A = rw c.requires.ready.1.same at c.send_all.ensures in
     let M = c.requires.ready.0.laid.memory in
     record {
-      mt = C.new.1.1.1.0;
-      mx = C.new.1.1.1.1.0;
-      heard = record { tags = C.auto.1.1.1.0 ∙ M.tags; values = C.auto.1.1.1.1.0 ∙ M.values; answering = C.ensures.1.0 };
+      mt = C.new.tags;
+      mx = C.new.values;
+      heard = record { tags = C.auto.tags ∙ M.tags; values = C.auto.values ∙ M.values; answering = C.ensures.answering };
       sent = A.0;
-      above = above_more _ 512 _ _ _ _ C.ensures.1.1 _ _ A.1;
+      above = above_more _ 512 _ _ _ _ C.ensures.above _ _ A.1;
     }

@@ -15,7 +15,7 @@ last_round-requires c = let C = c.course in
     let Q = c.requires.0 in
     let M = Q.laid.memory in
     let sound = round_sound (lent 8 c.args.words.now) c.args.checks _ c.args.word.now c.args.floats.now refl Q.sounds _ _ _ K in
-    record { ready = (ready_same _ _ _ _ _ _ Q _ _ (K.tags ∙ sym M.tags) (K.values ∙ sym M.values), c.requires.1); at_len = (C.auto.1.1.1.1.1.1.0 ∙ c.requires.2, sound) }
+    record { ready = (ready_same _ _ _ _ _ _ Q _ _ (K.tags ∙ sym M.tags) (K.values ∙ sym M.values), c.requires.1); at_len = (C.auto.at ∙ c.requires.2, sound) }
 
 pub returns : goal.returns
 returns c = let e : suc (c.args.rounds - 1) ≡ c.args.rounds = omega (arith, c.requires.3) in

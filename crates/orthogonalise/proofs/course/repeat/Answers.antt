@@ -67,14 +67,14 @@ pub slice_bounds-turn-end : goal.slice_bounds-turn-end
 slice_bounds-turn-end c = sym c.loop-low.invariant.1
 
 pub slice_bounds-turn-end-in-Pair : goal.slice_bounds-turn-end-in-Pair
-slice_bounds-turn-end-in-Pair c = sym (c.pick.auto.1.1.1.0 ∙ c.loop-low.invariant.2)
+slice_bounds-turn-end-in-Pair c = sym (c.pick.auto.bound ∙ c.loop-low.invariant.2)
 
 pub turn-held-requires : goal.turn-held-requires
 turn-held-requires c = let l = c.loop-low in
     let S = l.invariant.4 in
     let A = S.sound in
     let X = rw c.in-Pair.is at c.pick.ensures.0 in
-    let room = c.if-at-eq392.false in record { words_len = (l.invariant.0 ∙ c.requires.words_len, l.invariant.1, c.pick.auto.1.1.1.0 ∙ l.invariant.2, omega (arith, A.m120, A.k392), X.0.low, X.0.high, omega (arith, A.n120, A.k392)); ready = picked_ready _ _ _ _ _ _ _ _ _ _ _ S _ _ _ X.0 }
+    let room = c.if-at-eq392.false in record { words_len = (l.invariant.0 ∙ c.requires.words_len, l.invariant.1, c.pick.auto.bound ∙ l.invariant.2, omega (arith, A.m120, A.k392), X.0.low, X.0.high, omega (arith, A.n120, A.k392)); ready = picked_ready _ _ _ _ _ _ _ _ _ _ _ S _ _ _ X.0 }
 
 pub counted-at-requires : goal.counted-at-requires
 counted-at-requires c = let S = c.loop-low.invariant.4 in
@@ -94,9 +94,9 @@ loop-low-preserved c = let l = c.loop-low in
     let room = c.if-at-eq392.false in
     let told = c.turn-held in
     let e = c.counted-at.ensures in (
-      told.auto.0 ∙ l.invariant.0,
-      told.auto.1.0 ∙ l.invariant.1,
-      told.auto.1.1.0 ∙ pick.auto.1.1.1.0 ∙ l.invariant.2,
+      told.auto.words ∙ l.invariant.0,
+      told.auto.cols ∙ l.invariant.1,
+      told.auto.bound ∙ pick.auto.bound ∙ l.invariant.2,
       e.0 ∙ l.invariant.3,
       rw (e.1, e.2, e.3, e.4) (stands_split _ _ _ _ _ _ _ _ _ _ _ S _ _ _ X.0 (omega (arith, S.sound.k392)) _ _ _ _ told.ensures),
       rw e.3 (head_split _ _ _ _ _ _ _ _ _ _ _ S _ _ _ X.0 (omega (arith, S.sound.k392)) _ _ _ _ told.ensures X.1),

@@ -5,16 +5,16 @@ use Rattle.orthogonalise.proofs.Turns.{both_parted, given_parted, held_parted}
 use Rattle.orthogonalise.proofs.course.turn.Goals as goal
 
 pub merge-requires : goal.merge-requires
-merge-requires c = let told = c.part in record { words_len = (c.requires.words_len.0, c.requires.words_len.3, omega (arith, c.requires.words_len.4, c.requires.words_len.5), c.requires.words_len.5, c.requires.words_len.6, omega arith, omega (arith, c.requires.words_len.1, told.auto.0, c.requires.words_len.6)); clean = (c.requires.ready.clean, both_parted _ _ _ _ _ _ _ c.requires.ready told.ensures) }
+merge-requires c = let told = c.part in record { words_len = (c.requires.words_len.0, c.requires.words_len.3, omega (arith, c.requires.words_len.4, c.requires.words_len.5), c.requires.words_len.5, c.requires.words_len.6, omega arith, omega (arith, c.requires.words_len.1, told.auto.cols, c.requires.words_len.6)); clean = (c.requires.ready.clean, both_parted _ _ _ _ _ _ _ c.requires.ready told.ensures) }
 
 pub widen-requires : goal.widen-requires
 widen-requires c = let told = c.part in
     let done = c.merge in
-    record { words_len = (done.auto.0 ∙ c.requires.words_len.0, told.auto.0 ∙ c.requires.words_len.1, c.requires.words_len.2, c.requires.words_len.6); given = rw done.ensures (given_parted _ _ _ _ _ _ _ c.requires.ready told.ensures) }
+    record { words_len = (done.auto.words ∙ c.requires.words_len.0, told.auto.cols ∙ c.requires.words_len.1, c.requires.words_len.2, c.requires.words_len.6); given = rw done.ensures (given_parted _ _ _ _ _ _ _ c.requires.ready told.ensures) }
 
 pub holders-requires : goal.holders-requires
 holders-requires c = let told = c.part in
-    (omega (arith, c.requires.words_len.1, told.auto.0, c.requires.words_len.6), omega (arith, c.requires.words_len.1, told.auto.0, c.requires.words_len.6), omega arith, omega arith)
+    (omega (arith, c.requires.words_len.1, told.auto.cols, c.requires.words_len.6), omega (arith, c.requires.words_len.1, told.auto.cols, c.requires.words_len.6), omega arith, omega arith)
 
 pub returns : goal.returns
 returns c = let told = c.part in

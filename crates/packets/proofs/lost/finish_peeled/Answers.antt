@@ -34,10 +34,10 @@ mend-requires c = let R = c.requires.rooms.0 in
     )
 
 pub shape_of-packets : goal.shape_of-packets
-shape_of-packets c = c.mend.auto.1.1.1.1.1.1.1.1.1.1.0
+shape_of-packets c = c.mend.auto.packets
 
 pub shape_of-odd : goal.shape_of-odd
-shape_of-odd c = c.mend.auto.1.1.1.1.1.1.1.1.1.1.1.0
+shape_of-odd c = c.mend.auto.odd
 
 pub returns : goal.returns
 returns c = let R = c.requires.rooms.0 in

@@ -1,10 +1,10 @@
 -- `order::join_touched` meets its contract. Assumes nothing.
 use mathlib.Core.Path.{◌≡◌, sym, ◌∙◌}
-use mathlib.Core.Logic.{⊎_elim}
 use Prim.Native.Nat.{◌-◌}
 use Rattle.plan.proofs.Ordering.{joined_none, joined_next, joined_past}
 use native.Mathlib.Omega.{arith}
 use Rattle.plan.proofs.order.join_touched.Goals as goal
+use Rattle.plan.proofs.order.join_touched.Goals.{then-touches, else-touches}
 
 pub loop-c-init : goal.loop-c-init
 loop-c-init c = (omega arith, c.requires.3, joined_none _ _ _ _)
@@ -17,10 +17,7 @@ raise-requires c = (omega (arith, c.loop-c.invariant.1), omega arith)
 
 pub loop-c-preserved : goal.loop-c-preserved
 loop-c-preserved c = let t = c.touches in
-    ⊎_elim
-    (λ w. rw w.5 (omega arith, w.2.kept.0 ∙ c.loop-c.invariant.1, joined_next _ _ _ _ _ _ _ c.loop-c.invariant.2 (sym t.ensures ∙ w.0.taken) w.2.ensures))
-    (λ w. rw w.1 (omega arith, c.loop-c.invariant.1, joined_past _ _ _ _ _ _ c.loop-c.invariant.2 (sym t.ensures ∙ w.0.left)))
-    c.if-touches.branch
+    (elim c.if-touches.branch [ then-touches w ↦ rw w.5 (omega arith, w.2.kept.0 ∙ c.loop-c.invariant.1, joined_next _ _ _ _ _ _ _ c.loop-c.invariant.2 (sym t.ensures ∙ w.if-touches.true) w.2.ensures) | else-touches w ↦ rw w.1 (omega arith, c.loop-c.invariant.1, joined_past _ _ _ _ _ _ c.loop-c.invariant.2 (sym t.ensures ∙ w.if-touches.false)) ])
 
 pub returns : goal.returns
 returns c = let l = c.loop-c in

@@ -54,17 +54,17 @@ loop-c-preserved-in-Found c = let l = c.loop-c in
     let A = rw c.in-Found.is at c.next_in-alone.ensures in
     let L = lone_narrow _ _ _ _ _ _ _ (omega (arith, c.requires.words_len.4)) l.invariant.6 A.lone in
     let k = room _ _ _ 512 l.invariant.5.fewer (omega (arith, count_bound (c.args.used * 64) (lent 8 c.args.erased.now 0), c.requires.words_len.4)) (count_pos _ _ _ L.bit L.gone) in (
-      c.next_in-alone.auto.1.1.1.0 ∙ l.invariant.0,
-      n.auto.0 ∙ l.invariant.1,
-      d.auto.0 ∙ l.invariant.2,
-      n.auto.1.0 ∙ l.invariant.3,
-      n.auto.1.1.0 ∙ l.invariant.4,
-      ordered_noted _ _ _ _ _ _ _ _ _ _ _ _ _ _ _ l.invariant.5 L n.ensures.0 d.ensures n.ensures.1.0 n.ensures.1.1 (omega (arith, k, l.invariant.3)) (omega (arith, k, l.invariant.4)),
-      short_noted _ _ _ _ l.invariant.6 n.ensures.0,
+      c.next_in-alone.auto.live ∙ l.invariant.0,
+      n.auto.left ∙ l.invariant.1,
+      d.auto.rows ∙ l.invariant.2,
+      n.auto.step_checks ∙ l.invariant.3,
+      n.auto.step_bits ∙ l.invariant.4,
+      ordered_noted _ _ _ _ _ _ _ _ _ _ _ _ _ _ _ l.invariant.5 L n.ensures.left_after d.ensures n.ensures.step_checks_after n.ensures.step_bits_after (omega (arith, k, l.invariant.3)) (omega (arith, k, l.invariant.4)),
+      short_noted _ _ _ _ l.invariant.6 n.ensures.left_after,
       l.invariant.7,
       omega (arith, A.ahead),
       omega (arith, A.below),
-      live_noted _ _ _ _ _ _ _ _ _ _ _ A.lone n.ensures.0 A.here A.live,
+      live_noted _ _ _ _ _ _ _ _ _ _ _ A.lone n.ensures.left_after A.here A.live,
     )
 
 pub loop-c-smaller : goal.loop-c-smaller
@@ -75,10 +75,10 @@ loop-c-smaller c = let l = c.loop-c in
 pub loop-c-preserved : goal.loop-c-preserved
 loop-c-preserved c = let l = c.loop-c in
     let A = rw c.in-Nothing.is at c.next_in-alone.ensures in
-    (c.next_in-alone.auto.1.1.1.0 ∙ l.invariant.0, l.invariant.1, l.invariant.2, l.invariant.3, l.invariant.4, l.invariant.5, l.invariant.6, omega (arith, A.few, l.invariant.7), omega arith, omega arith, live_again _ _ _ _ _ _ _ _ A)
+    (c.next_in-alone.auto.live ∙ l.invariant.0, l.invariant.1, l.invariant.2, l.invariant.3, l.invariant.4, l.invariant.5, l.invariant.6, omega (arith, A.few, l.invariant.7), omega arith, omega arith, live_again _ _ _ _ _ _ _ _ A)
 
 pub shape_of-live : goal.shape_of-live
-shape_of-live c = c.next_in-alone.auto.1.1.1.0 ∙ c.loop-c.invariant.0 ∙ sym c.requires.empty.1
+shape_of-live c = c.next_in-alone.auto.live ∙ c.loop-c.invariant.0 ∙ sym c.requires.empty.1
 
 pub shape_of-erased : goal.shape_of-erased
 shape_of-erased c = c.loop-c.invariant.1 ∙ sym c.requires.words_len.2

@@ -1,6 +1,6 @@
 -- `judge::bits_singly` meets its contract. Assumes nothing.
 use mathlib.Core.Path.{◌≡◌}
-use mathlib.Core.List.{◌∷◌}
+use mathlib.Core.List.{[], ◌∷◌}
 use Prim.Native.Nat.{◌-◌}
 use native.Mathlib.Omega.{arith}
 use Rattle.parity.proofs.Record.Reading.{bit_yes, bit_kind, bit_low, bit_large}

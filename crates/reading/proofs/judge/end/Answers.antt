@@ -1,5 +1,5 @@
 -- `judge::end` meets its contract. Assumes nothing.
-use mathlib.Core.List.{◌∷◌}
+use mathlib.Core.List.{[], ◌∷◌}
 use native.Mathlib.Omega.{arith}
 use Rattle.parity.proofs.Record.Reading.{end_yes, end_kind, end_unnamed}
 use Rattle.reading.proofs.Other.{other_kind}

@@ -18,7 +18,7 @@ returns-then-place-word c = let a = c.args in
     let f = c.first_above-place.ensures in
     same_text
     (peel_wrong a.words.now a.n a.m a.k a.splits a.sum a.word.now _ c.requires.k_value.0 c.requires.k_value.1 f (byte_wrong a.word.now 2 _ f c.if-place-word.true))
-    c.Put-refused.ensures
+    c.put_refused.ensures
 
 pub peel_admitted-requires : goal.peel_admitted-requires
 peel_admitted-requires c = (c.requires.k_value.0, c.requires.k_value.1, byte_right c.args.word.now 2 _ c.first_above-place.ensures (λ q. omega (arith, c.if-place-word.false)))
@@ -27,29 +27,29 @@ pub put_refused-requires-in-Refused : goal.put_refused-requires-in-Refused
 put_refused-requires-in-Refused c = let a = c.args in
     let p = c.peel_admitted in
     let g = c.r-1.given in
-    let e = sym (ap peeling_reply g.1) ∙ p.ensures.0 in
-    rw (peel_refused a.words.now a.n a.m a.k a.splits a.sum a.word.now g.0.0 e) c.requires.word_in_bounds
+    let e = sym (ap peeling_reply c.in-Refused.is) ∙ p.ensures.result_value in
+    rw (peel_refused a.words.now a.n a.m a.k a.splits a.sum a.word.now c.in-Refused.r e) c.requires.word_in_bounds
 
 pub put_report-requires : goal.put_report-requires
 put_report-requires c = let a = c.args in
     let p = c.peel_admitted in
     let g = c.enum_told-1.given in
-    let e = sym (ap peeling_reply g.1) ∙ p.ensures.0 in record { word_in_bounds = rw (p.ensures.1, peel_passes a.words.now a.n a.m a.k a.splits a.sum a.word.now _ e) c.requires.word_in_bounds; n_in_bounds = omega (arith, c.requires.k_value.1, p.auto.1.1.1.1.0); bytes = rw p.ensures.1 (peel_bytes a.words.now a.n a.m a.k a.splits a.sum a.word.now _ e) }
+    let e = sym (ap peeling_reply c.in-Made.is) ∙ p.ensures.result_value in record { word_in_bounds = rw (p.ensures.word_after, peel_passes a.words.now a.n a.m a.k a.splits a.sum a.word.now _ e) c.requires.word_in_bounds; n_in_bounds = omega (arith, c.requires.k_value.1, p.auto.word); bytes = rw p.ensures.word_after (peel_bytes a.words.now a.n a.m a.k a.splits a.sum a.word.now _ e) }
 
 pub returns-in-Refused : goal.returns-in-Refused
 returns-in-Refused c = let a = c.args in
     let p = c.peel_admitted in
     let g = c.r-1.given in
-    let e = sym (ap peeling_reply g.1) ∙ p.ensures.0 in
+    let e = sym (ap peeling_reply c.in-Refused.is) ∙ p.ensures.result_value in
     same_text
-    (peel_refused a.words.now a.n a.m a.k a.splits a.sum a.word.now g.0.0 e)
+    (peel_refused a.words.now a.n a.m a.k a.splits a.sum a.word.now c.in-Refused.r e)
     c.put_refused-in-Refused.ensures
 
 pub returns-in-Made : goal.returns-in-Made
 returns-in-Made c = let a = c.args in
     let p = c.peel_admitted in
     let g = c.enum_told-1.given in
-    let e = sym (ap peeling_reply g.1) ∙ p.ensures.0 in
+    let e = sym (ap peeling_reply c.in-Made.is) ∙ p.ensures.result_value in
     same_text
-    (rw p.ensures.1 (peel_passes a.words.now a.n a.m a.k a.splits a.sum a.word.now _ e))
+    (rw p.ensures.word_after (peel_passes a.words.now a.n a.m a.k a.splits a.sum a.word.now _ e))
     c.put_report.ensures

@@ -1,10 +1,10 @@
 -- `fill::below` meets its contract. Assumes nothing.
 use mathlib.Core.Path.{◌≡◌}
-use mathlib.Core.Logic.{⊎_elim}
 use Prim.Native.Nat.{◌-◌}
 use native.Mathlib.Omega.{arith}
 use Rattle.record.proofs.Filling.{part_none, part_low, part_high}
 use Rattle.record.proofs.fill.below.Goals as goal
+use Rattle.record.proofs.fill.below.Goals.{then-payload-lt64, else-payload-lt64}
 
 pub loop-i-init : goal.loop-i-init
 loop-i-init c = (omega arith, part_none _ _)
@@ -25,10 +25,7 @@ pub loop-i-preserved : goal.loop-i-preserved
 loop-i-preserved c = let e = c.payload.ensures in
     let l = c.loop-i in
     let P = c.requires.0 in
-    ⊎_elim
-    (λ w. rw w.1 (omega arith, part_low _ _ _ _ _ _ P (omega arith) l.invariant.1 (rw (← e) w.0.taken)))
-    (λ w. rw w.1 (omega arith, part_high _ _ _ _ _ _ P (omega arith) l.invariant.1 (rw (← e) w.0.left)))
-    c.if-payload-lt64.branch
+    (elim c.if-payload-lt64.branch [ then-payload-lt64 w ↦ rw w.1 (omega arith, part_low _ _ _ _ _ _ P (omega arith) l.invariant.1 (rw (← e) w.if-payload-lt64.true)) | else-payload-lt64 w ↦ rw w.1 (omega arith, part_high _ _ _ _ _ _ P (omega arith) l.invariant.1 (rw (← e) w.if-payload-lt64.false)) ])
 
 pub returns : goal.returns
 returns c = let l = c.loop-i in

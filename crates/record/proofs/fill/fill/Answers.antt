@@ -6,7 +6,7 @@ use Rattle.record.proofs.Filling.{zeroed_none, filling_none, filling_more, filli
 use Rattle.record.proofs.fill.fill.Goals as goal
 
 pub loop-c-init : goal.loop-c-init
-loop-c-init c = let e = c.clear.auto.0 in
+loop-c-init c = let e = c.clear.auto.words in
     (omega arith, e ∙ c.requires.0, filling_none _ _ _ c.requires.1 (zeroed_none 8 _ (rw (e, c.requires.0) c.clear.ensures)))
 
 pub offset_bounds-source-p : goal.offset_bounds-source-p
@@ -39,7 +39,7 @@ pub loop-c-preserved : goal.loop-c-preserved
 loop-c-preserved c = let l = c.loop-c in
     let r = c.fill_check in
     let e = c.payload-count.ensures in
-    (omega arith, r.auto.1.1.1.0 ∙ l.invariant.1, rw e (filling_next _ _ _ _ _ l.invariant.2 (omega arith) _ (rw e at r.ensures)))
+    (omega arith, r.auto.words ∙ l.invariant.1, rw e (filling_next _ _ _ _ _ l.invariant.2 (omega arith) _ (rw e at r.ensures)))
 
 pub returns : goal.returns
 returns c = let l = c.loop-c in

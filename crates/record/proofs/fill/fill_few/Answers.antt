@@ -25,7 +25,7 @@ raise-requires c = (omega (arith, c.loop-i.invariant.1, c.requires.1), omega (ar
 pub loop-i-preserved : goal.loop-i-preserved
 loop-i-preserved c = let r = c.raise in
     let l = c.loop-i in
-    (omega arith, r.auto.0 ∙ l.invariant.1, puts_next _ _ _ _ _ _ _ _ l.invariant.2 c.payload.ensures r.ensures)
+    (omega arith, r.auto.rows ∙ l.invariant.1, puts_next _ _ _ _ _ _ _ _ l.invariant.2 c.payload.ensures r.ensures)
 
 pub shape_of-words : goal.shape_of-words
 shape_of-words c = c.loop-i.invariant.1

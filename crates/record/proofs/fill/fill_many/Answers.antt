@@ -17,10 +17,10 @@ pub overflow_sub-count : goal.overflow_sub-count
 overflow_sub-count c = omega (arith, c.wide-low.ensures, c.below.ensures.top)
 
 pub fill_word-requires-2 : goal.fill_word-requires-2
-fill_word-requires-2 c = (omega (arith, c.fill_word.auto.1.1.1.0, c.requires.2), omega arith, rw c.wide-low.ensures (high_word _ _ _ _ c.requires.0 c.below.ensures))
+fill_word-requires-2 c = (omega (arith, c.fill_word.auto.words, c.requires.2), omega arith, rw c.wide-low.ensures (high_word _ _ _ _ c.requires.0 c.below.ensures))
 
 pub shape_of-words : goal.shape_of-words
-shape_of-words c = c.fill_word-2.auto.1.1.1.0 ∙ c.fill_word.auto.1.1.1.0
+shape_of-words c = c.fill_word-2.auto.words ∙ c.fill_word.auto.words
 
 pub returns : goal.returns
 returns c = let low = c.wide-low.result in

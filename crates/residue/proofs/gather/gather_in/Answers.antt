@@ -1,12 +1,12 @@
 -- `gather::gather_in` meets its contract. Assumes nothing.
 use Prim.Native.Nat.{◌-◌}
 use mathlib.Core.Path.{◌≡◌, refl, ◌∙◌}
-use mathlib.Core.Logic.{⊎_elim}
 use native.Mathlib.Omega.{arith}
 use Rattle.parity.proofs.Matrix.Lent.{row_room}
 use Rattle.rows.proofs.Writing.{copied_row, row_others}
 use Rattle.residue.proofs.Gathering.{not_touched, gathered_none, gathered_past, gathered_more}
 use Rattle.residue.proofs.gather.gather_in.Goals as goal
+use Rattle.residue.proofs.gather.gather_in.Goals.{then-touches, else-touches}
 
 pub loop-c-init : goal.loop-c-init
 loop-c-init c = (omega arith, refl, gathered_none _ _ _ _)
@@ -25,18 +25,15 @@ overflow_add-count c = let l = c.loop-c in
 
 pub loop-c-preserved : goal.loop-c-preserved
 loop-c-preserved c = let l = c.loop-c in
-    ⊎_elim
-    (λ w. rw (w.5, w.6) (
+    (elim c.if-touches.branch [ then-touches w ↦ rw (w.5, w.6) (
       omega arith,
       w.2.ensures.long ∙ l.invariant.1,
       gathered_more _ _ _ _ _ _ l.invariant.2 _ (copied_row 8 _ c.requires.3 _ _ _ _ _ w.2.ensures) (λ d b k _. row_others _ _ _ (omega arith) _ _ _ w.2.ensures d b (λ e. omega arith)),
-    ))
-    (λ w. rw (w.1, w.2) (
+    ) | else-touches w ↦ rw (w.1, w.2) (
       omega arith,
       l.invariant.1,
-      gathered_past _ _ _ _ _ _ l.invariant.2 (not_touched _ _ c.touches.ensures w.0.left),
-    ))
-    c.if-touches.branch
+      gathered_past _ _ _ _ _ _ l.invariant.2 (not_touched _ _ c.touches.ensures w.if-touches.false),
+    ) ])
 
 pub returns : goal.returns
 returns c = let l = c.loop-c in

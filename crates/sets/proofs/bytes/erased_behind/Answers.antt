@@ -20,6 +20,6 @@ copy_front-requires c = omega (arith, c.requires, ap length c.erased_word-word.e
 pub returns : goal.returns
 returns c = let w = c.args.bytes.now in
     let all = c.erased_word-word.ensures in (
-      c.copy_front.auto.1.0 ∙ ap length all ∙ length-replicate {A = ℕ} 512 2,
+      c.copy_front.auto.to ∙ ap length all ∙ length-replicate {A = ℕ} 512 2,
       c.copy_front.ensures ∙ ap (λ (v : List ℕ). w ++ v) (ap (drop (length w)) all ∙ drop-erased (length w) 512 c.requires),
     )

@@ -53,7 +53,7 @@ pub overflow_add-result : goal.overflow_add-result
 overflow_add-result c = let k = (room c).0 in omega arith
 
 pub shape_of-target : goal.shape_of-target
-shape_of-target c = length-set c.put_splits-end.new.1.1.1.1.0 c.put_splits-end.result 4026531840 ∙ (room c).1
+shape_of-target c = length-set c.put_splits-end.new.target c.put_splits-end.result 4026531840 ∙ (room c).1
 
 pub returns : goal.returns
 returns c = wrote_plain _ _ _ _ _ _ _ _ _ _ _ _ _ c.head_word.ensures c.put_checks-behind.ensures c.put_splits-end.ensures

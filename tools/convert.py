@@ -136,7 +136,7 @@ class Fn:
         for m in let.finditer(text):
             if m[2] in aliases and m[1] not in aliases:
                 segs = [s for s in m[3].split(".") if s and s != "before"]
-                if len(segs) == 1 and norm(segs[0]) not in ("args", "requires"):
+                if len(segs) == 1 and norm(segs[0]) != "args" or len(segs) == 2 and segs[1] == "ensures":
                     steps[m[1]] = segs
 
         def sub(m):
@@ -144,7 +144,7 @@ class Fn:
                 segs = steps[m[1]] + [s for s in m[2].split(".") if s]
                 kind, to = self.resolve(place, segs)
                 kind, step = self.resolve(place, steps[m[1]])
-                return ".".join([m[1]] + to[1:]) if kind == "path" and to[0] == step[0] else ".".join([root] + to)
+                return ".".join([m[1]] + to[len(step):]) if to[:len(step)] == step else ".".join([root] + to)
             if m[1] not in aliases:
                 return m[0]
             segs = [s for s in (m[2] or "").split(".") if s]

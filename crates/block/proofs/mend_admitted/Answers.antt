@@ -16,7 +16,7 @@ pub returns-then-m-eq0 : goal.returns-then-m-eq0
 returns-then-m-eq0 c = let e : c.args.m ≡ 0 = c.if-m-eq0.true in
     let T = c.peel_given-none.ensures.word_after in
     let E = c.finish.ensures in
-    rw e record { result_value = E.0 ∙ ap (λ (o : Outcome). o.reply) T; word_after = E.1 ∙ ap (λ (o : Outcome). o.after) T }
+    rw e record { result_value = E.result_value ∙ ap (λ (o : Outcome). o.reply) T; word_after = E.word_after ∙ ap (λ (o : Outcome). o.after) T }
 
 pub finish-requires-2 : goal.finish-requires-2
 finish-requires-2 c = (c.requires.0, ready c.peel_given-peelings.result c.args.n c.args.word.now _ c.requires.1 c.requires.2 c.peel_given-peelings.ensures.kept)
@@ -24,4 +24,4 @@ finish-requires-2 c = (c.requires.0, ready c.peel_given-peelings.result c.args.n
 pub returns : goal.returns
 returns c = let T = c.peel_given-peelings.ensures.word_after in
     let E = c.finish-2.ensures in
-    record { result_value = E.0 ∙ ap (λ (o : Outcome). o.reply) T; word_after = E.1 ∙ ap (λ (o : Outcome). o.after) T }
+    record { result_value = E.result_value ∙ ap (λ (o : Outcome). o.reply) T; word_after = E.word_after ∙ ap (λ (o : Outcome). o.after) T }

@@ -36,4 +36,4 @@ returns-in-Accepted c = let ws = c.args.words.now in
     let (A, W) = rw z at (taken ws c.args.n c.args.m c.args.k w 2 (sym (ap accepting_reply c.in-Accepted.is) ∙ c.admit.ensures)) in
     let E = c.mend_admitted.ensures in
     let f = block_given ws c.args.n c.args.m w record { accepted = A; word = W } in
-    rw z record { result_value = E.0 ∙ sym (ap (λ (o : Outcome). o.reply) f); word_after = E.1 ∙ sym (ap (λ (o : Outcome). o.after) f) }
+    rw z record { result_value = E.result_value ∙ sym (ap (λ (o : Outcome). o.reply) f); word_after = E.word_after ∙ sym (ap (λ (o : Outcome). o.after) f) }

@@ -21,8 +21,8 @@ overflow_add-both c = let ws = c.args.words.now in
     let w = c.args.word.now in
     let P = c.peel_extended.ensures in
     let front = front_word c.args.n w c.args.longer.now c.requires.1 c.requires.3 in
-    let q = sym (ap no_room c.in-Made.is) ∙ P.0 in
-    let e = sym (ap copy_peeling_reply c.in-Made.is) ∙ P.1.0 ∙ ap (copy_reply ws c.args.n c.args.m) front in
+    let q = sym (ap no_room c.in-Made.is) ∙ P.result_value in
+    let e = sym (ap copy_peeling_reply c.in-Made.is) ∙ P.result_value_2 ∙ ap (copy_reply ws c.args.n c.args.m) front in
     omega (arith, c.requires.4, ((accepts ws c.args.n c.args.m 0).0 c.requires.0).sound.n120, more_small ws c.args.n c.args.m w q _ _ c.args.recovered e)
 
 pub returns-then-left-ne0 : goal.returns-then-left-ne0
@@ -30,8 +30,8 @@ returns-then-left-ne0 c = let ws = c.args.words.now in
     let w = c.args.word.now in
     let P = c.peel_extended.ensures in
     let front = front_word c.args.n w c.args.longer.now c.requires.1 c.requires.3 in
-    let q = sym (ap no_room c.in-Made.is) ∙ P.0 in
-    let e = sym (ap copy_peeling_reply c.in-Made.is) ∙ P.1.0 ∙ ap (copy_reply ws c.args.n c.args.m) front in
+    let q = sym (ap no_room c.in-Made.is) ∙ P.result_value in
+    let e = sym (ap copy_peeling_reply c.in-Made.is) ∙ P.result_value_2 ∙ ap (copy_reply ws c.args.n c.args.m) front in
     let f = bits_remain_lem ws c.args.n c.args.m w q _ _ c.args.recovered e c.if-left-ne0.true in
     record { word_after = sym f; kept = refl }
 
@@ -65,8 +65,8 @@ returns-in-Refused c = let ws = c.args.words.now in
     let w = c.args.word.now in
     let P = c.peel_extended.ensures in
     let front = front_word c.args.n w c.args.longer.now c.requires.1 c.requires.3 in
-    let q = sym (ap no_room c.in-Refused.is) ∙ P.0 in
-    let e = sym (ap copy_peeling_reply c.in-Refused.is) ∙ P.1.0 ∙ ap (copy_reply ws c.args.n c.args.m) front in
+    let q = sym (ap no_room c.in-Refused.is) ∙ P.result_value in
+    let e = sym (ap copy_peeling_reply c.in-Refused.is) ∙ P.result_value_2 ∙ ap (copy_reply ws c.args.n c.args.m) front in
     let f = copy_refused ws c.args.n c.args.m w q c.in-Refused.r c.args.recovered e in
     record { word_after = sym f; kept = tt }
 
@@ -75,10 +75,10 @@ returns-else-left-ne0 c = let ws = c.args.words.now in
     let w = c.args.word.now in
     let P = c.peel_extended.ensures in
     let front = front_word c.args.n w c.args.longer.now c.requires.1 c.requires.3 in
-    let q = sym (ap no_room c.in-Made.is) ∙ P.0 in
-    let e = sym (ap copy_peeling_reply c.in-Made.is) ∙ P.1.0 ∙ ap (copy_reply ws c.args.n c.args.m) front in
+    let q = sym (ap no_room c.in-Made.is) ∙ P.result_value in
+    let e = sym (ap copy_peeling_reply c.in-Made.is) ∙ P.result_value_2 ∙ ap (copy_reply ws c.args.n c.args.m) front in
     let K = c.peel_extended.auto.longer in
     let room : c.args.n ≤ length c.peel_extended.new.longer = omega (arith, ap length c.requires.3 ∙ longer_size c.args.n w c.requires.1 (512 - c.args.n)) in
     let f = none_remains ws c.args.n c.args.m w q _ _ c.args.recovered e c.if-left-ne0.false in
     let whole = replaced _ w _ (length-take-le c.args.n c.peel_extended.new.longer room ∙ sym c.requires.1) c.copy_front.ensures in
-    record { word_after = ap (mended 2 _) (whole ∙ P.1.1 ∙ ap (copy_word ws c.args.n c.args.m) front ∙ told_word ws c.args.n c.args.m w q) ∙ sym f; kept = tt }
+    record { word_after = ap (mended 2 _) (whole ∙ P.longer_after ∙ ap (copy_word ws c.args.n c.args.m) front ∙ told_word ws c.args.n c.args.m w q) ∙ sym f; kept = tt }

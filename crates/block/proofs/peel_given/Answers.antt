@@ -90,7 +90,7 @@ peel_copy-requires c = let s = from (done v) in
 pub returns-then-l-ne0 : goal.returns-then-l-ne0
 returns-then-l-ne0 c = let a = (from (done v)).args in
     let E = c.peel_copy.ensures in
-    record { word_after = E.0 ∙ sym (sent_remain_lem a.words.now a.n a.m a.word.now _ _ _ _ (told v) c.if-l-ne0.true); kept = E.1 }
+    record { word_after = E.word_after ∙ sym (sent_remain_lem a.words.now a.n a.m a.word.now _ _ _ _ (told v) c.if-l-ne0.true); kept = E.kept }
 
 pub slice_bounds-first-end-in-Made : goal.slice_bounds-first-end-in-Made
 slice_bounds-first-end-in-Made c = let p = done c.before.before.before.before in

@@ -5,4 +5,4 @@ use Rattle.capi.proofs.parity_mend_packets.Goals as goal
 
 pub returns : goal.returns
 returns c = let m = c.mend_packets-mending.ensures in
-    (same (c.mending_packets-numbered.ensures ∙ m.0) c.pass.ensures, m.1)
+    (same (c.mending_packets-numbered.ensures ∙ m.result_value) c.pass.ensures, m.1)

@@ -5,4 +5,4 @@ use Rattle.capi.proofs.parity_min_sum.Goals as goal
 
 pub returns : goal.returns
 returns c = let e = c.min_sum-decoding.ensures in
-    (same (c.decoding-numbered.ensures ∙ e.0) c.pass.ensures, e.1)
+    (same (c.decoding-numbered.ensures ∙ e.result_value) c.pass.ensures, e.1)

@@ -13,8 +13,8 @@ slice_bounds-peel-end-2 c = sym (length-take-le (c.args.n + c.args.k) c.args.byt
 
 pub returns-in-Refused : goal.returns-in-Refused
 returns-in-Refused c = let E = c.peel.ensures in
-    record { value = told_refused c.in-Refused.field-0 _ (sym (ap peeling_reply c.in-Refused.is) ∙ E.0); bytes_after = ap (λ (l : List ℕ). l ++ drop (c.args.n + c.args.k) c.args.bytes.now) E.1 }
+    record { value = told_refused c.in-Refused.field-0 _ (sym (ap peeling_reply c.in-Refused.is) ∙ E.result_value); bytes_after = ap (λ (l : List ℕ). l ++ drop (c.args.n + c.args.k) c.args.bytes.now) E.word_after }
 
 pub returns-in-Made : goal.returns-in-Made
 returns-in-Made c = let E = c.peel.ensures in
-    record { value = told_made _ _ (sym (ap peeling_reply c.in-Made.is) ∙ E.0); bytes_after = ap (λ (l : List ℕ). l ++ drop (c.args.n + c.args.k) c.args.bytes.now) E.1 }
+    record { value = told_made _ _ (sym (ap peeling_reply c.in-Made.is) ∙ E.result_value); bytes_after = ap (λ (l : List ℕ). l ++ drop (c.args.n + c.args.k) c.args.bytes.now) E.word_after }

@@ -22,4 +22,4 @@ returns-in-Refused c = encode_first c.args.words.now c.args.n c.args.m c.args.k 
 pub returns-else-word-n : goal.returns-else-word-n
 returns-else-word-n c = let e = encode_given c.args.words.now c.args.n c.args.m c.args.k c.args.message.now c.args.word.now (accepted_words c.args.words.now c.args.n c.args.m c.args.k (ap accepting_reply (sym c.in-Accepted.is) ∙ c.accept-accepted.ensures)) c.if-k-ne0.false c.if-word-n.false in
     let G = c.encode_given.ensures in
-    record { result_value = G.0 ∙ ap (λ o. o.reply) e; word_after = G.1 ∙ ap (λ o. o.after) e }
+    record { result_value = G.result_value ∙ ap (λ o. o.reply) e; word_after = G.word_after ∙ ap (λ o. o.after) e }

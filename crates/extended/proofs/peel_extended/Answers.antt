@@ -21,8 +21,8 @@ peel_front-requires c = let ws = c.args.words.now in
     let O = c.orthogonalise_accepted.ensures in
     let C = c.copied-own.ensures in
     let same = ap (λ (l : List ℕ). orthogonalise_outcome l c.args.n c.args.m 0) C in
-    let e = sym (ap orthogonalising_reply c.in-Finished.is) ∙ O.0 ∙ ap (λ (o : Outcome). o.reply) same in
-    let own = O.1 ∙ ap (λ (o : Outcome). o.after) same in
+    let e = sym (ap orthogonalising_reply c.in-Finished.is) ∙ O.result_value ∙ ap (λ (o : Outcome). o.reply) same in
+    let own = O.words_after ∙ ap (λ (o : Outcome). o.after) same in
     let room = copy_room ws c.args.n c.args.m c.requires.0 _ _ _ _ e in (
       rw own (copy_accepted ws c.args.n c.args.m c.requires.0 _ _ _ _ e),
       front_room c.args.n c.args.longer.now c.requires.1 _ room,
@@ -34,7 +34,7 @@ returns-in-Refused c = let ws = c.args.words.now in
     let O = c.orthogonalise_accepted.ensures in
     let C = c.copied-own.ensures in
     let same = ap (λ (l : List ℕ). orthogonalise_outcome l c.args.n c.args.m 0) C in
-    let e = sym (ap orthogonalising_reply c.in-Refused.is) ∙ O.0 ∙ ap (λ (o : Outcome). o.reply) same in
+    let e = sym (ap orthogonalising_reply c.in-Refused.is) ∙ O.result_value ∙ ap (λ (o : Outcome). o.reply) same in
     let (z, f, g) = refused_copy ws c.args.n c.args.m c.requires.0 c.in-Refused.field-0 e (take c.args.n c.args.longer.now) in
     record { result_value = z; result_value_2 = f; longer_after = g }
 
@@ -43,8 +43,8 @@ returns-in-Finished c = let ws = c.args.words.now in
     let O = c.orthogonalise_accepted.ensures in
     let C = c.copied-own.ensures in
     let same = ap (λ (l : List ℕ). orthogonalise_outcome l c.args.n c.args.m 0) C in
-    let e = sym (ap orthogonalising_reply c.in-Finished.is) ∙ O.0 ∙ ap (λ (o : Outcome). o.reply) same in
-    let own = O.1 ∙ ap (λ (o : Outcome). o.after) same in
+    let e = sym (ap orthogonalising_reply c.in-Finished.is) ∙ O.result_value ∙ ap (λ (o : Outcome). o.reply) same in
+    let own = O.words_after ∙ ap (λ (o : Outcome). o.after) same in
     let F = c.peel_front.ensures in
-    let (z, f, g) = peeled_copy ws c.args.n c.args.m c.requires.0 _ _ _ _ e _ c.args.longer.now _ _ own c.requires.1 F.1.0 F.1.1 in
-    record { result_value = F.0 ∙ z; result_value_2 = f; longer_after = g }
+    let (z, f, g) = peeled_copy ws c.args.n c.args.m c.requires.0 _ _ _ _ e _ c.args.longer.now _ _ own c.requires.1 F.result_value_2 F.longer_after in
+    record { result_value = F.result_value ∙ z; result_value_2 = f; longer_after = g }

@@ -28,8 +28,8 @@ overflow_add-result-in-Made c = let A = (accepts c.args.words.now c.args.n c.arg
 
 pub returns-in-Refused : goal.returns-in-Refused
 returns-in-Refused c = let E = c.peel_admitted.ensures in
-    record { result_value = refl; result_value_2 = refused_in_all c.in-Refused.r _ (sym (ap peeling_reply c.in-Refused.is) ∙ E.0); longer_after = ap (λ (l : List ℕ). l ++ drop (c.args.n + c.args.k) c.args.longer.now) E.1 }
+    record { result_value = refl; result_value_2 = refused_in_all c.in-Refused.r _ (sym (ap peeling_reply c.in-Refused.is) ∙ E.result_value); longer_after = ap (λ (l : List ℕ). l ++ drop (c.args.n + c.args.k) c.args.longer.now) E.word_after }
 
 pub returns-in-Made : goal.returns-in-Made
 returns-in-Made c = let E = c.peel_admitted.ensures in
-    record { result_value = refl; result_value_2 = made_in_all _ _ _ _ _ (sym (ap peeling_reply c.in-Made.is) ∙ E.0); longer_after = ap (λ (l : List ℕ). l ++ drop (c.args.n + c.args.k) c.args.longer.now) E.1 }
+    record { result_value = refl; result_value_2 = made_in_all _ _ _ _ _ (sym (ap peeling_reply c.in-Made.is) ∙ E.result_value); longer_after = ap (λ (l : List ℕ). l ++ drop (c.args.n + c.args.k) c.args.longer.now) E.word_after }

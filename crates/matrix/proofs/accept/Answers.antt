@@ -1,8 +1,6 @@
 -- `accept` meets its contract: each return has the cause that the tests before it decide. Assumes nothing.
-use mathlib.Core.Bool.{not}
-use mathlib.Core.Path.{sym, ◌∙◌, ap}
+use mathlib.Core.Path.{sym, ◌∙◌}
 use native.Mathlib.Omega.{arith}
-use borrow.Author.Tests.{not-false}
 use Rattle.parity.proofs.Matrix.Accept.{ranges, cause_0, cause_1, cause_2, cause_3, cause_4, accept_refuses, accept_answers}
 use Rattle.matrix.proofs.accept.Goals as goal
 

@@ -1,9 +1,7 @@
 -- `peel_word` meets its contract. Assumes nothing.
-use mathlib.Core.Bool.{not}
 use mathlib.Core.Path.{sym, ap, ◌∙◌}
 use Prim.Native.Nat.{◌*◌}
 use native.Mathlib.Omega.{arith}
-use borrow.Author.Tests.{not-false}
 use Rattle.parity.specs.Matrix.{lent}
 use Rattle.parity.specs.Causes.{answer, Outcome}
 use Rattle.sets.proofs.Short.{set_short}

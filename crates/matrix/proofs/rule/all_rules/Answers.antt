@@ -1,10 +1,8 @@
 -- `rule::all_rules` meets its contract. Assumes nothing.
-use mathlib.Core.Bool.{not}
-use mathlib.Core.Path.{◌≡◌, refl, sym, ◌∙◌, ap}
+use mathlib.Core.Path.{◌≡◌, refl, sym, ◌∙◌}
 use Prim.Native.Nat.{◌-◌}
 use native.Mathlib.Omega.{arith}
 use borrow.Author.Rules.{rules}
-use borrow.Author.Tests.{not-false}
 use Rattle.parity.specs.Matrix.{lent, rule_a}
 use Rattle.parity.proofs.Finite.Sums.{all_false}
 use Rattle.matrix.proofs.Passing.{passed_rule}
@@ -16,7 +14,7 @@ loop-j-init c = (omega arith, refl, search rules)
 pub rule_at-requires : goal.rule_at-requires
 rule_at-requires c = let l = c.loop-j in
     let p = c.requires in
-    record { words_len = (p.0.0, p.0.1, l.invariant.1 ∙ p.0.2, p.0.3, p.0.4, p.0.5, p.0.6, omega arith); words_value = (p.1.0, p.1.1, l.invariant.2) }
+    record { words_len = (p.words_len.0, p.words_len.1, l.invariant.1 ∙ p.words_len.2, p.words_len.3, p.words_len.4, p.words_len.5, p.words_len.6, omega arith); words_value = (p.words_value.0, p.words_value.1, l.invariant.2) }
 
 pub returns-then-not-rule_at : goal.returns-then-not-rule_at
 unfolding rule_a

@@ -17,7 +17,7 @@ keep-requires c = let F = c.fill_all-w.ensures.holds in record { tags = F.tags; 
 pub loop-r-init : goal.loop-r-init
 loop-r-init c = let F = c.fill_all-w.ensures in
     let K = c.keep.ensures in
-    (F.0, omega arith, c.requires.2, holds_kept _ _ _ _ _ _ F.0 F.1 _ _ K, twice_kept _ _ _ _ _ K)
+    (F.value, omega arith, c.requires.2, holds_kept _ _ _ _ _ _ F.value F.holds _ _ K, twice_kept _ _ _ _ _ K)
 
 pub one_round-requires : goal.one_round-requires
 one_round-requires c = let l = c.loop-r in
@@ -47,8 +47,8 @@ returns-then-renew c = let R = c.one_round.ensures in
     let h = lent 8 c.args.words.now in
     let H = round_more h _ c.args.checks Q.inner.below _ l.r _ _ l.invariant.3 _ _ R in
     let S = round_stands h c.args.checks _ l.r c.args.last _ _ _ _ _ Q.within Q.within.most l.invariant.0 l.invariant.1 l.invariant.3 l.invariant.4 R.above H
-    (N.0.room t) (N.0.twice t) in
-    holds_kept h c.args.checks _ _ _ _ l.invariant.0 S _ _ N.1
+    (N.standing.room t) (N.standing.twice t) in
+    holds_kept h c.args.checks _ _ _ _ l.invariant.0 S _ _ N.kept
 
 pub overflow_step-r : goal.overflow_step-r
 overflow_step-r c = omega (arith, c.loop-r-test.true, c.ranges.last)

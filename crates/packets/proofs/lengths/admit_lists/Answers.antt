@@ -1,9 +1,8 @@
 -- `lengths::admit_lists` meets its contract. Assumes nothing.
-use mathlib.Core.Bool.{not}
-use mathlib.Core.Path.{sym, ◌∙◌, ap}
+use mathlib.Core.Path.{sym, ◌∙◌}
 use Prim.Native.Nat.{◌^◌}
 use lib.ListN.{length}
-use borrow.Author.Tests.{eq-eqb, ne_eqb, lt-ltb, le-ltb, not-false}
+use borrow.Author.Tests.{eq-eqb, ne_eqb, lt-ltb, le-ltb}
 use Rattle.parity.specs.Packets.{wrong_lengths}
 use Rattle.sets.proofs.Above.{byte_wrong, byte_right}
 use Rattle.packets.specs.Answers.{lists_reply}

@@ -40,8 +40,8 @@ loop-b-preserved c = let l = c.loop-b in
     let P = c.put.ensures in
     let m = c.message-v.ensures ∙ l.invariant.3.rest l.b (omega arith) k in
     let e = result_at h 512 c.args.checks l.b (message_at c.args.word.now c.args.floats.now) _ _ _ _ l.invariant.2 c.requires.laid_across.0.room c.requires.laid_across.1.most
-    (omega (arith, k, c.requires.inner.0.most)) _ _ R.0 m in
-    (omega (arith, k), R.1.0, low_more _ _ _ _ l.invariant.2 _ _ R.1.1, rw (P.0, P.1, e) (partly_more _ _ _ _ _ _ l.invariant.3 k))
+    (omega (arith, k, c.requires.inner.0.most)) _ _ R.value m in
+    (omega (arith, k), R.cursors, low_more _ _ _ _ l.invariant.2 _ _ R.low, rw (P.tags_after, P.values_after, e) (partly_more _ _ _ _ _ _ l.invariant.3 k))
 
 pub shape_of-word : goal.shape_of-word
 shape_of-word c = c.loop-b.invariant.3.tags

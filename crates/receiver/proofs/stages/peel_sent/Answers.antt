@@ -17,8 +17,8 @@ pub put_refused-requires : goal.put_refused-requires
 unfolding refused_line decimal digits_of
 put_refused-requires c = let a = c.args in
     let q = c.requires in
-    let e = peel_short a.words.now a.n a.m a.k a.splits a.sum a.sent.now q.1 c.if-sent-n.true in
-    omega (arith, ap length e, q.0)
+    let e = peel_short a.words.now a.n a.m a.k a.splits a.sum a.sent.now q.k_value c.if-sent-n.true in
+    omega (arith, ap length e, q.k_in_bounds)
 
 pub returns-then-sent-n : goal.returns-then-sent-n
 returns-then-sent-n c = let a = c.args in

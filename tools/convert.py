@@ -136,7 +136,7 @@ class Fn:
         for m in let.finditer(text):
             if m[2] in aliases and m[1] not in aliases:
                 segs = [s for s in m[3].split(".") if s and s != "before"]
-                if len(segs) == 1 and norm(segs[0]) != "args" or len(segs) == 2 and segs[1] == "ensures":
+                if len(segs) == 1 and norm(segs[0]) != "args" or len(segs) == 2 and segs[1] in ("ensures", "given"):
                     steps[m[1]] = segs
 
         def sub(m):
@@ -272,7 +272,14 @@ def as_record(fn, body, fields, known):
     m = re.search(r"(?<![\w.'-])(c(?:\.[\w'-]+)*\.ensures)$", body)
     if m:
         return body[:m.start()] + "record { " + "; ".join(f"{f} = {m[1]}.{f}" for f in fields) + " }"
-    fn.say(f"asked {fields}: the answer is no tuple")
+    m = re.match(r"(.*\bin\s+)?(.*)$", body, re.S)
+    last = (m[2] or "").strip()
+    if re.match(r"[a-z][\w'-]* ", last) and not re.match(r"(rw|elim|simp|let|unfold|cc|search) ", last):
+        value = ["both.0", "both.1"] if len(fields) == 2 else [f"all.{k}" for k in range(len(fields))]
+        name = "both" if len(fields) == 2 else "all"
+        fn.say(f"asked {fields}: by the parts of {last[:60]}")
+        return (m[1] or "") + f"let {name} = {last} in record {{ " + "; ".join(f"{f} = {v}" for f, v in zip(fields, value)) + " }"
+    fn.say(f"asked {fields}: the answer is no tuple: {last[:80]}")
     return body
 
 

@@ -22,7 +22,7 @@ returns-in-Refused c = let N = c.args.n + c.args.k in
     let M = c.args.m + c.args.k in
     let h = lent 8 c.args.words.now in
     let w = byte_of c.args.word.now in
-    outcome_refused c.args.n c.args.k c.args.word.now (some_agrees h N M w) (determined h N M w) c.args.words.now c.args.m c.in-Refused.r (ap accepting_reply (sym c.in-Refused.is) ∙ c.admit-admission.ensures)
+    let both = outcome_refused c.args.n c.args.k c.args.word.now (some_agrees h N M w) (determined h N M w) c.args.words.now c.args.m c.in-Refused.r (ap accepting_reply (sym c.in-Refused.is) ∙ c.admit-admission.ensures) in record { result_value = both.0; word_after = both.1 }
 
 pub returns-in-Accepted : goal.returns-in-Accepted
 returns-in-Accepted c = record { result_value = c.determine_admitted.ensures.result_value; word_after = c.determine_admitted.ensures.word_after }

@@ -11,4 +11,4 @@ returns-in-Accepted c = let s = c.args in
 pub returns-in-Refused : goal.returns-in-Refused
 returns-in-Refused c = let s = c.args in
     let a = c.accepting-1.given in
-    c.number.ensures ∙ refused_first s.words.now s.n s.m s.k a.0.0 (sym (ap accepting_reply a.1) ∙ c.accept-accepting.ensures)
+    c.number.ensures ∙ refused_first s.words.now s.n s.m s.k c.in-Refused.why (sym (ap accepting_reply c.in-Refused.is) ∙ c.accept-accepting.ensures)

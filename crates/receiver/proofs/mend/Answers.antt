@@ -12,7 +12,7 @@ use Rattle.receiver.proofs.mend.Goals as goal
 pub returns-then-output-needed : goal.returns-then-output-needed
 returns-then-output-needed c = let a = c.args in
     let f = c.put_text-needed in
-    no_room (mendText a.input.now) a.output.now f.result (omega (arith, f.ensures.next)) (search rules)
+    let both = no_room (mendText a.input.now) a.output.now f.result (omega (arith, f.ensures.next)) (search rules) in record { value = both.0; output_after = both.1 }
 
 pub slice_bounds-text-end : goal.slice_bounds-text-end
 slice_bounds-text-end c = let f = c.put_text-needed in

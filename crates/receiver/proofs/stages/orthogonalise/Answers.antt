@@ -15,30 +15,30 @@ pub put_refused-requires : goal.put_refused-requires
 put_refused-requires c = let a = c.args in
     let p = c.orthogonalise_accepted in
     let g = c.r-1.given in
-    let e = sym (ap orthogonalising_reply g.1) ∙ p.ensures.result_value in
-    rw (orthogonalise_refused a.words.now a.n a.m a.j a.sent.now g.0.0 e) c.requires.sent_in_bounds
+    let e = sym (ap orthogonalising_reply c.in-Refused.is) ∙ p.ensures.result_value in
+    rw (orthogonalise_refused a.words.now a.n a.m a.j a.sent.now c.in-Refused.r e) c.requires.sent_in_bounds
 
 pub peel_sent-requires : goal.peel_sent-requires
 peel_sent-requires c = let a = c.args in
     let p = c.orthogonalise_accepted in
     let g = c.splits-1.given in
-    let e = sym (ap orthogonalising_reply g.1) ∙ p.ensures.result_value in
-    let t = orthogonalise_passes a.words.now a.n a.m a.j g.0.0 g.0.1.0 g.0.1.1.0 (held_values g.0.1.1.1.0) e a.sent.now in record { k_in_bounds = rw p.ensures.words_after (omega (arith, ap length t, c.requires.sent_in_bounds)); k_value = rw p.ensures.words_after (orthogonalise_accepted a.words.now a.n a.m a.j g.0.0 g.0.1.0 g.0.1.1.0 (held_values g.0.1.1.1.0) e) }
+    let e = sym (ap orthogonalising_reply c.in-Finished.is) ∙ p.ensures.result_value in
+    let t = orthogonalise_passes a.words.now a.n a.m a.j c.in-Finished.splits c.in-Finished.sum c.in-Finished.k (held_values c.in-Finished.held) e a.sent.now in record { k_in_bounds = rw p.ensures.words_after (omega (arith, ap length t, c.requires.sent_in_bounds)); k_value = rw p.ensures.words_after (orthogonalise_accepted a.words.now a.n a.m a.j c.in-Finished.splits c.in-Finished.sum c.in-Finished.k (held_values c.in-Finished.held) e) }
 
 pub returns-in-Refused : goal.returns-in-Refused
 returns-in-Refused c = let a = c.args in
     let p = c.orthogonalise_accepted in
     let g = c.r-1.given in
-    let e = sym (ap orthogonalising_reply g.1) ∙ p.ensures.result_value in
+    let e = sym (ap orthogonalising_reply c.in-Refused.is) ∙ p.ensures.result_value in
     same_text
-    (orthogonalise_refused a.words.now a.n a.m a.j a.sent.now g.0.0 e)
+    (orthogonalise_refused a.words.now a.n a.m a.j a.sent.now c.in-Refused.r e)
     c.put_refused.ensures
 
 pub returns-in-Finished : goal.returns-in-Finished
 returns-in-Finished c = let a = c.args in
     let p = c.orthogonalise_accepted in
     let g = c.splits-1.given in
-    let e = sym (ap orthogonalising_reply g.1) ∙ p.ensures.result_value in
+    let e = sym (ap orthogonalising_reply c.in-Finished.is) ∙ p.ensures.result_value in
     same_text
-    (rw p.ensures.words_after (orthogonalise_passes a.words.now a.n a.m a.j g.0.0 g.0.1.0 g.0.1.1.0 (held_values g.0.1.1.1.0) e a.sent.now))
+    (rw p.ensures.words_after (orthogonalise_passes a.words.now a.n a.m a.j c.in-Finished.splits c.in-Finished.sum c.in-Finished.k (held_values c.in-Finished.held) e a.sent.now))
     c.peel_sent.ensures

@@ -5,7 +5,7 @@ usage: tools/respell.py [FOLDER]      FOLDER: the checkout's top (default: the o
 
 tools/names.tsv has a line for each name: the old one, the new one, and a path (or its beginning) below crates/ where it holds,
 empty for everywhere. Changed are the files of specs/ and proofs/, clauses and comments of src/ (no strings), and what stands in
-backticks in README.md and docs/ (docs/LANDINGS.md, a record of earlier states, stays). Running it again changes nothing.
+backticks in README.md and docs/ (docs/LANDINGS.md, a record of earlier states, stays). It runs once: a few new names are old ones too.
 """
 import os
 import re

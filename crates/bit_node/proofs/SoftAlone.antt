@@ -11,7 +11,7 @@ use Rattle.parity.specs.Soft.{byte_for, float_for, message_at, with_next}
 use Rattle.parity.specs.declared.Channel.TheVariants.{Soft}
 use Rattle.parity.proofs.Soft.Cong.{gathered_cong}
 use Rattle.soft.specs.Store.{Holding}
-use Rattle.bit_node.specs.Sums.{part_sum, AddedTo, softAt, SoftSums}
+use Rattle.bit_node.specs.Sums.{part_sum, AddedTo, soft_at, SoftSums}
 use Rattle.bit_node.proofs.Adding.{sum_none, sum_other, sum_at, sum_next}
 
 -- ---- adding
@@ -31,39 +31,39 @@ module _ (xs : List Float) (x : Float) where
 
 -- ---- the sums
 module _ (c : Float) (xs : List Float) where
-  pub alone-none : SoftSums c xs 0 xs c
-  alone-none = record { size = refl; sum = sym (sum_none (Soft c) (softAt xs) 0); new = λ t k. absurd (omega arith); old = λ t k. refl }
+  pub alone_none : SoftSums c xs 0 xs c
+  alone_none = record { size = refl; sum = sym (sum_none (Soft c) (soft_at xs) 0); new = λ t k. absurd (omega arith); old = λ t k. refl }
 
-  pub alone-more : (j : ℕ) (ys : List Float) (all : Float) → SoftSums c xs j ys all → j < length xs → (zs : List Float) → AddedTo ys (get_or ys j nan) j zs
+  pub alone_more : (j : ℕ) (ys : List Float) (all : Float) → SoftSums c xs j ys all → j < length xs → (zs : List Float) → AddedTo ys (get_or ys j nan) j zs
       → SoftSums c xs (j + 1) (set zs j all) (add binary32 all (get_or ys j nan))
-  alone-more j ys all S k zs A =
+  alone_more j ys all S k zs A =
       let e : get_or ys j nan ≡ get_or xs j nan = S.old j (omega arith) in
       let kz : j < length zs = omega (arith, A.size, S.size) in
       record {
         size = length-set zs j all ∙ A.size ∙ S.size;
-        sum = sum_next (Soft c) (softAt xs) (Soft all) (Soft (get_or ys j nan)) j S.sum (ap Soft e);
+        sum = sum_next (Soft c) (soft_at xs) (Soft all) (Soft (get_or ys j nan)) j S.sum (ap Soft e);
         new = λ t l. elim (ℕ_discrete t j) [
-          | yes q ↦ rw q (ap Soft (get_or-set_same zs j all nan kz) ∙ S.sum ∙ sym (sum_at (Soft c) (softAt xs) j))
+          | yes q ↦ rw q (ap Soft (get_or-set_same zs j all nan kz) ∙ S.sum ∙ sym (sum_at (Soft c) (soft_at xs) j))
           | no q ↦
               ap Soft (get_or-set_other zs j t all nan q ∙ A.new t (omega arith))
               ∙ ap (λ v. with_next v (Soft (get_or ys j nan))) (S.new t (omega arith))
-              ∙ ap (λ a. with_next (part_sum (Soft c) (softAt xs) j t) (Soft a)) e
-              ∙ sym (sum_other (Soft c) (softAt xs) j t (λ z. omega arith))
+              ∙ ap (λ a. with_next (part_sum (Soft c) (soft_at xs) j t) (Soft a)) e
+              ∙ sym (sum_other (Soft c) (soft_at xs) j t (λ z. omega arith))
         ];
         old = λ t l. get_or-set_other zs j t all nan (λ q. omega arith) ∙ A.old t (omega arith) ∙ S.old t (omega arith);
       }
 
 -- ---- as values in bytes and floats
 module _ (ts : List ℕ) (xs : List Float) (c : Float) (soft : (t : ℕ) → t < length ts → get_or ts t 0 ≡ 3) (same : length ts ≡ length xs) where
-  same_sum : (t : ℕ) → part_sum (Soft c) (softAt xs) (length ts) t ≡ part_sum (Soft c) (message_at ts xs) (length ts) t
+  same_sum : (t : ℕ) → part_sum (Soft c) (soft_at xs) (length ts) t ≡ part_sum (Soft c) (message_at ts xs) (length ts) t
   unfolding part_sum message_at
-  same_sum t = gathered_cong (Soft c) (length ts) _ _ (softAt xs) (message_at ts xs) (λ i k. refl) (λ i k. rw (soft i k))
+  same_sum t = gathered_cong (Soft c) (length ts) _ _ (soft_at xs) (message_at ts xs) (λ i k. refl) (λ i k. rw (soft i k))
 
-  pub alone-all : (ys : List Float) (all : Float) → SoftSums c xs (length xs) ys all → Soft all ≡ part_sum (Soft c) (message_at ts xs) (length ts) (length ts)
-  alone-all ys all S = (rw (← same) at S.sum) ∙ same_sum (length ts)
+  pub alone_all : (ys : List Float) (all : Float) → SoftSums c xs (length xs) ys all → Soft all ≡ part_sum (Soft c) (message_at ts xs) (length ts) (length ts)
+  alone_all ys all S = (rw (← same) at S.sum) ∙ same_sum (length ts)
 
-  pub alone-holding : (ys : List Float) (all : Float) → SoftSums c xs (length xs) ys all → Holding (length ts) (part_sum (Soft c) (message_at ts xs) (length ts)) ts ys
-  alone-holding ys all S =
+  pub alone_holding : (ys : List Float) (all : Float) → SoftSums c xs (length xs) ys all → Holding (length ts) (part_sum (Soft c) (message_at ts xs) (length ts)) ts ys
+  alone_holding ys all S =
       let at : (t : ℕ) → t < length ts → Soft (get_or ys t nan) ≡ part_sum (Soft c) (message_at ts xs) (length ts) t = λ t k. (rw (← same) at (S.new t (omega arith))) ∙ same_sum t in
       record {
         tags = refl;

@@ -30,15 +30,15 @@ pub record AddedTo (xs : List Float) (x : Float) (j : ℕ) (ys : List Float) : T
   pub old : (t : ℕ) → j ≤ t → get_or ys t nan ≡ get_or xs t nan
 
 -- soft values, by their floats
-abbrev pub softAt : List Float → ℕ → Channel
-softAt xs t = Soft (get_or xs t nan)
+abbrev pub soft_at : List Float → ℕ → Channel
+soft_at xs t = Soft (get_or xs t nan)
 
 -- Of soft values, the sums of the channel's float c and the first j others stand in the first j places, each but its own, and `all` is the sum of all j; the
 -- further places are as they were.
 pub record SoftSums (c : Float) (xs : List Float) (j : ℕ) (ys : List Float) (all : Float) : Type 0 where
   pub size : length ys ≡ length xs
-  pub sum : Soft all ≡ part_sum (Soft c) (softAt xs) j j
-  pub new : (t : ℕ) → t < j → Soft (get_or ys t nan) ≡ part_sum (Soft c) (softAt xs) j t
+  pub sum : Soft all ≡ part_sum (Soft c) (soft_at xs) j j
+  pub new : (t : ℕ) → t < j → Soft (get_or ys t nan) ≡ part_sum (Soft c) (soft_at xs) j t
   pub old : (t : ℕ) → j ≤ t → get_or ys t nan ≡ get_or xs t nan
 
 -- every place

@@ -3,11 +3,11 @@ use mathlib.Core.Path.{◌≡◌, refl}
 use Prim.Native.Nat.{◌-◌}
 use native.Mathlib.Omega.{arith}
 use lib.ListN.{length}
-use Rattle.bit_node.proofs.SoftAlone.{alone-none, alone-more}
+use Rattle.bit_node.proofs.SoftAlone.{alone_none, alone_more}
 use Rattle.bit_node.proofs.soft_sums.Goals as goal
 
 pub loop-j-init : goal.loop-j-init
-loop-j-init c = (refl, omega arith, alone-none _ _)
+loop-j-init c = (refl, omega arith, alone_none _ _)
 
 pub offset_bounds-floats-j : goal.offset_bounds-floats-j
 offset_bounds-floats-j c = let l = c.loop-j in omega (arith, l.invariant.2.size)
@@ -28,7 +28,7 @@ bounds-floats-j-in-loop-j c = let l = c.loop-j in
 
 pub loop-j-preserved : goal.loop-j-preserved
 loop-j-preserved c = let l = c.loop-j in
-    (l.invariant.0, omega arith, alone-more _ _ l.j _ _ l.invariant.2 (omega arith) _ c.add_to.ensures)
+    (l.invariant.0, omega arith, alone_more _ _ l.j _ _ l.invariant.2 (omega arith) _ c.add_to.ensures)
 
 pub shape_of-floats : goal.shape_of-floats
 shape_of-floats c = c.loop-j.invariant.2.size

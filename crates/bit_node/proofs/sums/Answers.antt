@@ -1,6 +1,6 @@
 -- `sums` meets its contract. Assumes nothing.
 use mathlib.Core.Path.{refl, ◌∙◌}
-use Rattle.bit_node.proofs.SoftAlone.{alone-all, alone-holding}
+use Rattle.bit_node.proofs.SoftAlone.{alone_all, alone_holding}
 use Rattle.bit_node.proofs.sums.Goals as goal
 
 pub shape_of-tags-then-soft : goal.shape_of-tags-then-soft
@@ -11,7 +11,7 @@ shape_of-values-then-soft c = c.soft_sums.ensures.size
 
 pub returns-then-soft : goal.returns-then-soft
 returns-then-soft c = let soft = c.all_soft-soft.ensures.at c.if-soft.true in
-    rw c.in-Soft.is record { value = alone-all c.args.tags.now c.args.values.now _ soft c.requires _ _ c.soft_sums.ensures; holding = alone-holding c.args.tags.now c.args.values.now _ soft c.requires _ _ c.soft_sums.ensures }
+    rw c.in-Soft.is record { value = alone_all c.args.tags.now c.args.values.now _ soft c.requires _ _ c.soft_sums.ensures; holding = alone_holding c.args.tags.now c.args.values.now _ soft c.requires _ _ c.soft_sums.ensures }
 
 pub shape_of-tags-else-soft : goal.shape_of-tags-else-soft
 shape_of-tags-else-soft c = c.mixed_sums.ensures.holding.tags

@@ -17,7 +17,10 @@ raise-requires c = (omega (arith, c.loop-c.invariant.1), omega arith)
 
 pub loop-c-preserved : goal.loop-c-preserved
 loop-c-preserved c = let t = c.touches in
-    (elim c.if-touches.branch [ then-touches w ↦ rw w.5 (omega arith, w.2.kept.0 ∙ c.loop-c.invariant.1, joined_next _ _ _ _ _ _ _ c.loop-c.invariant.2 (sym t.ensures ∙ w.if-touches.true) w.2.ensures) | else-touches w ↦ rw w.1 (omega arith, c.loop-c.invariant.1, joined_past _ _ _ _ _ _ c.loop-c.invariant.2 (sym t.ensures ∙ w.if-touches.false)) ])
+    elim c.if-touches.branch [
+      | then-touches w ↦ rw w.done-is (omega arith, w.raise.auto.rows ∙ c.loop-c.invariant.1, joined_next _ _ _ _ _ _ _ c.loop-c.invariant.2 (sym t.ensures ∙ w.if-touches.true) w.raise.ensures)
+      | else-touches w ↦ rw w.done-is (omega arith, c.loop-c.invariant.1, joined_past _ _ _ _ _ _ c.loop-c.invariant.2 (sym t.ensures ∙ w.if-touches.false))
+    ]
 
 pub returns : goal.returns
 returns c = let l = c.loop-c in

@@ -11,8 +11,7 @@ use Rattle.block.proofs.Stages.{word_refused}
 use Rattle.block.proofs.mend_block.Goals as goal
 
 pub returns-then-k-gt0 : goal.returns-then-k-gt0
-returns-then-k-gt0 c = let ws = c.args.words.now in
-    let w = c.args.word.now in
+returns-then-k-gt0 c = let w = c.args.word.now in
     let e = c.refuse_added.ensures.all w in
     record { result_value = sym (ap (λ (o : Outcome). o.reply) e); word_after = sym (ap (λ (o : Outcome). o.after) e) }
 

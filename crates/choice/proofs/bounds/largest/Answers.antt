@@ -11,9 +11,9 @@ loop-x-init c = (omega arith, largest_none _)
 
 pub loop-x-preserved : goal.loop-x-preserved
 loop-x-preserved c = let l = c.loop-x in (
-      omega arith,
-      (elim c.if-times-t.branch [ then-times-t w ↦ rw (w.1, w.2) (largest_taken _ _ _ _ l.invariant.1 _ refl w.if-times-t.true) | else-times-t w ↦ rw (w.1, w.2) (largest_kept _ _ _ _ l.invariant.1 w.if-times-t.false) ]),
-    )
+  omega arith,
+  (elim c.if-times-t.branch [ then-times-t w ↦ rw (w.low-is, w.times-is) (largest_taken _ _ _ _ l.invariant.1 _ refl w.if-times-t.true) | else-times-t w ↦ rw (w.low-is, w.times-is) (largest_kept _ _ _ _ l.invariant.1 w.if-times-t.false) ]),
+)
 
 pub returns : goal.returns
 returns c = let e : c.loop-x.x ≡ c.args.bits = omega arith in rw e at c.loop-x.invariant.1

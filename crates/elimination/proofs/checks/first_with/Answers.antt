@@ -19,11 +19,11 @@ returns-then-contains c = let inv = c.loop-c.invariant in
 
 pub loop-c-preserved : goal.loop-c-preserved
 loop-c-preserved c = let inv = c.loop-c.invariant in (
-      omega arith,
-      omega arith,
-      λ i k l. elim (ℕ_discrete i c.loop-c.c)
-          [ yes q ↦ rw q (sym c.contains.ensures ∙ c.if-contains.false) | no d ↦ inv.2 i k (omega arith) ],
-    )
+  omega arith,
+  omega arith,
+  λ i k l. elim (ℕ_discrete i c.loop-c.c)
+      [ yes q ↦ rw q (sym c.contains.ensures ∙ c.if-contains.false) | no d ↦ inv.2 i k (omega arith) ],
+)
 
 pub returns : goal.returns
 returns c = let inv = c.loop-c.invariant in

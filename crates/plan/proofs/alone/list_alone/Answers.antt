@@ -1,6 +1,5 @@
 -- `alone::list_alone` meets its contract. Assumes nothing.
 use mathlib.Core.Path.{◌≡◌, sym, ◌∙◌}
-use Prim.Native.Nat.{◌-◌}
 use native.Mathlib.Nat.{zero-mul}
 use Rattle.parity.proofs.Matrix.Lent.{row_room}
 use Rattle.plan.proofs.Aloning.{listed_none, listed_past, listed_noted}
@@ -34,12 +33,12 @@ loop-c-preserved c = let l = c.loop-c in
             listed_noted _ _ _ _ _ _ (omega arith) c.requires.low.1 _ _ _ _ _ _ _ _ l.invariant.4 _ m.ensures w.if-common-eq1.true n.ensures.left_after n.ensures.step_checks_after n.ensures.step_bits_after (omega (arith, l.invariant.2, l.invariant.4.few)) (omega (arith, l.invariant.3, l.invariant.4.few)),
           )
       | else-common-eq1 w ↦ rw (w.left-is, w.step_rows-is, w.step_bits-is, w.s-is) (
-          omega arith,
-          l.invariant.1,
-          l.invariant.2,
-          l.invariant.3,
-          listed_past _ _ _ _ _ _ (omega arith) c.requires.low.1 _ _ _ _ _ l.invariant.4 _ m.ensures w.if-common-eq1.false,
-        )
+        omega arith,
+        l.invariant.1,
+        l.invariant.2,
+        l.invariant.3,
+        listed_past _ _ _ _ _ _ (omega arith) c.requires.low.1 _ _ _ _ _ l.invariant.4 _ m.ensures w.if-common-eq1.false,
+      )
     ]
 
 pub shape_of-left : goal.shape_of-left

@@ -1,6 +1,5 @@
 -- `order::join_touched` meets its contract. Assumes nothing.
 use mathlib.Core.Path.{◌≡◌, sym, ◌∙◌}
-use Prim.Native.Nat.{◌-◌}
 use Rattle.plan.proofs.Ordering.{joined_none, joined_next, joined_past}
 use native.Mathlib.Omega.{arith}
 use Rattle.plan.proofs.order.join_touched.Goals as goal

@@ -2,7 +2,6 @@
 use Rattle.elimination.proofs.Echelons.{echelon_start}
 use native.Mathlib.Omega.{arith}
 use mathlib.Core.Path.{◌≡◌, refl, ◌∙◌}
-use Prim.Native.Nat.{◌-◌}
 use Rattle.elimination.proofs.to_echelon.Goals as goal
 
 pub loop-b-init : goal.loop-b-init

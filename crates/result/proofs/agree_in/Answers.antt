@@ -1,7 +1,5 @@
 -- `agree_in` meets its contract. Assumes nothing.
 use mathlib.Core.Path.{◌≡◌, sym, ◌∙◌}
-use mathlib.Core.Bool.{true}
-use Prim.Native.Nat.{◌-◌}
 use native.Mathlib.Omega.{arith}
 use Rattle.result.proofs.Agreeing.{agreeing_none, agreeing_not, agreeing_even, agreeing_erased}
 use Rattle.result.proofs.agree_in.Goals as goal

@@ -1,6 +1,5 @@
 -- `largest` meets its contract. Assumes nothing.
 use mathlib.Core.Path.{◌≡◌, refl}
-use Prim.Native.Nat.{◌-◌}
 use native.Mathlib.Omega.{arith}
 use Rattle.choice.proofs.RowBounds.{largest_none, largest_kept, largest_taken}
 use Rattle.choice.proofs.bounds.largest.Goals as goal

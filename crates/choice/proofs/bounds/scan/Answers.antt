@@ -1,5 +1,4 @@
 -- `scan` meets its contract. Assumes nothing.
-use Prim.Native.Nat.{◌-◌}
 use native.Mathlib.Omega.{arith}
 use lib.Count.{trailing_le}
 use Rattle.columns.proofs.Adders.{given_light, shares_met}

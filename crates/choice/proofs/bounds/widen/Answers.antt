@@ -1,6 +1,5 @@
 -- `widen` meets its contract. Assumes nothing.
 use mathlib.Core.Path.{sym, ◌∙◌}
-use Prim.Native.Nat.{◌-◌}
 use native.Mathlib.Omega.{arith}
 use lib.ListN.{length-set}
 use Rattle.columns.proofs.Adders.{given_light, shares_met}

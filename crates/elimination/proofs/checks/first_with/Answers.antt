@@ -2,9 +2,7 @@
 use Rattle.parity.proofs.Matrix.Lent.{row_room}
 use native.Mathlib.Decide.{ℕ_discrete}
 use native.Mathlib.Omega.{arith}
-use mathlib.Core.Bool.{false}
 use mathlib.Core.Path.{sym, ◌∙◌}
-use Prim.Native.Nat.{◌-◌}
 use Rattle.elimination.proofs.checks.first_with.Goals as goal
 
 pub loop-c-init : goal.loop-c-init

@@ -2,7 +2,6 @@
 use Rattle.message_bits.proofs.Placing.{place_start, place_end, place_room, place_pivot, place_other}
 use native.Mathlib.Omega.{arith}
 use mathlib.Core.Path.{refl, sym, ◌∙◌}
-use Prim.Native.Nat.{◌-◌}
 use Rattle.message_bits.proofs.message.place.Goals as goal
 use Rattle.message_bits.proofs.message.place.Goals.{then-is_next, else-is_next}
 

@@ -1,5 +1,4 @@
 -- `gather::gather_in` meets its contract. Assumes nothing.
-use Prim.Native.Nat.{◌-◌}
 use mathlib.Core.Path.{◌≡◌, refl, ◌∙◌}
 use native.Mathlib.Omega.{arith}
 use Rattle.parity.proofs.Matrix.Lent.{row_room}

@@ -1,11 +1,12 @@
-//! Has the program `mend` linked in, from the object file that `rt check mend` writes. Its `main`, and the `read` and `write` that it calls, get names
-//! of their own, so that it can be run again and again on input in memory. And compiles `shims`, each where the headers of its package are.
+//! Has the program `mend` linked in, from the object file that `packaging/build mend` puts there. Its `main`, and the `read`, the `write` and the number
+//! of an error that it calls for, get names of their own, so that it can be run again and again on input in memory. And compiles `shims`, each where the
+//! headers of its package are.
 
 use std::env;
 use std::path::PathBuf;
 use std::process::{exit, Command};
 
-const NAMES: [&str; 3] = ["main=mend_main", "read=mend_read", "write=mend_write"];
+const NAMES: [&str; 4] = ["main=mend_main", "read=mend_read", "write=mend_write", "rattle_errno=mend_errno"];
 
 fn folder(name: &str) -> PathBuf {
     PathBuf::from(env::var_os(name).unwrap())
@@ -29,7 +30,7 @@ fn main() {
     if !object.is_file() {
         eprintln!();
         eprintln!("mend.o is missing: looked for {}", object.display());
-        eprintln!("Run `rt check mend` in the root of the repository.");
+        eprintln!("Run `packaging/build mend` in the root of the repository.");
         exit(1);
     }
     let renamed = folder("OUT_DIR").join("mend.o");

@@ -4,7 +4,7 @@
  * orthogonalised, it recovers them and the added bit. Last a word with a false bit,
  * which is refused, and what the refusal says.
  *
- *   rt staticlib capi
+ *   packaging/build library
  *   cc -Iinclude -o target/example examples/example.c target/staticlib/libcapi.a
  *   target/example
  *

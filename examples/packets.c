@@ -6,7 +6,7 @@
  * lost, and mends: that is all of encoding. The code's least distance is 7, so that
  * any six packets may be lost.
  *
- *   rt staticlib capi
+ *   packaging/build library
  *   cc -Iinclude -o target/packets examples/packets.c target/staticlib/libcapi.a
  *   target/packets
  */

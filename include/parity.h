@@ -6,7 +6,7 @@
  *
  *   cc program.c $(pkg-config --cflags --libs parity)
  *
- * In the repository, where `rt staticlib capi` writes target/staticlib/libcapi.a:
+ * In the repository, where `packaging/build library` writes target/staticlib/libcapi.a:
  *
  *   cc -Iinclude program.c target/staticlib/libcapi.a
  *

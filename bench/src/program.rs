@@ -36,6 +36,12 @@ unsafe extern "C" fn mend_write(_file: i32, place: *const u8, size: usize) -> is
     size as isize
 }
 
+/// Why a call failed: none does.
+#[no_mangle]
+extern "C" fn mend_errno() -> i32 {
+    0
+}
+
 /// Runs the program.
 pub fn run(input: &'static [u8]) {
     INPUT.set(input);

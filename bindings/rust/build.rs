@@ -1,4 +1,4 @@
-//! Finds libcapi.a, which `rt staticlib capi` writes, and has it linked.
+//! Finds libcapi.a, which `packaging/build library` writes, and has it linked.
 
 use std::env;
 use std::path::PathBuf;
@@ -18,7 +18,7 @@ fn main() {
     if !archive.is_file() {
         eprintln!();
         eprintln!("libcapi.a is missing: looked for {}", archive.display());
-        eprintln!("Run `rt staticlib capi` in the root of the repository,");
+        eprintln!("Run `packaging/build library` in the root of the repository,");
         eprintln!("or set PARITY_STATICLIB to the folder that holds libcapi.a.");
         exit(1);
     }

@@ -6,6 +6,7 @@ ghost use Rattle.parity.specs.House.{house_code};
 
 use house::rule::{bits, checks, generate};
 use parity::Check;
+use std::io;
 
 // The character of bit `b` of `x`.
 fn character(x: u32, b: usize) -> u8
@@ -23,25 +24,27 @@ fn put_bits(x: u32, n: usize, line: &mut [u8])
     }
 }
 
-fn print_check(name: usize, c: Check)
+fn print_check(rt: &impl Print, name: usize, c: Check) -> io::Result<()>
     requires { (name < 5) × (c.0 < (house_code name).m) }
 {
     let mut line = [b'\n'; 32];
     let n = bits(name);
     put_bits(generate(name, c), n, &mut line);
-    io::write_all(1, &line[..n + 1]);
+    rt.write_all(&line[..n + 1])
 }
 
-fn print_code(name: usize)
+fn print_code(rt: &impl Print, name: usize) -> io::Result<()>
     requires { name < 5 }
 {
     for c in 0..checks(name) {
-        print_check(name, Check(c));
+        print_check(rt, name, Check(c))?;
     }
+    Ok(())
 }
 
-fn main() {
+fn main(rt: HostRuntime) -> io::Result<()> {
     for name in 0..5 {
-        print_code(name);
+        print_code(&rt, name)?;
     }
+    Ok(())
 }

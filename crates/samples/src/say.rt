@@ -1,36 +1,37 @@
-// Answers as text on standard output.
+// Answers as text on standard output, which the handle `rt` stands for.
 use parity::{Losses, Refusal};
+use std::io;
 
-pub fn end_line() {
-    io::write_all(1, b"\n");
+pub fn end_line(rt: &impl Print) -> io::Result<()> {
+    rt.write_all(b"\n")
 }
 
 // A head and a number.
-pub fn field(head: &[u8], x: u64) {
-    io::write_all(1, head);
-    io::print_decimal(1, x);
+pub fn field(rt: &impl Print, head: &[u8], x: u64) -> io::Result<()> {
+    rt.write_all(head)?;
+    print!(rt; "{x}")
 }
 
 // The number of a refusal, and its place or the length needed.
-pub fn refused(head: &[u8], r: Refusal) {
-    field(head, refusals::number(r));
+pub fn refused(rt: &impl Print, head: &[u8], r: Refusal) -> io::Result<()> {
+    field(rt, head, refusals::number(r))?;
     match r {
-        Refusal::FaultyWord { place } => field(b" at ", place as u64),
-        Refusal::RecordTooShort { needed } => field(b", needs ", needed as u64),
-        Refusal::WrongByte { place } => field(b" at ", place as u64),
-        Refusal::SetsTooShort { needed } => field(b", needs ", needed as u64),
-        Refusal::WrongFloat { place } => field(b" at ", place as u64),
-        Refusal::LowAboveHigh { place } => field(b" at ", place as u64),
-        _ => {}
+        Refusal::FaultyWord { place } => field(rt, b" at ", place as u64),
+        Refusal::RecordTooShort { needed } => field(rt, b", needs ", needed as u64),
+        Refusal::WrongByte { place } => field(rt, b" at ", place as u64),
+        Refusal::SetsTooShort { needed } => field(rt, b", needs ", needed as u64),
+        Refusal::WrongFloat { place } => field(rt, b" at ", place as u64),
+        Refusal::LowAboveHigh { place } => field(rt, b" at ", place as u64),
+        _ => Ok(()),
     }
 }
 
 // Of the bits recovered and left, how many are sent bits and how many added.
-pub fn recovered_and_left(l: Losses) {
-    field(b"recovered ", l.recovered_sent);
-    field(b" ", l.recovered_added);
-    field(b" left ", l.left_sent);
-    field(b" ", l.left_added);
+pub fn recovered_and_left(rt: &impl Print, l: Losses) -> io::Result<()> {
+    field(rt, b"recovered ", l.recovered_sent)?;
+    field(rt, b" ", l.recovered_added)?;
+    field(rt, b" left ", l.left_sent)?;
+    field(rt, b" ", l.left_added)
 }
 
 // The symbol of a byte: ? for erased, x for a byte above 2.
@@ -44,12 +45,13 @@ fn symbol(x: u8) -> u8 {
 }
 
 // A space, and a word as symbols.
-pub fn show_word(word: &[u8]) {
-    io::write_all(1, b" ");
+pub fn show_word(rt: &impl Print, word: &[u8]) -> io::Result<()> {
+    rt.write_all(b" ")?;
     for i in 0..word.len() {
         let one = [symbol(word[i])];
-        io::write_all(1, &one);
+        rt.write_all(&one)?;
     }
+    Ok(())
 }
 
 // The bits of a float, and of one that is not a number those of the quiet NaN.
@@ -61,6 +63,6 @@ fn bits_of(x: f32) -> u32 {
 }
 
 // The eight hexadecimal digits of a float.
-pub fn show_float(x: f32) {
-    io::print_hex(1, bits_of(x) as u64, 8);
+pub fn show_float(rt: &impl Print, x: f32) -> io::Result<()> {
+    print!(rt; "{:08x}", bits_of(x))
 }

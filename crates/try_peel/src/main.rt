@@ -6,51 +6,69 @@ ghost use Rattle.std.specs.Prelude.{◌<◌, ◌≤◌};
 
 use peel::Peeling;
 use samples::say::{end_line, field, recovered_and_left, refused, show_word};
+use std::io;
 use word::{Stopping, Verifying};
 
-fn peel_line(head: &[u8], words: &[u64], n: usize, m: usize, k: usize, word: &mut [u8]) {
-    io::write_all(1, head);
+fn peel_line(
+    rt: &impl Print,
+    head: &[u8],
+    words: &[u64],
+    n: usize,
+    m: usize,
+    k: usize,
+    word: &mut [u8],
+) -> io::Result<()> {
+    rt.write_all(head)?;
     let answer = peel::peel(words, n, m, k, word);
     match answer {
-        Peeling::Made(l) => recovered_and_left(l),
-        Peeling::Refused(r) => refused(b"REFUSED ", r),
+        Peeling::Made(l) => recovered_and_left(rt, l)?,
+        Peeling::Refused(r) => refused(rt, b"REFUSED ", r)?,
     }
-    show_word(word);
-    end_line();
+    show_word(rt, word)?;
+    end_line(rt)
 }
 
-fn verify_line(head: &[u8], words: &[u64], n: usize, m: usize, k: usize, word: &[u8]) {
-    io::write_all(1, head);
+fn verify_line(
+    rt: &impl Print,
+    head: &[u8],
+    words: &[u64],
+    n: usize,
+    m: usize,
+    k: usize,
+    word: &[u8],
+) -> io::Result<()> {
+    rt.write_all(head)?;
     let answer = word::verify(words, n, m, k, word);
     match answer {
-        Verifying::Yes => {
-            io::write_all(1, b"yes");
-        }
-        Verifying::No => {
-            io::write_all(1, b"no");
-        }
-        Verifying::Refused(r) => refused(b"REFUSED ", r),
+        Verifying::Yes => rt.write_all(b"yes")?,
+        Verifying::No => rt.write_all(b"no")?,
+        Verifying::Refused(r) => refused(rt, b"REFUSED ", r)?,
     }
-    end_line();
+    end_line(rt)
 }
 
-fn stopping_line(head: &[u8], words: &[u64], n: usize, m: usize, k: usize, set: &[u8]) {
-    io::write_all(1, head);
+fn stopping_line(
+    rt: &impl Print,
+    head: &[u8],
+    words: &[u64],
+    n: usize,
+    m: usize,
+    k: usize,
+    set: &[u8],
+) -> io::Result<()> {
+    rt.write_all(head)?;
     let answer = word::is_stopping(words, n, m, k, set);
     match answer {
-        Stopping::Yes => {
-            io::write_all(1, b"yes");
-        }
-        Stopping::No => {
-            io::write_all(1, b"no");
-        }
-        Stopping::Refused(r) => refused(b"REFUSED ", r),
+        Stopping::Yes => rt.write_all(b"yes")?,
+        Stopping::No => rt.write_all(b"no")?,
+        Stopping::Refused(r) => refused(rt, b"REFUSED ", r)?,
     }
-    end_line();
+    end_line(rt)
 }
 
 // Peels a word, and verifies what was left.
 fn peel_and_verify(
+    rt: &impl Print,
     head: &[u8],
     again: &[u8],
     words: &[u64],
@@ -58,27 +76,37 @@ fn peel_and_verify(
     m: usize,
     k: usize,
     word: &mut [u8],
-) {
-    peel_line(head, words, n, m, k, word);
-    verify_line(again, words, n, m, k, word);
+) -> io::Result<()> {
+    peel_line(rt, head, words, n, m, k, word)?;
+    verify_line(rt, again, words, n, m, k, word)
 }
 
-fn c_words(words: &[u64]) {
+fn c_words(rt: &impl Print, words: &[u64]) -> io::Result<()> {
     let mut w = [2, 2, 2, 1, 1, 1, 1];
-    peel_and_verify(b"C: ", b"C, what is left: ", words, 7, 3, 0, &mut w);
+    peel_and_verify(rt, b"C: ", b"C, what is left: ", words, 7, 3, 0, &mut w)?;
     let mut one = [2, 0, 1, 1, 1, 1, 1];
-    peel_and_verify(b"C, bit 0: ", b"C, its word: ", words, 7, 3, 0, &mut one);
+    peel_and_verify(
+        rt,
+        b"C, bit 0: ",
+        b"C, its word: ",
+        words,
+        7,
+        3,
+        0,
+        &mut one,
+    )?;
     let mut all = [2, 2, 2, 2, 2, 2, 2];
-    peel_line(b"C, all erased: ", words, 7, 3, 0, &mut all);
+    peel_line(rt, b"C, all erased: ", words, 7, 3, 0, &mut all)?;
     let mut none = [0, 0, 1, 1, 1, 1, 1];
-    peel_line(b"C, none erased: ", words, 7, 3, 0, &mut none);
+    peel_line(rt, b"C, none erased: ", words, 7, 3, 0, &mut none)?;
     let mut part = [2, 2, 2, 2, 1, 1, 2];
-    peel_line(b"C, five erased: ", words, 7, 3, 0, &mut part);
+    peel_line(rt, b"C, five erased: ", words, 7, 3, 0, &mut part)
 }
 
-fn c_contradictions(words: &[u64]) {
+fn c_contradictions(rt: &impl Print, words: &[u64]) -> io::Result<()> {
     let mut odd = [1, 0, 0, 0, 0, 0, 0];
     peel_and_verify(
+        rt,
         b"C, an odd check: ",
         b"C, an odd word: ",
         words,
@@ -86,56 +114,57 @@ fn c_contradictions(words: &[u64]) {
         3,
         0,
         &mut odd,
-    );
+    )?;
     let mut later = [2, 0, 0, 2, 0, 0, 1];
-    peel_line(b"C, odd after bit 0: ", words, 7, 3, 0, &mut later);
+    peel_line(rt, b"C, odd after bit 0: ", words, 7, 3, 0, &mut later)
 }
 
-fn c_sets(words: &[u64]) {
+fn c_sets(rt: &impl Print, words: &[u64]) -> io::Result<()> {
     let stops = [1, 1, 1, 0, 0, 0, 0];
-    stopping_line(b"C, {0,1,2}: ", words, 7, 3, 0, &stops);
+    stopping_line(rt, b"C, {0,1,2}: ", words, 7, 3, 0, &stops)?;
     let lone = [0, 0, 0, 0, 0, 0, 1];
-    stopping_line(b"C, {6} in the last check: ", words, 7, 3, 0, &lone);
+    stopping_line(rt, b"C, {6} in the last check: ", words, 7, 3, 0, &lone)?;
     let empty = [0, 0, 0, 0, 0, 0, 0];
-    stopping_line(b"C, {}: ", words, 7, 3, 0, &empty);
-    verify_line(b"C, the zero word: ", words, 7, 3, 0, &empty);
+    stopping_line(rt, b"C, {}: ", words, 7, 3, 0, &empty)?;
+    verify_line(rt, b"C, the zero word: ", words, 7, 3, 0, &empty)?;
     let two = [0, 0, 2, 0, 3, 0, 0];
-    stopping_line(b"C, a set with 2 and 3: ", words, 7, 3, 0, &two);
-    verify_line(b"C, bytes 2 and 3: ", words, 7, 3, 0, &two);
+    stopping_line(rt, b"C, a set with 2 and 3: ", words, 7, 3, 0, &two)?;
+    verify_line(rt, b"C, bytes 2 and 3: ", words, 7, 3, 0, &two)
 }
 
-fn case_c() {
+fn case_c(rt: &impl Print) -> io::Result<()> {
     let words = samples::cases::c();
-    c_words(&words);
-    c_contradictions(&words);
-    c_sets(&words);
+    c_words(rt, &words)?;
+    c_contradictions(rt, &words)?;
+    c_sets(rt, &words)
 }
 
-fn case_d() {
+fn case_d(rt: &impl Print) -> io::Result<()> {
     let words = samples::cases::d();
     let mut w = [2, 2, 2, 1, 1, 1, 1, 2];
-    peel_and_verify(b"D: ", b"D, its word: ", &words, 7, 3, 1, &mut w);
-    d_bytes(&words);
+    peel_and_verify(rt, b"D: ", b"D, its word: ", &words, 7, 3, 1, &mut w)?;
+    d_bytes(rt, &words)
 }
 
-fn d_bytes(words: &[u64]) {
+fn d_bytes(rt: &impl Print, words: &[u64]) -> io::Result<()> {
     let mut high = [2, 2, 2, 1, 1, 1, 1, 3];
-    peel_line(b"D, a last byte 3: ", words, 7, 3, 1, &mut high);
+    peel_line(rt, b"D, a last byte 3: ", words, 7, 3, 1, &mut high)?;
     let mut low = [255, 2, 2, 1, 1, 1, 1, 2];
-    peel_line(b"D, a first byte 255: ", words, 7, 3, 1, &mut low);
+    peel_line(rt, b"D, a first byte 255: ", words, 7, 3, 1, &mut low)?;
     let mut several = [2, 2, 2, 3, 255, 1, 1, 255];
-    peel_line(b"D, three wrong bytes: ", words, 7, 3, 1, &mut several);
+    peel_line(rt, b"D, three wrong bytes: ", words, 7, 3, 1, &mut several)?;
     let mut seven = [2, 2, 2, 1, 1, 1, 1];
-    peel_line(b"D with k = 0: ", words, 7, 3, 0, &mut seven);
+    peel_line(rt, b"D with k = 0: ", words, 7, 3, 0, &mut seven)?;
     let mut one = [2];
-    peel_line(b"D with n = 0: ", words, 0, 3, 1, &mut one);
+    peel_line(rt, b"D with n = 0: ", words, 0, 3, 1, &mut one)
 }
 
-fn e_lengths(words: &[u64]) {
+fn e_lengths(rt: &impl Print, words: &[u64]) -> io::Result<()> {
     let mut none: [u8; 0] = [];
-    peel_line(b"E, no bytes: ", words, 3, 2, 2, &mut none);
+    peel_line(rt, b"E, no bytes: ", words, 3, 2, 2, &mut none)?;
     let mut sent = [2, 1, 3];
     peel_and_verify(
+        rt,
         b"E, n bytes: ",
         b"E, verifying n bytes: ",
         words,
@@ -143,48 +172,57 @@ fn e_lengths(words: &[u64]) {
         2,
         2,
         &mut sent,
-    );
+    )?;
     let mut short = [2, 1, 0, 0];
-    peel_line(b"E, n+k-1 bytes: ", words, 3, 2, 2, &mut short);
+    peel_line(rt, b"E, n+k-1 bytes: ", words, 3, 2, 2, &mut short)?;
     let mut long = [2, 1, 0, 2, 2, 2];
-    peel_line(b"E, n+k+1 bytes: ", words, 3, 2, 2, &mut long);
+    peel_line(rt, b"E, n+k+1 bytes: ", words, 3, 2, 2, &mut long)?;
     let mut w = [2, 1, 1, 2, 2];
-    peel_and_verify(b"E, n+k bytes: ", b"E, its word: ", words, 3, 2, 2, &mut w);
+    peel_and_verify(
+        rt,
+        b"E, n+k bytes: ",
+        b"E, its word: ",
+        words,
+        3,
+        2,
+        2,
+        &mut w,
+    )
 }
 
 // E orthogonalised: {4} {4} {0,1,3} {2,3,4}.
-fn case_e() {
+fn case_e(rt: &impl Print) -> io::Result<()> {
     let mut words = [0u64; 4096];
     words[0] = 0b10000;
     words[8] = 0b10000;
     words[16] = 0b1011;
     words[24] = 0b11100;
-    e_lengths(&words);
+    e_lengths(rt, &words)?;
     let set = [0, 0, 1, 1, 0, 2];
-    stopping_line(b"E, a set of n+k+1 bytes: ", &words, 3, 2, 2, &set);
+    stopping_line(rt, b"E, a set of n+k+1 bytes: ", &words, 3, 2, 2, &set)?;
     let few = [0u64; 4095];
     let mut w = [2, 1, 3];
-    peel_line(b"4,095 words: ", &few, 3, 2, 2, &mut w);
+    peel_line(rt, b"4,095 words: ", &few, 3, 2, 2, &mut w)
 }
 
-fn case_f() {
+fn case_f(rt: &impl Print) -> io::Result<()> {
     let words = [0u64; 4096];
     let mut f = [2, 2];
-    peel_and_verify(b"F: ", b"F, what is left: ", &words, 2, 0, 0, &mut f);
+    peel_and_verify(rt, b"F: ", b"F, what is left: ", &words, 2, 0, 0, &mut f)?;
     let mut free = [2, 0, 1];
-    peel_line(b"two checks without bits: ", &words, 3, 2, 0, &mut free);
+    peel_line(rt, b"two checks without bits: ", &words, 3, 2, 0, &mut free)
 }
 
-fn case_i() {
+fn case_i(rt: &impl Print) -> io::Result<()> {
     let words = samples::cases::i();
     let mut i = [2, 1];
-    peel_line(b"I: ", &words, 2, 2, 0, &mut i);
+    peel_line(rt, b"I: ", &words, 2, 2, 0, &mut i)?;
     let mut j = [2, 2];
-    peel_line(b"I, both erased: ", &words, 2, 2, 0, &mut j);
+    peel_line(rt, b"I, both erased: ", &words, 2, 2, 0, &mut j)
 }
 
 // Bits 1, 2 and 3 are bit 0, the added bit 9 is the sum of 1 and 2, and nothing determines 4 to 7: four different numbers.
-fn four_numbers() {
+fn four_numbers(rt: &impl Print) -> io::Result<()> {
     let mut words = [0u64; 4096];
     words[0] = 0b11;
     words[8] = 0b101;
@@ -193,24 +231,24 @@ fn four_numbers() {
     words[32] = 0b10000110000;
     words[40] = 0b100011000000;
     let mut w = [1, 2, 2, 2, 2, 2, 2, 2, 0, 2, 2, 2];
-    peel_line(b"sent and added: ", &words, 9, 3, 3, &mut w);
+    peel_line(rt, b"sent and added: ", &words, 9, 3, 3, &mut w)
 }
 
 // With n = 64 the first added bit is the first of the second word: {0,63,64}.
-fn word_edge() {
+fn word_edge(rt: &impl Print) -> io::Result<()> {
     let mut words = [0u64; 4096];
     words[0] = 0x8000000000000001;
     words[1] = 1;
     let mut sent = [0u8; 65];
     sent[63] = 2;
-    peel_line(b"n = 64, bit 63: ", &words, 64, 0, 1, &mut sent);
+    peel_line(rt, b"n = 64, bit 63: ", &words, 64, 0, 1, &mut sent)?;
     let mut added = [0u8; 65];
     added[64] = 2;
-    peel_line(b"n = 64, bit 64: ", &words, 64, 0, 1, &mut added);
+    peel_line(rt, b"n = 64, bit 64: ", &words, 64, 0, 1, &mut added)?;
     let mut both = [0u8; 65];
     both[63] = 2;
     both[64] = 2;
-    peel_line(b"n = 64, both: ", &words, 64, 0, 1, &mut both);
+    peel_line(rt, b"n = 64, both: ", &words, 64, 0, 1, &mut both)
 }
 
 // A codeword of L.
@@ -226,7 +264,7 @@ fn comes_back(words: &[u64], a: usize, b: usize) -> bool
     w[b] = 2;
     let answer = peel::peel(words, 23, 23, 0, &mut w);
     match answer {
-        Peeling::Made(l) => l.left_sent == 0 && check::same(&w, &CODEWORD),
+        Peeling::Made(l) => l.left_sent == 0 && w == CODEWORD,
         Peeling::Refused(_) => false,
     }
 }
@@ -246,38 +284,39 @@ fn pairs_back(words: &[u64], a: usize) -> u64
 }
 
 // With bit a alone, and with each bit above it, erased.
-fn l_line(words: &[u64], a: usize)
+fn l_line(rt: &impl Print, words: &[u64], a: usize) -> io::Result<()>
     requires { a < 23 }
 {
-    field(b"L, bit ", a as u64);
-    field(b" alone and with each above: ", pairs_back(words, a));
-    field(b" of ", (23 - a) as u64);
-    end_line();
+    field(rt, b"L, bit ", a as u64)?;
+    field(rt, b" alone and with each above: ", pairs_back(words, a))?;
+    field(rt, b" of ", (23 - a) as u64)?;
+    end_line(rt)
 }
 
-fn l_pairs(words: &[u64]) {
+fn l_pairs(rt: &impl Print, words: &[u64]) -> io::Result<()> {
     for a in 0..23 {
-        l_line(words, a);
+        l_line(rt, words, a)?;
     }
+    Ok(())
 }
 
-fn case_l() {
+fn case_l(rt: &impl Print) -> io::Result<()> {
     let words = samples::cases::l();
-    verify_line(b"L, a codeword: ", &words, 23, 23, 0, &CODEWORD);
+    verify_line(rt, b"L, a codeword: ", &words, 23, 23, 0, &CODEWORD)?;
     let mut w = CODEWORD;
     w[22] = 2;
     w[5] = 2;
-    peel_line(b"L, bits 5 and 22: ", &words, 23, 23, 0, &mut w);
-    l_pairs(&words);
+    peel_line(rt, b"L, bits 5 and 22: ", &words, 23, 23, 0, &mut w)?;
+    l_pairs(rt, &words)
 }
 
-fn main() {
-    case_c();
-    case_d();
-    case_e();
-    case_f();
-    case_i();
-    four_numbers();
-    word_edge();
-    case_l();
+fn main(rt: HostRuntime) -> io::Result<()> {
+    case_c(&rt)?;
+    case_d(&rt)?;
+    case_e(&rt)?;
+    case_f(&rt)?;
+    case_i(&rt)?;
+    four_numbers(&rt)?;
+    word_edge(&rt)?;
+    case_l(&rt)
 }

@@ -13,6 +13,7 @@ use crate::say::{loads, place, writes};
 use record::Loading;
 use samples::say::{end_line, field};
 use samples::words::{are_ones, same};
+use std::io;
 use writing::Writing;
 
 // The records of cases A, C, E, F and I, each in its first form and in its second.
@@ -215,106 +216,123 @@ const WRONG: [u32; 31] = [
 ];
 
 // Loads a record into words that are all ones.
-fn load_case(head: &[u8], source: &[u32]) {
+fn load_case(rt: &impl Print, head: &[u8], source: &[u32]) -> io::Result<()> {
     let mut words = [0xffff_ffff_ffff_ffff; 4096];
-    io::write_all(1, head);
+    rt.write_all(head)?;
     let r = record::load(source, &mut words);
-    loads(r);
+    loads(rt, r)?;
     if are_ones(&words) {
-        io::write_all(1, b", words left");
+        rt.write_all(b", words left")?;
     }
-    end_line();
+    end_line(rt)
 }
 
 // Loads a record of any form, writes its matrix and says whether that gives the record due.
-fn round_trip(head: &[u8], source: &[u32], due: &[u32]) {
+fn round_trip(rt: &impl Print, head: &[u8], source: &[u32], due: &[u32]) -> io::Result<()> {
     let mut words = [0xffff_ffff_ffff_ffff; 4096];
-    io::write_all(1, head);
+    rt.write_all(head)?;
     let r = record::load(source, &mut words);
-    loads(r);
+    loads(rt, r)?;
     if let Loading::Loaded { n, m, k } = r {
-        write_back(due, &words, n, m, k);
+        write_back(rt, due, &words, n, m, k)?;
     }
-    end_line();
+    end_line(rt)
 }
 
 // Writes a matrix and compares the record with the one due.
-fn write_back(due: &[u32], words: &[u64], n: usize, m: usize, k: usize) {
+fn write_back(
+    rt: &impl Print,
+    due: &[u32],
+    words: &[u64],
+    n: usize,
+    m: usize,
+    k: usize,
+) -> io::Result<()> {
     let mut target = [0xffff_ffffu32; 14523];
     let w = record::write(words, n, m, k, &mut target);
-    io::write_all(1, b", ");
-    writes(w);
+    rt.write_all(b", ")?;
+    writes(rt, w)?;
     if let Writing::Written { used } = w {
         if used == due.len() {
             if begins(due, &target) {
-                io::write_all(1, b", as due");
+                rt.write_all(b", as due")?;
             }
         }
     }
+    Ok(())
 }
 
 // Writes a matrix, loads what was written and compares the words.
-fn write_case(head: &[u8], words: &[u64], n: usize, m: usize, k: usize) {
+fn write_case(
+    rt: &impl Print,
+    head: &[u8],
+    words: &[u64],
+    n: usize,
+    m: usize,
+    k: usize,
+) -> io::Result<()> {
     let mut target = [0xffff_ffffu32; 14523];
-    io::write_all(1, head);
+    rt.write_all(head)?;
     let w = record::write(words, n, m, k, &mut target);
-    writes(w);
+    writes(rt, w)?;
     if let Writing::Written { used } = w {
-        load_back(&target, used, words);
+        load_back(rt, &target, used, words)?;
     }
     if target[14522] == 0xffff_ffff {
-        io::write_all(1, b", the last word left");
+        rt.write_all(b", the last word left")?;
     }
-    end_line();
+    end_line(rt)
 }
 
 // Loads the first `used` words of a record and compares the matrix's words with those that were written.
-fn load_back(target: &[u32], used: usize, words: &[u64]) {
+fn load_back(rt: &impl Print, target: &[u32], used: usize, words: &[u64]) -> io::Result<()> {
     let mut back = [0xffff_ffff_ffff_ffff; 4096];
     if target.len() < used {
-        return;
+        return Ok(());
     }
-    io::write_all(1, b", ");
-    loads(record::load(&target[..used], &mut back));
+    rt.write_all(b", ")?;
+    loads(rt, record::load(&target[..used], &mut back))?;
     if same(words, &back) {
-        io::write_all(1, b", the same words");
+        rt.write_all(b", the same words")?;
     }
+    Ok(())
 }
 
 // The records of the bench's matrices with k = 0, of both forms, and an empty record.
-fn bench_a_and_c() {
-    round_trip(b"A: ", &A, &A2);
-    round_trip(b"A, second form: ", &A2, &A2);
-    round_trip(b"C: ", &C, &C2);
-    round_trip(b"C, second form: ", &C2, &C2);
+fn bench_a_and_c(rt: &impl Print) -> io::Result<()> {
+    round_trip(rt, b"A: ", &A, &A2)?;
+    round_trip(rt, b"A, second form: ", &A2, &A2)?;
+    round_trip(rt, b"C: ", &C, &C2)?;
+    round_trip(rt, b"C, second form: ", &C2, &C2)
 }
 
-fn bench_e_and_f() {
-    round_trip(b"E: ", &E, &E2);
-    round_trip(b"E, second form: ", &E2, &E2);
-    round_trip(b"F: ", &F, &F2);
-    round_trip(b"F, second form: ", &F2, &F2);
+fn bench_e_and_f(rt: &impl Print) -> io::Result<()> {
+    round_trip(rt, b"E: ", &E, &E2)?;
+    round_trip(rt, b"E, second form: ", &E2, &E2)?;
+    round_trip(rt, b"F: ", &F, &F2)?;
+    round_trip(rt, b"F, second form: ", &F2, &F2)
 }
 
-fn bench_i_and_k() {
-    round_trip(b"I: ", &I, &I2);
-    round_trip(b"I, second form: ", &I2, &I2);
+fn bench_i_and_k(rt: &impl Print) -> io::Result<()> {
+    round_trip(rt, b"I: ", &I, &I2)?;
+    round_trip(rt, b"I, second form: ", &I2, &I2)?;
     let none: [u32; 0] = [];
-    round_trip(b"K: ", &none, &none);
+    round_trip(rt, b"K: ", &none, &none)
 }
 
 // First words at the ends of their ranges, and other lengths.
-fn firsts() {
-    load_case(b"n = 120: ", &[0x1000_0078, 0xf000_0000]);
-    load_case(b"n = 121: ", &[0x1000_0079, 0xf000_0000]);
-    load_case(b"n = 0: ", &[0x1000_0000, 0xf000_0000]);
-    load_case(b"m = 121: ", &[0x1000_7901, 0xf000_0000]);
-    load_case(b"only the first word: ", &[0x1000_0001]);
+fn firsts(rt: &impl Print) -> io::Result<()> {
+    load_case(rt, b"n = 120: ", &[0x1000_0078, 0xf000_0000])?;
+    load_case(rt, b"n = 121: ", &[0x1000_0079, 0xf000_0000])?;
+    load_case(rt, b"n = 0: ", &[0x1000_0000, 0xf000_0000])?;
+    load_case(rt, b"m = 121: ", &[0x1000_7901, 0xf000_0000])?;
+    load_case(rt, b"only the first word: ", &[0x1000_0001])
 }
 
 // Checks and ends that are not as the first word has them.
-fn counts() {
+fn counts(rt: &impl Print) -> io::Result<()> {
     load_case(
+        rt,
         b"n = 3, count 3, first bit 2: ",
         &[
             0x1000_0103,
@@ -323,8 +341,9 @@ fn counts() {
             0x3000_0002,
             0xf000_0000,
         ],
-    );
+    )?;
     load_case(
+        rt,
         b"equal bits: ",
         &[
             0x1000_0103,
@@ -333,137 +352,152 @@ fn counts() {
             0x3000_0001,
             0xf000_0000,
         ],
-    );
+    )?;
     load_case(
+        rt,
         b"a check too many: ",
         &[0x1000_0102, 0x2000_0000, 0x2000_0000, 0xf000_0000],
-    );
+    )?;
     load_case(
+        rt,
         b"a check too few: ",
         &[0x1000_0202, 0x2000_0000, 0xf000_0000],
-    );
+    )?;
     load_case(
+        rt,
         b"a word after the end: ",
         &[0x1000_0002, 0xf000_0000, 0xf000_0000],
-    );
+    )
 }
 
 // Check numbers: of the second form, in the first form, and none in the second form.
-fn numbers() {
+fn numbers(rt: &impl Print) -> io::Result<()> {
     load_case(
+        rt,
         b"first form, check 1 numbered: ",
         &[0x1000_0203, 0x2000_0000, 0x2000_0100, 0xf000_0000],
-    );
+    )?;
     load_case(
+        rt,
         b"second form, check 1 not numbered: ",
         &[0x4000_0203, 0x2000_0000, 0x2000_0000, 0xf000_0000],
-    );
+    )?;
     load_case(
+        rt,
         b"second form, numbers from 1: ",
         &[0x4000_0203, 0x2000_0100, 0x2000_0200, 0xf000_0000],
-    );
+    )?;
     load_case(
+        rt,
         b"second form, a number skipped: ",
         &[0x4000_0203, 0x2000_0000, 0x2000_0200, 0xf000_0000],
-    );
+    )
 }
 
 // The second form's ends.
-fn seconds() {
+fn seconds(rt: &impl Print) -> io::Result<()> {
     load_case(
+        rt,
         b"second form, bit 16 of a kind 2 word: ",
         &[0x4000_0103, 0x2001_0000, 0xf000_0000],
-    );
+    )?;
     load_case(
+        rt,
         b"second form, a word after the end: ",
         &[0x4000_0002, 0xf000_0000, 0xf000_0000],
-    );
-    load_case(b"second form, n = 120: ", &[0x4000_0078, 0xf000_0000]);
-    load_case(b"second form, n = 121: ", &[0x4000_0079, 0xf000_0000]);
-    load_case(b"second form, m = 121: ", &[0x4000_7901, 0xf000_0000]);
-    load_case(b"another kind of first word: ", &[0x6000_0002, 0xf000_0000]);
+    )?;
+    load_case(rt, b"second form, n = 120: ", &[0x4000_0078, 0xf000_0000])?;
+    load_case(rt, b"second form, n = 121: ", &[0x4000_0079, 0xf000_0000])?;
+    load_case(rt, b"second form, m = 121: ", &[0x4000_7901, 0xf000_0000])?;
+    load_case(
+        rt,
+        b"another kind of first word: ",
+        &[0x6000_0002, 0xf000_0000],
+    )
 }
 
 // E with its splits, with one word replaced.
-fn third_case(head: &[u8], at: usize, word: u32)
+fn third_case(rt: &impl Print, head: &[u8], at: usize, word: u32) -> io::Result<()>
     requires { at < 12 }
 {
     let mut source = E3;
     source[at] = word;
-    load_case(head, &source);
+    load_case(rt, head, &source)
 }
 
 // Splits: in the third form, in the others, before the checks are complete, after the end.
-fn splits() {
-    round_trip(b"E with its splits: ", &E3, &E3);
-    round_trip(b"C, third form without splits: ", &C3, &C2);
-    third_case(b"in the second form: ", 0, 0x4000_0203);
-    third_case(b"in the first form: ", 0, 0x1000_0203);
-    third_case(b"before check 1: ", 5, 0x6000_0200);
+fn splits(rt: &impl Print) -> io::Result<()> {
+    round_trip(rt, b"E with its splits: ", &E3, &E3)?;
+    round_trip(rt, b"C, third form without splits: ", &C3, &C2)?;
+    third_case(rt, b"in the second form: ", 0, 0x4000_0203)?;
+    third_case(rt, b"in the first form: ", 0, 0x1000_0203)?;
+    third_case(rt, b"before check 1: ", 5, 0x6000_0200)
 }
 
 // Each fault of the first split,
-fn first_splits() {
-    third_case(b"first split, bits exchanged: ", 9, 0x6000_0001);
-    third_case(b"first split, equal bits: ", 9, 0x6000_0201);
-    third_case(b"first split, bit 3 is not there: ", 9, 0x6000_0600);
-    third_case(b"first split, bit 18 set: ", 9, 0x6004_0200);
-    third_case(b"first split, bit 27 set: ", 9, 0x6800_0200);
-    third_case(b"first split, another pair: ", 9, 0x6000_0400);
+fn first_splits(rt: &impl Print) -> io::Result<()> {
+    third_case(rt, b"first split, bits exchanged: ", 9, 0x6000_0001)?;
+    third_case(rt, b"first split, equal bits: ", 9, 0x6000_0201)?;
+    third_case(rt, b"first split, bit 3 is not there: ", 9, 0x6000_0600)?;
+    third_case(rt, b"first split, bit 18 set: ", 9, 0x6004_0200)?;
+    third_case(rt, b"first split, bit 27 set: ", 9, 0x6800_0200)?;
+    third_case(rt, b"first split, another pair: ", 9, 0x6000_0400)
 }
 
 // and of the last.
-fn last_splits() {
-    third_case(b"last split, bits exchanged: ", 10, 0x6000_0403);
-    third_case(b"last split, bit 4 is not there: ", 10, 0x6000_0802);
-    third_case(b"last split, share 1: ", 10, 0x6000_0200);
-    third_case(b"last split, share 0: ", 10, 0x6000_0400);
-    third_case(b"last split, bit 18 set: ", 10, 0x6004_0602);
+fn last_splits(rt: &impl Print) -> io::Result<()> {
+    third_case(rt, b"last split, bits exchanged: ", 10, 0x6000_0403)?;
+    third_case(rt, b"last split, bit 4 is not there: ", 10, 0x6000_0802)?;
+    third_case(rt, b"last split, share 1: ", 10, 0x6000_0200)?;
+    third_case(rt, b"last split, share 0: ", 10, 0x6000_0400)?;
+    third_case(rt, b"last split, bit 18 set: ", 10, 0x6004_0602)
 }
 
-fn ends_of_splits() {
-    third_case(b"no last split: ", 10, 0xf000_0000);
-    third_case(b"a third split, and no end: ", 11, 0x6000_0803);
+fn ends_of_splits(rt: &impl Print) -> io::Result<()> {
+    third_case(rt, b"no last split: ", 10, 0xf000_0000)?;
+    third_case(rt, b"a third split, and no end: ", 11, 0x6000_0803)?;
     load_case(
+        rt,
         b"a split after the end: ",
         &[0x5000_0002, 0xf000_0000, 0x6000_0200],
-    );
+    )?;
     load_case(
+        rt,
         b"no checks, a split: ",
         &[0x5000_0002, 0x6000_0200, 0xf000_0000],
-    );
+    )
 }
 
 // Too short by one for E with its splits, and a matrix that no split made, with no room either.
-fn short_thirds() {
+fn short_thirds(rt: &impl Print) -> io::Result<()> {
     let mut words = [0u64; 4096];
     let source = E3;
     record::load(&source, &mut words);
     let mut short = [7u32; 11];
-    io::write_all(1, b"E with its splits, one word short: ");
-    writes(record::write(&words, 3, 2, 2, &mut short));
+    rt.write_all(b"E with its splits, one word short: ")?;
+    writes(rt, record::write(&words, 3, 2, 2, &mut short))?;
     let mut none: [u32; 0] = [];
-    io::write_all(1, b"\nno split made it, no room: ");
+    rt.write_all(b"\nno split made it, no room: ")?;
     let mut alone = [0u64; 4096];
     alone[0] = 7;
-    writes(record::write(&alone, 2, 0, 1, &mut none));
-    end_line();
+    writes(rt, record::write(&alone, 2, 0, 1, &mut none))?;
+    end_line(rt)
 }
 
 // The full record, with check 119 numbered otherwise, and with kind 1 in its first word.
-fn last_numbers(words: &[u64]) {
+fn last_numbers(rt: &impl Print, words: &[u64]) -> io::Result<()> {
     let mut target = [0u32; 14522];
     record::write(words, 120, 120, 0, &mut target);
     if target[14400] == 0x2000_7778 {
-        io::write_all(1, b"check 119 is opened at 14400\n");
+        rt.write_all(b"check 119 is opened at 14400\n")?;
     }
     target[14400] = 0x2000_7678;
-    load_case(b"check 119 numbered 118: ", &target);
+    load_case(rt, b"check 119 numbered 118: ", &target)?;
     target[14400] = 0x2000_7878;
-    load_case(b"check 119 numbered 120: ", &target);
+    load_case(rt, b"check 119 numbered 120: ", &target)?;
     target[14400] = 0x2000_7778;
     target[0] = 0x1000_7878;
-    load_case(b"full, kind 1 first: ", &target);
+    load_case(rt, b"full, kind 1 first: ", &target)
 }
 
 // The record of C, of one form,
@@ -475,142 +509,145 @@ fn record_of_c(second: bool) -> [u32; 16] {
 }
 
 // with one word replaced.
-fn replaced(second: bool, at: usize, word: u32)
+fn replaced(rt: &impl Print, second: bool, at: usize, word: u32) -> io::Result<()>
     requires { at < 16 }
 {
     let mut words = [0u64; 4096];
     let mut source = record_of_c(second);
     source[at] = word;
-    place(record::load(&source, &mut words));
+    place(rt, record::load(&source, &mut words))
 }
 
-fn replaced_at(second: bool, at: usize)
+fn replaced_at(rt: &impl Print, second: bool, at: usize) -> io::Result<()>
     requires { at < 16 }
 {
     let wrong = WRONG;
     for f in 0..31 {
-        replaced(second, at, wrong[f]);
+        replaced(rt, second, at, wrong[f])?;
     }
+    Ok(())
 }
 
-fn replaced_line(second: bool, at: usize)
+fn replaced_line(rt: &impl Print, second: bool, at: usize) -> io::Result<()>
     requires { at < 16 }
 {
-    field(b"another word at ", at as u64);
-    io::write_all(1, b":");
-    replaced_at(second, at);
-    end_line();
+    field(rt, b"another word at ", at as u64)?;
+    rt.write_all(b":")?;
+    replaced_at(rt, second, at)?;
+    end_line(rt)
 }
 
-fn all_replaced(second: bool) {
+fn all_replaced(rt: &impl Print, second: bool) -> io::Result<()> {
     for at in 0..16 {
-        replaced_line(second, at);
+        replaced_line(rt, second, at)?;
     }
+    Ok(())
 }
 
 // The first words of a record.
-fn cut(source: &[u32], len: usize)
+fn cut(rt: &impl Print, source: &[u32], len: usize) -> io::Result<()>
     requires { len ≤ length source.now }
 {
     let mut words = [0u64; 4096];
-    place(record::load(&source[..len], &mut words));
+    place(rt, record::load(&source[..len], &mut words))
 }
 
-fn all_cut(source: &[u32])
+fn all_cut(rt: &impl Print, source: &[u32]) -> io::Result<()>
     requires { length source.now ≡ 16 }
 {
     for len in 0..17 {
-        cut(source, len);
+        cut(rt, source, len)?;
     }
+    Ok(())
 }
 
 // 4,095 words of a matrix.
-fn lengths() {
+fn lengths(rt: &impl Print) -> io::Result<()> {
     let mut words = [0u64; 4095];
-    io::write_all(1, b"into 4,095 words: ");
-    loads(record::load(&[0u32; 1], &mut words));
-    end_line();
-    write_case(b"of 4,095 words: ", &words, 1, 0, 0);
+    rt.write_all(b"into 4,095 words: ")?;
+    loads(rt, record::load(&[0u32; 1], &mut words))?;
+    end_line(rt)?;
+    write_case(rt, b"of 4,095 words: ", &words, 1, 0, 0)
 }
 
 // Lent records that are one word short and exact.
-fn rooms(words: &[u64]) {
+fn rooms(rt: &impl Print, words: &[u64]) -> io::Result<()> {
     let mut short = [0u32; 14521];
-    io::write_all(1, b"one word short: ");
-    writes(record::write(words, 120, 120, 0, &mut short));
+    rt.write_all(b"one word short: ")?;
+    writes(rt, record::write(words, 120, 120, 0, &mut short))?;
     if short[0] == 0 {
-        io::write_all(1, b", the first word left");
+        rt.write_all(b", the first word left")?;
     }
     let mut exact = [0u32; 14522];
-    io::write_all(1, b"\nexact: ");
-    writes(record::write(words, 120, 120, 0, &mut exact));
-    end_line();
-    load_case(b"14,522 words: ", &exact);
+    rt.write_all(b"\nexact: ")?;
+    writes(rt, record::write(words, 120, 120, 0, &mut exact))?;
+    end_line(rt)?;
+    load_case(rt, b"14,522 words: ", &exact)
 }
 
 // The full record with one word more.
-fn too_long(words: &[u64]) {
+fn too_long(rt: &impl Print, words: &[u64]) -> io::Result<()> {
     let mut target = [0xffff_ffffu32; 14523];
     record::write(words, 120, 120, 0, &mut target);
-    load_case(b"14,523 words: ", &target);
+    load_case(rt, b"14,523 words: ", &target)
 }
 
 // One word of a matrix set.
-fn with_word(head: &[u8], w: u64, n: usize, m: usize, k: usize) {
+fn with_word(rt: &impl Print, head: &[u8], w: u64, n: usize, m: usize, k: usize) -> io::Result<()> {
     let mut words = [0u64; 4096];
     words[0] = w;
-    write_case(head, &words, n, m, k);
+    write_case(rt, head, &words, n, m, k)
 }
 
-fn large() {
+fn large(rt: &impl Print) -> io::Result<()> {
     let l = samples::cases::l();
-    write_case(b"L: ", &l, 23, 23, 0);
+    write_case(rt, b"L: ", &l, 23, 23, 0)?;
     let all = full();
-    write_case(b"full: ", &all, 120, 120, 0);
-    rooms(&all);
-    too_long(&all);
-    last_numbers(&all);
+    write_case(rt, b"full: ", &all, 120, 120, 0)?;
+    rooms(rt, &all)?;
+    too_long(rt, &all)?;
+    last_numbers(rt, &all)
 }
 
-fn faults() {
-    firsts();
-    counts();
-    numbers();
-    seconds();
-    splits();
-    first_splits();
-    last_splits();
-    ends_of_splits();
-    short_thirds();
+fn faults(rt: &impl Print) -> io::Result<()> {
+    firsts(rt)?;
+    counts(rt)?;
+    numbers(rt)?;
+    seconds(rt)?;
+    splits(rt)?;
+    first_splits(rt)?;
+    last_splits(rt)?;
+    ends_of_splits(rt)?;
+    short_thirds(rt)
 }
 
-fn replaced_and_cut() {
-    io::write_all(1, b"C with\n");
-    all_replaced(false);
-    io::write_all(1, b"C, second form, with\n");
-    all_replaced(true);
-    io::write_all(1, b"C cut:");
-    all_cut(&C);
-    io::write_all(1, b"\nC, second form, cut:");
-    all_cut(&C2);
-    end_line();
+fn replaced_and_cut(rt: &impl Print) -> io::Result<()> {
+    rt.write_all(b"C with\n")?;
+    all_replaced(rt, false)?;
+    rt.write_all(b"C, second form, with\n")?;
+    all_replaced(rt, true)?;
+    rt.write_all(b"C cut:")?;
+    all_cut(rt, &C)?;
+    rt.write_all(b"\nC, second form, cut:")?;
+    all_cut(rt, &C2)?;
+    end_line(rt)
 }
 
-fn written() {
-    lengths();
-    with_word(b"n = 121 to write: ", 0, 121, 0, 0);
-    with_word(b"a one outside: ", 2, 1, 1, 0);
-    with_word(b"rule A broken: ", 1, 1, 0, 1);
-    with_word(b"k = 1: ", 7, 2, 0, 1);
-    with_word(b"n = 1, m = 1, empty: ", 0, 1, 1, 0);
+fn written(rt: &impl Print) -> io::Result<()> {
+    lengths(rt)?;
+    with_word(rt, b"n = 121 to write: ", 0, 121, 0, 0)?;
+    with_word(rt, b"a one outside: ", 2, 1, 1, 0)?;
+    with_word(rt, b"rule A broken: ", 1, 1, 0, 1)?;
+    with_word(rt, b"k = 1: ", 7, 2, 0, 1)?;
+    with_word(rt, b"n = 1, m = 1, empty: ", 0, 1, 1, 0)
 }
 
-fn main() {
-    bench_a_and_c();
-    bench_e_and_f();
-    bench_i_and_k();
-    large();
-    faults();
-    replaced_and_cut();
-    written();
+fn main(rt: HostRuntime) -> io::Result<()> {
+    bench_a_and_c(&rt)?;
+    bench_e_and_f(&rt)?;
+    bench_i_and_k(&rt)?;
+    large(&rt)?;
+    faults(&rt)?;
+    replaced_and_cut(&rt)?;
+    written(&rt)
 }

@@ -2,37 +2,36 @@
 use parity::Refusal;
 use record::Loading;
 use samples::say::{field, refused};
+use std::io;
 use writing::Writing;
 
-pub fn loads(r: Loading) {
+pub fn loads(rt: &impl Print, r: Loading) -> io::Result<()> {
     match r {
         Loading::Loaded { n, m, k } => {
-            field(b"n = ", n as u64);
-            field(b", m = ", m as u64);
-            field(b", k = ", k as u64);
+            field(rt, b"n = ", n as u64)?;
+            field(rt, b", m = ", m as u64)?;
+            field(rt, b", k = ", k as u64)
         }
-        Loading::Refused(why) => refused(b"refused ", why),
+        Loading::Refused(why) => refused(rt, b"refused ", why),
     }
 }
 
-pub fn writes(w: Writing) {
+pub fn writes(rt: &impl Print, w: Writing) -> io::Result<()> {
     match w {
-        Writing::Written { used } => field(b"words ", used as u64),
-        Writing::Refused(why) => refused(b"refused ", why),
+        Writing::Written { used } => field(rt, b"words ", used as u64),
+        Writing::Refused(why) => refused(rt, b"refused ", why),
     }
 }
 
 // The place of the faulty word alone, and - where the record loads.
-pub fn place(r: Loading) {
+pub fn place(rt: &impl Print, r: Loading) -> io::Result<()> {
     match r {
-        Loading::Loaded { n: _, m: _, k: _ } => {
-            io::write_all(1, b" -");
-        }
+        Loading::Loaded { n: _, m: _, k: _ } => rt.write_all(b" -"),
         Loading::Refused(why) => {
             let Refusal::FaultyWord { place } = why else {
-                return;
+                return Ok(());
             };
-            field(b" ", place as u64);
+            field(rt, b" ", place as u64)
         }
     }
 }

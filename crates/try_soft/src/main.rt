@@ -5,37 +5,35 @@
 use min_sum::Decoding;
 use samples::say::{end_line, field, refused, show_float};
 use soft::floats::infinity;
+use std::io;
 
 // One bit: its byte, and its float if it is soft.
-fn symbol(byte: u8, float: f32) {
+fn symbol(rt: &impl Print, byte: u8, float: f32) -> io::Result<()> {
     match byte {
-        0 => {
-            io::write_all(1, b" 0");
-        }
-        1 => {
-            io::write_all(1, b" 1");
-        }
-        2 => {
-            io::write_all(1, b" ?");
-        }
+        0 => rt.write_all(b" 0"),
+        1 => rt.write_all(b" 1"),
+        2 => rt.write_all(b" ?"),
         3 => {
-            io::write_all(1, b" ");
-            show_float(float);
+            rt.write_all(b" ")?;
+            show_float(rt, float)
         }
-        _ => {
-            io::write_all(1, b" x");
-        }
+        _ => rt.write_all(b" x"),
     }
 }
 
-fn show(word: &[u8], floats: &[f32]) {
+fn show(rt: &impl Print, word: &[u8], floats: &[f32]) -> io::Result<()> {
     let mut i: usize = 0;
     while i < word.len() {
         if i < floats.len() {
-            symbol(word[i], floats[i]);
+            symbol(rt, word[i], floats[i])?;
         }
         i += 1;
     }
+    Ok(())
+}
+
+fn no_bytes() -> [u8; 65536] {
+    [0; 65536]
 }
 
 fn no_floats() -> [f32; 65536] {
@@ -43,6 +41,7 @@ fn no_floats() -> [f32; 65536] {
 }
 
 fn line(
+    rt: &impl Print,
     head: &[u8],
     words: &[u64],
     n: usize,
@@ -51,11 +50,11 @@ fn line(
     rounds: usize,
     word: &mut [u8],
     floats: &mut [f32],
-) {
-    io::write_all(1, head);
-    field(b", rounds ", rounds as u64);
-    io::write_all(1, b": ");
-    let mut bytes = io::large_buffer();
+) -> io::Result<()> {
+    rt.write_all(head)?;
+    field(rt, b", rounds ", rounds as u64)?;
+    rt.write_all(b": ")?;
+    let mut bytes = no_bytes();
     let mut values = no_floats();
     let answer = min_sum::min_sum(
         words,
@@ -69,30 +68,38 @@ fn line(
         &mut values,
     );
     match answer {
-        Decoding::Made => {
-            io::write_all(1, b"made");
-        }
-        Decoding::Refused(r) => refused(b"REFUSED ", r),
+        Decoding::Made => rt.write_all(b"made")?,
+        Decoding::Refused(r) => refused(rt, b"REFUSED ", r)?,
     }
-    show(word, floats);
-    end_line();
+    show(rt, word, floats)?;
+    end_line(rt)
 }
 
-fn a_words(words: &[u64]) {
+fn a_words(rt: &impl Print, words: &[u64]) -> io::Result<()> {
     let mut soft = [3, 3, 3, 3, 3, 3, 3];
     let mut f = [1.5f32, -2.0, 3.25, 0.5, -0.25, 8.0, 4.0];
-    line(b"A, soft", words, 7, 3, 0, 1, &mut soft, &mut f);
-    line(b"A, what is left", words, 7, 3, 0, 3, &mut soft, &mut f);
+    line(rt, b"A, soft", words, 7, 3, 0, 1, &mut soft, &mut f)?;
+    line(rt, b"A, what is left", words, 7, 3, 0, 3, &mut soft, &mut f)?;
     let mut mixed = [2, 2, 0, 3, 1, 3, 3];
     let mut g = [7.0f32, 7.0, 7.0, -0.75, 7.0, 0.1, -0.3];
-    line(b"A, mixed", words, 7, 3, 0, 1, &mut mixed, &mut g);
-    line(b"A, mixed, further", words, 7, 3, 0, 20, &mut mixed, &mut g);
+    line(rt, b"A, mixed", words, 7, 3, 0, 1, &mut mixed, &mut g)?;
+    line(
+        rt,
+        b"A, mixed, further",
+        words,
+        7,
+        3,
+        0,
+        20,
+        &mut mixed,
+        &mut g,
+    )
 }
 
-fn a_edges(words: &[u64]) {
+fn a_edges(rt: &impl Print, words: &[u64]) -> io::Result<()> {
     let mut zero = [3, 3, 3, 3, 3, 2, 3];
     let mut z = [-0.0f32, 0.0, -1.0, 0.0, -0.0, 9.0, -3.0];
-    line(b"A, zeros", words, 7, 3, 0, 2, &mut zero, &mut z);
+    line(rt, b"A, zeros", words, 7, 3, 0, 2, &mut zero, &mut z)?;
     let mut large = [3, 3, 3, 3, 3, 3, 3];
     let mut l = [
         1048576.0f32,
@@ -103,17 +110,28 @@ fn a_edges(words: &[u64]) {
         1048576.0,
         -0.5,
     ];
-    line(b"A, at the limit", words, 7, 3, 0, 9, &mut large, &mut l);
+    line(
+        rt,
+        b"A, at the limit",
+        words,
+        7,
+        3,
+        0,
+        9,
+        &mut large,
+        &mut l,
+    )
 }
 
-fn a_rounds(words: &[u64]) {
+fn a_rounds(rt: &impl Print, words: &[u64]) -> io::Result<()> {
     let mut w = [3, 0, 2, 1, 3, 3, 0];
     let mut f = [1.0f32, 0.0, 0.0, 0.0, -1.0, 0.5, 0.0];
-    line(b"A", words, 7, 3, 0, 0, &mut w, &mut f);
-    line(b"A", words, 7, 3, 0, 513, &mut w, &mut f);
+    line(rt, b"A", words, 7, 3, 0, 0, &mut w, &mut f)?;
+    line(rt, b"A", words, 7, 3, 0, 513, &mut w, &mut f)?;
     f[1] = infinity() - infinity();
     f[2] = -infinity();
     line(
+        rt,
         b"A, floats that do not count",
         words,
         7,
@@ -122,57 +140,97 @@ fn a_rounds(words: &[u64]) {
         1,
         &mut w,
         &mut f,
-    );
+    )
 }
 
-fn a_wrong(words: &[u64]) {
+fn a_wrong(rt: &impl Print, words: &[u64]) -> io::Result<()> {
     let mut v = [3, 0, 2, 1, 3, 3, 0];
     let mut f = [2.0f32, 0.0, 0.0, 0.0, -1048576.125, 0.0, 0.0];
     f[5] = infinity();
-    line(b"A, two wrong floats", words, 7, 3, 0, 1, &mut v, &mut f);
+    line(
+        rt,
+        b"A, two wrong floats",
+        words,
+        7,
+        3,
+        0,
+        1,
+        &mut v,
+        &mut f,
+    )?;
     v[5] = 4;
-    line(b"A, a wrong byte", words, 7, 3, 0, 512, &mut v, &mut f);
+    line(rt, b"A, a wrong byte", words, 7, 3, 0, 512, &mut v, &mut f)?;
     let mut short = [0.0f32; 6];
-    line(b"A, n - 1 floats", words, 7, 3, 0, 512, &mut v, &mut short);
+    line(
+        rt,
+        b"A, n - 1 floats",
+        words,
+        7,
+        3,
+        0,
+        512,
+        &mut v,
+        &mut short,
+    )?;
     let few = [0u64; 4095];
-    line(b"4,095 words", &few, 7, 3, 0, 0, &mut v, &mut short);
+    line(rt, b"4,095 words", &few, 7, 3, 0, 0, &mut v, &mut short)
 }
 
-fn case_a() {
+fn case_a(rt: &impl Print) -> io::Result<()> {
     let words = samples::cases::a();
-    a_words(&words);
-    a_edges(&words);
-    a_rounds(&words);
-    a_wrong(&words);
+    a_words(rt, &words)?;
+    a_edges(rt, &words)?;
+    a_rounds(rt, &words)?;
+    a_wrong(rt, &words)
 }
 
 // D, whose word ends as peeling ends.
-fn case_d() {
+fn case_d(rt: &impl Print) -> io::Result<()> {
     let words = samples::cases::d();
     let mut w = [2, 2, 2, 1, 1, 1, 1, 2];
     let mut f = [-1.0f32; 8];
-    line(b"D, sure and erased", &words, 7, 3, 1, 512, &mut w, &mut f);
+    line(
+        rt,
+        b"D, sure and erased",
+        &words,
+        7,
+        3,
+        1,
+        512,
+        &mut w,
+        &mut f,
+    )?;
     let mut v = [2, 2, 2, 3, 3, 1, 1, 2];
     let mut g = [0.0f32, 0.0, 0.0, -2.5, -1.25, 0.0, 0.0, 0.0];
-    line(b"D, soft", &words, 7, 3, 1, 4, &mut v, &mut g);
+    line(rt, b"D, soft", &words, 7, 3, 1, 4, &mut v, &mut g)
 }
 
 // {2} {0,2} and an empty check: bits 1 and 3 are in no check, and check 0 has one bit, to which it sends sure 0.
-fn few_bits() {
+fn few_bits(rt: &impl Print) -> io::Result<()> {
     let mut words = [0u64; 4096];
     words[0] = 0b100;
     words[8] = 0b101;
     let mut w = [3, 3, 3, 2];
     let mut f = [-4.0f32, -0.0, 1.0, 0.0];
-    line(b"a check of one bit", &words, 4, 3, 0, 2, &mut w, &mut f);
+    line(
+        rt,
+        b"a check of one bit",
+        &words,
+        4,
+        3,
+        0,
+        2,
+        &mut w,
+        &mut f,
+    )?;
     let none = [0u64; 4096];
     let mut v = [3, 1];
     let mut g = [-0.0f32, 3.0];
-    line(b"no checks", &none, 2, 0, 0, 512, &mut v, &mut g);
+    line(rt, b"no checks", &none, 2, 0, 0, 512, &mut v, &mut g)
 }
 
 // Soft bits near the zero codeword of L, three of them false.
-fn case_l() {
+fn case_l(rt: &impl Print) -> io::Result<()> {
     let words = samples::cases::l();
     let mut w = [3u8; 23];
     let mut f = [1.25f32; 23];
@@ -181,13 +239,13 @@ fn case_l() {
     f[11] = -1.0;
     f[12] = 2.5;
     f[20] = -0.0625;
-    line(b"L", &words, 23, 23, 0, 1, &mut w, &mut f);
-    line(b"L, further", &words, 23, 23, 0, 40, &mut w, &mut f);
+    line(rt, b"L", &words, 23, 23, 0, 1, &mut w, &mut f)?;
+    line(rt, b"L, further", &words, 23, 23, 0, 40, &mut w, &mut f)
 }
 
-fn main() {
-    case_a();
-    case_d();
-    few_bits();
-    case_l();
+fn main(rt: HostRuntime) -> io::Result<()> {
+    case_a(&rt)?;
+    case_d(&rt)?;
+    few_bits(&rt)?;
+    case_l(&rt)
 }

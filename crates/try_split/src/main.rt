@@ -10,72 +10,99 @@ use parity::{Bit, Check, Holders};
 use samples::say::{end_line, field, refused};
 use samples::words::same;
 use split::{Splitting, TakingBack};
+use std::io;
 
-fn show_count(words: &[u64], n: usize, m: usize, k: usize) {
+fn show_count(rt: &impl Print, words: &[u64], n: usize, m: usize, k: usize) -> io::Result<()> {
     match cycles::count(words, n, m, k) {
-        Counting::Cycles(c) => field(b"count ", c),
-        Counting::Refused(r) => refused(b"refused ", r),
+        Counting::Cycles(c) => field(rt, b"count ", c)?,
+        Counting::Refused(r) => refused(rt, b"refused ", r)?,
     }
-    end_line();
+    end_line(rt)
 }
 
 // The lowest and the highest check that hold a pair.
-fn show_held(held: Holders) {
+fn show_held(rt: &impl Print, held: Holders) -> io::Result<()> {
     match held {
-        Holders::None => {
-            io::write_all(1, b", held by none");
-        }
+        Holders::None => rt.write_all(b", held by none"),
         Holders::Both(low, high) => {
-            field(b", held by ", low.0 as u64);
-            field(b" to ", high.0 as u64);
+            field(rt, b", held by ", low.0 as u64)?;
+            field(rt, b" to ", high.0 as u64)
         }
     }
 }
 
-fn show_share(words: &[u64], n: usize, m: usize, k: usize, u: usize, v: usize) {
+fn show_share(
+    rt: &impl Print,
+    words: &[u64],
+    n: usize,
+    m: usize,
+    k: usize,
+    u: usize,
+    v: usize,
+) -> io::Result<()> {
     match cycles::share(words, n, m, k, Bit(u), Bit(v)) {
         Sharing::Share { share, held } => {
-            field(b"share ", share);
-            show_held(held);
+            field(rt, b"share ", share)?;
+            show_held(rt, held)?;
         }
-        Sharing::Refused(r) => refused(b"refused ", r),
+        Sharing::Refused(r) => refused(rt, b"refused ", r)?,
     }
-    end_line();
+    end_line(rt)
 }
 
-fn show_split(words: &mut [u64], n: usize, m: usize, k: usize, u: usize, v: usize) {
+fn show_split(
+    rt: &impl Print,
+    words: &mut [u64],
+    n: usize,
+    m: usize,
+    k: usize,
+    u: usize,
+    v: usize,
+) -> io::Result<()> {
     match split::split(words, n, m, k, Bit(u), Bit(v)) {
         Splitting::Made { share, k, held } => {
-            field(b"split, share ", share);
-            field(b", k ", k as u64);
-            show_held(held);
+            field(rt, b"split, share ", share)?;
+            field(rt, b", k ", k as u64)?;
+            show_held(rt, held)?;
         }
-        Splitting::Refused(r) => refused(b"refused ", r),
+        Splitting::Refused(r) => refused(rt, b"refused ", r)?,
     }
-    end_line();
+    end_line(rt)
 }
 
-fn show_take_back(words: &mut [u64], n: usize, m: usize, k: usize) {
+fn show_take_back(
+    rt: &impl Print,
+    words: &mut [u64],
+    n: usize,
+    m: usize,
+    k: usize,
+) -> io::Result<()> {
     match split::take_back(words, n, m, k) {
         TakingBack::Made { share, k } => {
-            field(b"taken back, s ", share);
-            field(b", k ", k as u64);
+            field(rt, b"taken back, s ", share)?;
+            field(rt, b", k ", k as u64)?;
         }
-        TakingBack::Refused(r) => refused(b"refused ", r),
+        TakingBack::Refused(r) => refused(rt, b"refused ", r)?,
     }
-    end_line();
+    end_line(rt)
 }
 
-fn show_result(splits: u64, sum: u64, k: usize, held: Holders) {
-    field(b"splits ", splits);
-    field(b", sum ", sum);
-    field(b", k ", k as u64);
-    show_held(held);
-    end_line();
+fn show_result(rt: &impl Print, splits: u64, sum: u64, k: usize, held: Holders) -> io::Result<()> {
+    field(rt, b"splits ", splits)?;
+    field(rt, b", sum ", sum)?;
+    field(rt, b", k ", k as u64)?;
+    show_held(rt, held)?;
+    end_line(rt)
 }
 
 // Orthogonalises, and answers the k that it came to.
-fn show_orthogonalise(words: &mut [u64], n: usize, m: usize, k: usize) -> usize {
+fn show_orthogonalise(
+    rt: &impl Print,
+    words: &mut [u64],
+    n: usize,
+    m: usize,
+    k: usize,
+) -> io::Result<usize> {
     match orthogonalise::orthogonalise(words, n, m, k) {
         Orthogonalising::Finished {
             splits,
@@ -83,12 +110,12 @@ fn show_orthogonalise(words: &mut [u64], n: usize, m: usize, k: usize) -> usize 
             k,
             held,
         } => {
-            show_result(splits, sum, k, held);
-            k
+            show_result(rt, splits, sum, k, held)?;
+            Ok(k)
         }
         Orthogonalising::Refused(r) => {
-            refused(b"refused ", r);
-            end_line();
+            refused(rt, b"refused ", r)?;
+            end_line(rt)?;
             if let parity::Refusal::NoRoomLeft {
                 splits,
                 sum,
@@ -96,88 +123,89 @@ fn show_orthogonalise(words: &mut [u64], n: usize, m: usize, k: usize) -> usize 
                 held,
             } = r
             {
-                show_result(splits, sum, k, held);
-                return k;
+                show_result(rt, splits, sum, k, held)?;
+                return Ok(k);
             }
-            0
+            Ok(0)
         }
     }
 }
 
 // The first word of check `c`.
-fn show_check(words: &[u64], c: usize) {
+fn show_check(rt: &impl Print, words: &[u64], c: usize) -> io::Result<()> {
     let at = c % 512 * 8;
     if at < words.len() {
-        field(b" ", words[at]);
+        field(rt, b" ", words[at])?;
     }
+    Ok(())
 }
 
-fn show_checks(words: &[u64]) {
-    io::write_all(1, b"checks");
-    show_check(words, 0);
-    show_check(words, 1);
-    show_check(words, 2);
-    show_check(words, 3);
-    end_line();
+fn show_checks(rt: &impl Print, words: &[u64]) -> io::Result<()> {
+    rt.write_all(b"checks")?;
+    show_check(rt, words, 0)?;
+    show_check(rt, words, 1)?;
+    show_check(rt, words, 2)?;
+    show_check(rt, words, 3)?;
+    end_line(rt)
 }
 
-fn case_a() {
-    io::write_all(1, b"A\n");
+fn case_a(rt: &impl Print) -> io::Result<()> {
+    rt.write_all(b"A\n")?;
     let mut words = samples::cases::a();
-    show_count(&words, 7, 3, 0);
-    show_share(&words, 7, 3, 0, 6, 3);
-    let k = show_orthogonalise(&mut words, 7, 3, 0);
-    show_checks(&words);
-    show_count(&words, 7, 3, k);
+    show_count(rt, &words, 7, 3, 0)?;
+    show_share(rt, &words, 7, 3, 0, 6, 3)?;
+    let k = show_orthogonalise(rt, &mut words, 7, 3, 0)?;
+    show_checks(rt, &words)?;
+    show_count(rt, &words, 7, 3, k)
 }
 
-fn case_c() {
-    io::write_all(1, b"C\n");
+fn case_c(rt: &impl Print) -> io::Result<()> {
+    rt.write_all(b"C\n")?;
     let mut words = samples::cases::c();
-    show_count(&words, 7, 3, 0);
-    show_split(&mut words, 7, 3, 0, 0, 3);
-    show_split(&mut words, 7, 3, 0, 4, 4);
-    show_split(&mut words, 7, 3, 0, 1, 0);
-    show_checks(&words);
+    show_count(rt, &words, 7, 3, 0)?;
+    show_split(rt, &mut words, 7, 3, 0, 0, 3)?;
+    show_split(rt, &mut words, 7, 3, 0, 4, 4)?;
+    show_split(rt, &mut words, 7, 3, 0, 1, 0)?;
+    show_checks(rt, &words)
 }
 
-fn case_e() {
-    io::write_all(1, b"E\n");
+fn case_e(rt: &impl Print) -> io::Result<()> {
+    rt.write_all(b"E\n")?;
     let mut words = samples::cases::e();
-    show_count(&words, 3, 2, 0);
-    let k = show_orthogonalise(&mut words, 3, 2, 0);
-    show_checks(&words);
-    show_count(&words, 3, 2, k);
+    show_count(rt, &words, 3, 2, 0)?;
+    let k = show_orthogonalise(rt, &mut words, 3, 2, 0)?;
+    show_checks(rt, &words)?;
+    show_count(rt, &words, 3, 2, k)
 }
 
 // E split by hand, 0 with 1 and then 2 with the new bit, looked at, and taken back to E.
-fn case_e_by_hand() {
-    io::write_all(1, b"E by hand\n");
+fn case_e_by_hand(rt: &impl Print) -> io::Result<()> {
+    rt.write_all(b"E by hand\n")?;
     let mut words = samples::cases::e();
-    show_split(&mut words, 3, 2, 0, 0, 1);
-    show_split(&mut words, 3, 2, 1, 3, 2);
-    show_checks(&words);
-    show_count(&words, 3, 2, 2);
-    show_take_back(&mut words, 3, 2, 2);
-    show_checks(&words);
-    show_take_back(&mut words, 3, 2, 1);
-    show_checks(&words);
-    show_take_back(&mut words, 3, 2, 0);
+    show_split(rt, &mut words, 3, 2, 0, 0, 1)?;
+    show_split(rt, &mut words, 3, 2, 1, 3, 2)?;
+    show_checks(rt, &words)?;
+    show_count(rt, &words, 3, 2, 2)?;
+    show_take_back(rt, &mut words, 3, 2, 2)?;
+    show_checks(rt, &words)?;
+    show_take_back(rt, &mut words, 3, 2, 1)?;
+    show_checks(rt, &words)?;
+    show_take_back(rt, &mut words, 3, 2, 0)
 }
 
 // Accepted matrices that no splits made: {1,4} {0,1,3} {0,2,4} with m = 1 would break rule A; {0,1,2} with m = 0 would not.
-fn case_not_split() {
-    io::write_all(1, b"not split\n");
+fn case_not_split(rt: &impl Print) -> io::Result<()> {
+    rt.write_all(b"not split\n")?;
     let mut words = [0u64; 4096];
     words[0] = 0b10010;
     words[8] = 0b1011;
     words[16] = 0b10101;
-    show_take_back(&mut words, 3, 1, 2);
-    show_checks(&words);
+    show_take_back(rt, &mut words, 3, 1, 2)?;
+    show_checks(rt, &words)?;
     let mut words = [0u64; 4096];
     words[0] = 0b111;
-    show_take_back(&mut words, 2, 0, 1);
-    show_checks(&words);
+    show_take_back(rt, &mut words, 2, 0, 1)?;
+    show_checks(rt, &words)
 }
 
 // The ones of the first `m` checks.
@@ -192,23 +220,24 @@ fn ones(words: &[u64], m: usize) -> u64
 }
 
 // Takes back the `k` splits of L.
-fn take_all_back(words: &mut [u64], k: usize) {
+fn take_all_back(rt: &impl Print, words: &mut [u64], k: usize) -> io::Result<()> {
     for i in 0..k {
-        show_take_back(words, 23, 23, k - i);
+        show_take_back(rt, words, 23, 23, k - i)?;
     }
+    Ok(())
 }
 
-fn case_l() {
-    io::write_all(1, b"L\n");
+fn case_l(rt: &impl Print) -> io::Result<()> {
+    rt.write_all(b"L\n")?;
     let mut words = samples::cases::l();
-    field(b"ones ", ones(&words, 23));
-    end_line();
-    show_count(&words, 23, 23, 0);
+    field(rt, b"ones ", ones(&words, 23))?;
+    end_line(rt)?;
+    show_count(rt, &words, 23, 23, 0)?;
     let before = words;
-    let k = show_orthogonalise(&mut words, 23, 23, 0);
-    show_count(&words, 23, 23, k);
-    take_all_back(&mut words, k);
-    show_whether_same(&words, &before);
+    let k = show_orthogonalise(rt, &mut words, 23, 23, 0)?;
+    show_count(rt, &words, 23, 23, k)?;
+    take_all_back(rt, &mut words, k)?;
+    show_whether_same(rt, &words, &before)
 }
 
 // The next of a run of pseudo-random words.
@@ -232,13 +261,13 @@ fn dense(words: &mut [u64])
     }
 }
 
-fn case_dense() {
-    io::write_all(1, b"dense\n");
+fn case_dense(rt: &impl Print) -> io::Result<()> {
+    rt.write_all(b"dense\n")?;
     let mut words = [0u64; 4096];
     dense(&mut words);
-    show_count(&words, 120, 120, 0);
-    let k = show_orthogonalise(&mut words, 120, 120, 0);
-    show_count(&words, 120, 120, k);
+    show_count(rt, &words, 120, 120, 0)?;
+    let k = show_orthogonalise(rt, &mut words, 120, 120, 0)?;
+    show_count(rt, &words, 120, 120, k)
 }
 
 // Checks 0 and 119 contain bits 64 to 119; added check 120 + j contains bit 120 + j and a pair of lower ones that no other check contains.
@@ -255,78 +284,86 @@ fn extended(words: &mut [u64])
     }
 }
 
-fn show_whether_same(words: &[u64; 4096], before: &[u64; 4096]) {
+fn show_whether_same(rt: &impl Print, words: &[u64; 4096], before: &[u64; 4096]) -> io::Result<()> {
     if same(words, before) {
-        io::write_all(1, b"words as they were\n");
+        rt.write_all(b"words as they were\n")
     } else {
-        io::write_all(1, b"words changed\n");
+        rt.write_all(b"words changed\n")
     }
 }
 
 // The share, the split, and whether the words are afterwards as they were.
-fn show_split_and_words(words: &mut [u64; 4096], k: usize, u: usize, v: usize) {
+fn show_split_and_words(
+    rt: &impl Print,
+    words: &mut [u64; 4096],
+    k: usize,
+    u: usize,
+    v: usize,
+) -> io::Result<()> {
     let before = *words;
-    show_share(words, 120, 120, k, u, v);
-    show_split(words, 120, 120, k, u, v);
-    show_whether_same(words, &before);
+    show_share(rt, words, 120, 120, k, u, v)?;
+    show_split(rt, words, 120, 120, k, u, v)?;
+    show_whether_same(rt, words, &before)
 }
 
 // Pairs held by check 63, by 64, by both, by checks 0 and 119, and by none.
-fn case_edges() {
-    io::write_all(1, b"edges of words\n");
+fn case_edges(rt: &impl Print) -> io::Result<()> {
+    rt.write_all(b"edges of words\n")?;
     let mut words = [0u64; 4096];
     words[0] = 0b11000000;
     words[504] = 0b1111;
     words[512] = 0b110011;
     words[952] = 0b11000000;
-    show_share(&words, 8, 120, 0, 0, 1);
-    show_share(&words, 8, 120, 0, 2, 3);
-    show_share(&words, 8, 120, 0, 4, 5);
-    show_share(&words, 8, 120, 0, 7, 6);
-    show_share(&words, 8, 120, 0, 2, 4);
-    show_split(&mut words, 8, 120, 0, 2, 4);
-    show_split(&mut words, 8, 120, 0, 2, 3);
-    let k = show_orthogonalise(&mut words, 8, 120, 0);
-    show_share(&words, 8, 120, k, 0, 1);
-    show_share(&words, 8, 120, k, 6, 9);
-    let _ = show_orthogonalise(&mut words, 8, 120, k);
+    show_share(rt, &words, 8, 120, 0, 0, 1)?;
+    show_share(rt, &words, 8, 120, 0, 2, 3)?;
+    show_share(rt, &words, 8, 120, 0, 4, 5)?;
+    show_share(rt, &words, 8, 120, 0, 7, 6)?;
+    show_share(rt, &words, 8, 120, 0, 2, 4)?;
+    show_split(rt, &mut words, 8, 120, 0, 2, 4)?;
+    show_split(rt, &mut words, 8, 120, 0, 2, 3)?;
+    let k = show_orthogonalise(rt, &mut words, 8, 120, 0)?;
+    show_share(rt, &words, 8, 120, k, 0, 1)?;
+    show_share(rt, &words, 8, 120, k, 6, 9)?;
+    let _ = show_orthogonalise(rt, &mut words, 8, 120, k)?;
+    Ok(())
 }
 
 // Pairs that an added check alone holds: 127, 128 and the last.
-fn show_added(words: &[u64]) {
-    show_share(words, 120, 120, 391, 7, 20);
-    show_share(words, 120, 120, 391, 20, 8);
-    show_share(words, 120, 120, 391, 10, 510);
-    show_share(words, 120, 120, 391, 7, 8);
+fn show_added(rt: &impl Print, words: &[u64]) -> io::Result<()> {
+    show_share(rt, words, 120, 120, 391, 7, 20)?;
+    show_share(rt, words, 120, 120, 391, 20, 8)?;
+    show_share(rt, words, 120, 120, 391, 10, 510)?;
+    show_share(rt, words, 120, 120, 391, 7, 8)
 }
 
 // Orthogonalises where k is at its end or close to it.
-fn show_refused_9(words: &mut [u64; 4096], k: usize) {
-    let _ = show_orthogonalise(words, 120, 120, k);
+fn show_refused_9(rt: &impl Print, words: &mut [u64; 4096], k: usize) -> io::Result<()> {
+    let _ = show_orthogonalise(rt, words, 120, 120, k)?;
+    Ok(())
 }
 
 // At k = 391 a split is made; at 392 it is refused. Orthogonalising is refused 9 after one split, and at once.
-fn case_most() {
-    io::write_all(1, b"k to 392\n");
+fn case_most(rt: &impl Print) -> io::Result<()> {
+    rt.write_all(b"k to 392\n")?;
     let mut words = [0u64; 4096];
     extended(&mut words);
-    show_count(&words, 120, 120, 391);
-    show_added(&words);
+    show_count(rt, &words, 120, 120, 391)?;
+    show_added(rt, &words)?;
     let mut copy = words;
-    show_refused_9(&mut copy, 391);
-    show_split_and_words(&mut words, 391, 64, 65);
-    show_split_and_words(&mut words, 392, 66, 67);
-    show_refused_9(&mut words, 392);
+    show_refused_9(rt, &mut copy, 391)?;
+    show_split_and_words(rt, &mut words, 391, 64, 65)?;
+    show_split_and_words(rt, &mut words, 392, 66, 67)?;
+    show_refused_9(rt, &mut words, 392)
 }
 
-fn main() {
-    case_a();
-    case_c();
-    case_e();
-    case_e_by_hand();
-    case_not_split();
-    case_l();
-    case_dense();
-    case_edges();
-    case_most();
+fn main(rt: HostRuntime) -> io::Result<()> {
+    case_a(&rt)?;
+    case_c(&rt)?;
+    case_e(&rt)?;
+    case_e_by_hand(&rt)?;
+    case_not_split(&rt)?;
+    case_l(&rt)?;
+    case_dense(&rt)?;
+    case_edges(&rt)?;
+    case_most(&rt)
 }

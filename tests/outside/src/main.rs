@@ -84,7 +84,7 @@ fn mend() -> Result<Outcome, String> {
     match mend::program() {
         Some(path) => noted(mend::run(&path)),
         None => {
-            let how = "the program is missing: run `rt check mend` in the root of the repository, or set PARITY_MEND to its path";
+            let how = "the program is missing: run `packaging/build mend` in the root of the repository, or set PARITY_MEND to its path";
             Ok(Outcome::Skipped(how.to_string()))
         }
     }

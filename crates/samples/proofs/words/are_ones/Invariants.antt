@@ -1,8 +1,6 @@
--- What the loops of `are_ones` keep.
-use mathlib.Core.Path.{◌≡◌}
-use Prim.Native.Nat.{◌-◌, ◌≤◌}
-use lib.ListN.{length, take, replicate}
+-- The words so far are ones.
+use Rattle.std.proofs.Common.{◌≡◌, ℕ, ◌<◌, get_or}
 use Rattle.samples.proofs.words.are_ones.Given as goal
 
 abbrev pub invariant-loop-i : goal.invariant-loop-i
-invariant-loop-i l = (l.i ≤ l.i-end) × (l.i-end ≡ length l.words) × (take l.i l.words ≡ replicate l.i 0xffffffffffffffff)
+invariant-loop-i l = (k : ℕ) → k < l.i → get_or l.words k 0 ≡ 0xffffffffffffffff

@@ -13,7 +13,7 @@ use Rattle.parity.specs.Sound.{Clean, Sound, Newest}
 use Rattle.parity.proofs.Finite.Sums.{is_true, is_false, is, count_cong, count_suc, count_mono, count_end, count_pos}
 use Rattle.parity.proofs.Matrix.Sound.{sound_rule}
 use Rattle.parity.proofs.Splits.Back.{back_at, back_bit, back_clean}
-use Rattle.parity.proofs.Splits.Undo.{newest, no_third, lower_at, higher_at, pair_own}
+use Rattle.parity.proofs.Splits.Undo.{no_third, lower_at, higher_at, pair_own}
 use Rattle.rows.specs.Rows.{NextOne}
 use Rattle.columns.specs.Columns.{Columns}
 use Rattle.columns.specs.Three.{Apart}

@@ -11,7 +11,7 @@ use borrow.Author.Tests.{eq-eqb}
 use Rattle.parity.specs.Matrix.{Matrix}
 use Rattle.parity.specs.Cycles.{share, split_of}
 use Rattle.parity.specs.Splits.{Pair, split_right}
-use Rattle.parity.specs.Record.{kind_of, payload, pair_in, split_word}
+use Rattle.parity.specs.Record.{kind_of, pair_in, split_word}
 use Rattle.parity.specs.declared.Form.TheVariants.{Third}
 use Rattle.parity.specs.Sound.{Sound}
 use Rattle.parity.proofs.Finite.Sums.{is_true, is_false, is}

@@ -1,6 +1,6 @@
 -- The echelon form: clearing below the pivots alone follows the elimination that clears all checks; and the turn of a bit in both. Assumes nothing.
 use mathlib.Core.Path.{◌≡◌, refl, sym, ◌∙◌}
-use mathlib.Core.Bool.{true, false, xor}
+use mathlib.Core.Bool.{false, xor}
 use mathlib.Core.List.{List}
 use Prim.Native.Nat.{ℕ, ◌+◌, ◌≤◌, ◌<◌}
 use native.Mathlib.Omega.{arith}
@@ -9,7 +9,7 @@ use lib.ListN.{get_or, length, set}
 use lib.Seq.{get_or-set_same, get_or-set_other}
 use Rattle.parity.specs.Matrix.{Matrix}
 use Rattle.rows.proofs.Writing.{combined_at}
-use Rattle.elimination.specs.Reduction.{FirstIn, Same, lifted, around, every_bit, Echelon, Turned}
+use Rattle.elimination.specs.Reduction.{FirstIn, lifted, around, every_bit, Echelon, Turned}
 use Rattle.elimination.proofs.Clearing.{same_trans, around_own, around_else, around_out, around_same, lifted_one, lifted_two, lifted_else, lifted_same, lifted_keep, lifted_own, pivoted}
 use Rattle.elimination.proofs.Turns.{reduction_none, reduction_pivot, reduction_start}
 

@@ -1,5 +1,5 @@
 -- Laws of the lines, and of the record words one after another. Assumes nothing.
-use Prim.Native.Nat.{ℕ, zero, suc, ◌+◌, ◌*◌, ◌-◌, ◌≤◌, ◌<◌}
+use Prim.Native.Nat.{ℕ, zero, suc, ◌+◌, ◌-◌, ◌≤◌, ◌<◌}
 use mathlib.Core.Path.{◌≡◌, ◌∙◌, sym, ap}
 use mathlib.Core.List.{List, [], ◌∷◌, ◌++◌, append_assoc, append-nil}
 use native.Mathlib.Omega.{arith}
@@ -7,7 +7,6 @@ use native.Mathlib.Nat.{add-suc, add-zero}
 use native.Mathlib.Numerals.{add-one}
 use borrow.Author.Tests.{eq-eqb, ne_eqb}
 use lib.ListN.{length, length-append, take-append-drop}
-use Rattle.parity.specs.Finite.{list_from}
 use Rattle.parity.specs.Calls.{byte_of}
 use Rattle.parity.specs.Mend.{decimal, splits_head, sum_head, residue_head, residue_text, word_head, shown, refused_line, report}
 use Rattle.parity.proofs.Finite.Lists.{length_list_from, list_from_more}

@@ -12,7 +12,7 @@ use Rattle.parity.specs.Causes.{Reply, answer, accepting}
 use Rattle.parity.specs.Calls.{accept_reply}
 use Rattle.parity.proofs.Matrix.Accept.{Accepted}
 use Rattle.parity.proofs.Causes.Refused.{accepted_passes}
-use Rattle.parity.specs.Soft.{message_at, result_after, sound}
+use Rattle.parity.specs.Soft.{message_at, result_after}
 use Rattle.parity.specs.SoftCall.{soft_reply, min_sum_reply, min_sum_outcome}
 use Rattle.parity.proofs.Soft.Cong.{result_same}
 use Rattle.min_sum.specs.Answers.{Results}

@@ -2,7 +2,7 @@
 use Rattle.bit_row.proofs.Cursor.{gathering_none, gathering_end, gathering_now, gathering_more}
 use Rattle.messages.proofs.Places.{laid_same}
 use native.Mathlib.Omega.{arith}
-use Prim.Native.Nat.{◌+◌, ◌*◌, ◌-◌, ◌<◌}
+use Prim.Native.Nat.{◌+◌, ◌*◌, ◌<◌}
 use mathlib.Core.Path.{◌≡◌, sym, ◌∙◌}
 use Rattle.bit_row.proofs.gather.Goals as goal
 

@@ -2,7 +2,7 @@
 use Rattle.messages.proofs.Places.{laid_same, none_counted}
 use Rattle.bit_row.proofs.Row.{spread_none, spread_more, spread_end}
 use native.Mathlib.Omega.{arith}
-use Prim.Native.Nat.{◌+◌, ◌*◌, ◌-◌, ◌<◌}
+use Prim.Native.Nat.{◌+◌, ◌*◌, ◌<◌}
 use mathlib.Core.Path.{◌≡◌}
 use Rattle.bit_row.proofs.scatter.Goals as goal
 
@@ -25,7 +25,7 @@ loop-i-preserved c = let l = c.loop-i in
     let k : l.i < 8 = omega (arith, c.loop-i-test.true, c.requires.laid_across.1.most) in
     let e : l.i * 64 + 64 ≡ (l.i + 1) * 64 = omega arith in
     let E = rw e at c.scatter_word-d.ensures in
-    (omega (arith, k), E.0, spread_more _ _ _ _ _ _ (l.i * 64) _ _ l.invariant.2 _ _ _ c.requires.b_bound.0 (omega arith) (omega arith) E.1)
+    (omega (arith, k), E.value, spread_more _ _ _ _ _ _ (l.i * 64) _ _ l.invariant.2 _ _ _ c.requires.b_bound.0 (omega arith) (omega arith) E.spread)
 
 pub shape_of-tags : goal.shape_of-tags
 shape_of-tags c = c.loop-i.invariant.2.tags

@@ -4,7 +4,7 @@ use Rattle.messages.specs.Memory.{across, column}
 use Rattle.bit_row.specs.Row.{Spread}
 use Rattle.parity.specs.Finite.{count}
 use Rattle.parity.specs.Matrix.{lent}
-use Prim.Native.Nat.{ℕ, ◌*◌, ◌-◌}
+use Prim.Native.Nat.{ℕ, ◌*◌}
 use mathlib.Core.Path.{◌≡◌}
 use Rattle.bit_row.proofs.scatter_word.Given as goal
 

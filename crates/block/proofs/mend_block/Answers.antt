@@ -11,8 +11,7 @@ use Rattle.block.proofs.Stages.{word_refused}
 use Rattle.block.proofs.mend_block.Goals as goal
 
 pub returns-then-k-gt0 : goal.returns-then-k-gt0
-returns-then-k-gt0 c = let ws = c.args.words.now in
-    let w = c.args.word.now in
+returns-then-k-gt0 c = let w = c.args.word.now in
     let e = c.refuse_added.ensures.all w in
     record { result_value = sym (ap (λ (o : Outcome). o.reply) e); word_after = sym (ap (λ (o : Outcome). o.after) e) }
 
@@ -27,7 +26,8 @@ pub returns-in-Refused : goal.returns-in-Refused
 returns-in-Refused c = let ws = c.args.words.now in
     let w = c.args.word.now in
     let z : c.args.k ≡ 0 = omega arith in
-    rw z (word_refused ws c.args.n c.args.m w c.in-Refused.r (rw z at (sym (ap accepting_reply c.in-Refused.is) ∙ c.admit.ensures)))
+    let both = word_refused ws c.args.n c.args.m w c.in-Refused.r (rw z at (sym (ap accepting_reply c.in-Refused.is) ∙ c.admit.ensures)) in
+    rw z record { result_value = both.0; word_after = both.1 }
 
 pub returns-in-Accepted : goal.returns-in-Accepted
 returns-in-Accepted c = let ws = c.args.words.now in

@@ -12,8 +12,7 @@ use Rattle.block.proofs.Stages.{front_word, is_longer, no_copy, told_word, copy_
 use Rattle.block.proofs.peel_copy.Goals as goal
 
 pub peel_extended-requires : goal.peel_extended-requires
-peel_extended-requires c = let ws = c.args.words.now in
-    let w = c.args.word.now in
+peel_extended-requires c = let w = c.args.word.now in
     (c.requires.0, is_longer c.args.n w c.args.longer.now c.requires.1 c.requires.3 c.requires.2)
 
 pub overflow_add-both : goal.overflow_add-both
@@ -36,23 +35,17 @@ returns-then-left-ne0 c = let ws = c.args.words.now in
     record { word_after = sym f; kept = refl }
 
 pub slice_bounds-copy_front-end : goal.slice_bounds-copy_front-end
-slice_bounds-copy_front-end c = let ws = c.args.words.now in
-    let w = c.args.word.now in
-    let K = c.peel_extended.auto.longer in
+slice_bounds-copy_front-end c = let w = c.args.word.now in
     let room : c.args.n ≤ length c.peel_extended.new.longer = omega (arith, ap length c.requires.3 ∙ longer_size c.args.n w c.requires.1 (512 - c.args.n)) in
     room
 
 pub slice_bounds-copy_front-end-in-Made : goal.slice_bounds-copy_front-end-in-Made
-slice_bounds-copy_front-end-in-Made c = let ws = c.args.words.now in
-    let w = c.args.word.now in
-    let K = c.peel_extended.auto.longer in
+slice_bounds-copy_front-end-in-Made c = let w = c.args.word.now in
     let room : c.args.n ≤ length c.peel_extended.new.longer = omega (arith, ap length c.requires.3 ∙ longer_size c.args.n w c.requires.1 (512 - c.args.n)) in
     sym (length-take-le c.args.n c.peel_extended.new.longer room)
 
 pub copy_front-requires : goal.copy_front-requires
-copy_front-requires c = let ws = c.args.words.now in
-    let w = c.args.word.now in
-    let K = c.peel_extended.auto.longer in
+copy_front-requires c = let w = c.args.word.now in
     let room : c.args.n ≤ length c.peel_extended.new.longer = omega (arith, ap length c.requires.3 ∙ longer_size c.args.n w c.requires.1 (512 - c.args.n)) in
     omega (arith, c.requires.1, length-take-le c.args.n c.peel_extended.new.longer room)
 
@@ -77,7 +70,6 @@ returns-else-left-ne0 c = let ws = c.args.words.now in
     let front = front_word c.args.n w c.args.longer.now c.requires.1 c.requires.3 in
     let q = sym (ap no_room c.in-Made.is) ∙ P.result_value in
     let e = sym (ap copy_peeling_reply c.in-Made.is) ∙ P.result_value_2 ∙ ap (copy_reply ws c.args.n c.args.m) front in
-    let K = c.peel_extended.auto.longer in
     let room : c.args.n ≤ length c.peel_extended.new.longer = omega (arith, ap length c.requires.3 ∙ longer_size c.args.n w c.requires.1 (512 - c.args.n)) in
     let f = none_remains ws c.args.n c.args.m w q _ _ c.args.recovered e c.if-left-ne0.false in
     let whole = replaced _ w _ (length-take-le c.args.n c.peel_extended.new.longer room ∙ sym c.requires.1) c.copy_front.ensures in

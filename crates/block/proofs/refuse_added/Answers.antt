@@ -8,9 +8,9 @@ use Rattle.block.proofs.refuse_added.Goals as goal
 
 pub returns-in-Refused : goal.returns-in-Refused
 returns-in-Refused c = record {
-      all = matrix_refused c.args.words.now c.args.n c.args.m c.args.k c.in-Refused.r
-          (sym (ap accepting_reply c.in-Refused.is) ∙ c.accept.ensures);
-    }
+  all = matrix_refused c.args.words.now c.args.n c.args.m c.args.k c.in-Refused.r
+      (sym (ap accepting_reply c.in-Refused.is) ∙ c.accept.ensures);
+}
 
 pub returns-in-Accepted : goal.returns-in-Accepted
 returns-in-Accepted c = let q = accepted_cause c.args.words.now c.args.n c.args.m c.args.k (sym (ap accepting_reply c.in-Accepted.is) ∙ c.accept.ensures) in

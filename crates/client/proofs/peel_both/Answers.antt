@@ -27,7 +27,6 @@ peel_front-requires-in-Refused c = let A = (accepts c.args.words.now c.args.n c.
 pub peel_front-requires-in-Finished : goal.peel_front-requires-in-Finished
 peel_front-requires-in-Finished c = let ws = c.args.words.now in
     let O = c.orthogonalise.ensures in
-    let g = c.k-1.given in
     let (o, j) = copied_one ws c.args.n c.args.m c.requires.0 c.args.own.now _ _ c.requires.1 c.copy_words.ensures _ _ _ _ (sym (ap orthogonalising_reply c.in-Finished.is) ∙ O.result_value) O.words_after in
     let F = few ws c.args.n c.args.m c.requires.0 (orthogonalises ∷ []) in
     (room c.args.n _ c.args.given.now c.args.longer.now c.requires.2 c.requires.3 (omega (arith, F.0)), omega (arith, F.1))
@@ -41,7 +40,6 @@ returns-in-Refused c = let ws = c.args.words.now in
 pub returns-in-Finished : goal.returns-in-Finished
 returns-in-Finished c = let ws = c.args.words.now in
     let O = c.orthogonalise.ensures in
-    let g = c.k-1.given in
     let (o, j) = copied_one ws c.args.n c.args.m c.requires.0 c.args.own.now _ _ c.requires.1 c.copy_words.ensures _ _ _ _ (sym (ap orthogonalising_reply c.in-Finished.is) ∙ O.result_value) O.words_after in
     let E = c.peel_front-in-Finished.ensures in
     relies ws c.args.n c.args.m c.requires.0 (orthogonalises ∷ []) c.args.given.now c.args.longer.now c.requires.2 c.requires.3 _ _ o j _ _ _ c.peel_front.ensures.bytes_after E.bytes_after E.value

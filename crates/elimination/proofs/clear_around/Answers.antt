@@ -15,9 +15,9 @@ overflow_mul-r c = record { fits = omega (arith, row_room c.args.width c.args.r 
 
 pub copy_words-requires : goal.copy_words-requires
 copy_words-requires c = (
-      omega (arith, c.requires.1, c.row_of-row.ensures.blank.size),
-      omega (arith, c.clear.auto.rows, row_room c.args.width c.args.r c.args.checks c.requires.4),
-    )
+  omega (arith, c.requires.1, c.row_of-row.ensures.blank.size),
+  omega (arith, c.clear.auto.rows, row_room c.args.width c.args.r c.args.checks c.requires.4),
+)
 
 pub returns : goal.returns
 returns c = row_back _ _ _ _ _ _ _ _ _ c.row_of-row.ensures c.clear.ensures c.copy_words.ensures

@@ -3,7 +3,7 @@ use Rattle.elimination.proofs.Turns.{reduction_start, reduction_over}
 use borrow.Author.Rules.{rules}
 use native.Mathlib.Omega.{arith}
 use mathlib.Core.Path.{◌≡◌, refl, ◌∙◌}
-use Prim.Native.Nat.{◌*◌, ◌-◌}
+use Prim.Native.Nat.{◌*◌}
 use Rattle.elimination.proofs.reduce_in.Goals as goal
 
 pub loop-b-init : goal.loop-b-init

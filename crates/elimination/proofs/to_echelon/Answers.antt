@@ -2,7 +2,6 @@
 use Rattle.elimination.proofs.Echelons.{echelon_start}
 use native.Mathlib.Omega.{arith}
 use mathlib.Core.Path.{◌≡◌, refl, ◌∙◌}
-use Prim.Native.Nat.{◌-◌}
 use Rattle.elimination.proofs.to_echelon.Goals as goal
 
 pub loop-b-init : goal.loop-b-init
@@ -14,11 +13,11 @@ turn-r-requires c = let l = c.loop-b in
 
 pub loop-b-preserved : goal.loop-b-preserved
 loop-b-preserved c = let l = c.loop-b in (
-      omega arith,
-      c.turn-r.auto.rows ∙ l.invariant.1,
-      c.turn-r.auto.pivots ∙ l.invariant.2,
-      c.turn-r.ensures.below refl _ _ l.invariant.3,
-    )
+  omega arith,
+  c.turn-r.auto.rows ∙ l.invariant.1,
+  c.turn-r.auto.pivots ∙ l.invariant.2,
+  c.turn-r.ensures.below refl _ _ l.invariant.3,
+)
 
 pub returns : goal.returns
 returns c = let l = c.loop-b in

@@ -3,7 +3,7 @@ use Rattle.elimination.specs.Reduction.{Echelon}
 use Rattle.parity.specs.Matrix.{lent}
 use lib.ListN.{length}
 use mathlib.Core.Path.{◌≡◌}
-use Prim.Native.Nat.{◌≤◌, ◌-◌}
+use Prim.Native.Nat.{◌≤◌}
 use Rattle.elimination.proofs.to_echelon.Given as goal
 
 abbrev pub invariant-loop-b : goal.invariant-loop-b

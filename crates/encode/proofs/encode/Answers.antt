@@ -7,17 +7,20 @@ use mathlib.Core.Path.{sym, ap, ◌∙◌}
 use Rattle.encode.proofs.encode.Goals as goal
 
 pub returns-then-k-ne0 : goal.returns-then-k-ne0
-returns-then-k-ne0 c = let both = encode_added c.args.words.now c.args.n c.args.m c.args.k c.args.message.now c.args.word.now (accepted_words c.args.words.now c.args.n c.args.m c.args.k (ap accepting_reply (sym c.in-Accepted.is) ∙ c.accept-accepted.ensures)) c.if-k-ne0.true in record { result_value = both.0; word_after = both.1 }
+returns-then-k-ne0 c = let r = encode_added c.args.words.now c.args.n c.args.m c.args.k c.args.message.now c.args.word.now (accepted_words c.args.words.now c.args.n c.args.m c.args.k (ap accepting_reply (sym c.in-Accepted.is) ∙ c.accept-accepted.ensures)) c.if-k-ne0.true in
+    record { result_value = r.0; word_after = r.1 }
 
 pub returns-then-word-n : goal.returns-then-word-n
-returns-then-word-n c = let both = encode_length c.args.words.now c.args.n c.args.m c.args.k c.args.message.now c.args.word.now (accepted_words c.args.words.now c.args.n c.args.m c.args.k (ap accepting_reply (sym c.in-Accepted.is) ∙ c.accept-accepted.ensures)) c.if-k-ne0.false c.if-word-n.true in record { result_value = both.0; word_after = both.1 }
+returns-then-word-n c = let r = encode_length c.args.words.now c.args.n c.args.m c.args.k c.args.message.now c.args.word.now (accepted_words c.args.words.now c.args.n c.args.m c.args.k (ap accepting_reply (sym c.in-Accepted.is) ∙ c.accept-accepted.ensures)) c.if-k-ne0.false c.if-word-n.true in
+    record { result_value = r.0; word_after = r.1 }
 
 pub encode_given-requires : goal.encode_given-requires
 encode_given-requires c = let A = accepted_words c.args.words.now c.args.n c.args.m c.args.k (ap accepting_reply (sym c.in-Accepted.is) ∙ c.accept-accepted.ensures) in
     (A.words, A.sound.m120, omega (arith, A.sound.n120, c.if-word-n.false))
 
 pub returns-in-Refused : goal.returns-in-Refused
-returns-in-Refused c = let both = encode_first c.args.words.now c.args.n c.args.m c.args.k c.args.message.now c.args.word.now c.in-Refused.r (ap accepting_reply (sym c.in-Refused.is) ∙ c.accept-accepted.ensures) in record { result_value = both.0; word_after = both.1 }
+returns-in-Refused c = let r = encode_first c.args.words.now c.args.n c.args.m c.args.k c.args.message.now c.args.word.now c.in-Refused.r (ap accepting_reply (sym c.in-Refused.is) ∙ c.accept-accepted.ensures) in
+    record { result_value = r.0; word_after = r.1 }
 
 pub returns-else-word-n : goal.returns-else-word-n
 returns-else-word-n c = let e = encode_given c.args.words.now c.args.n c.args.m c.args.k c.args.message.now c.args.word.now (accepted_words c.args.words.now c.args.n c.args.m c.args.k (ap accepting_reply (sym c.in-Accepted.is) ∙ c.accept-accepted.ensures)) c.if-k-ne0.false c.if-word-n.false in

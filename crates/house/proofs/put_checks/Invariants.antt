@@ -1,6 +1,6 @@
 -- What the loops of `put_checks` keep.
 use mathlib.Core.Path.{◌≡◌}
-use Prim.Native.Nat.{◌-◌, ◌≤◌, ◌<◌}
+use Prim.Native.Nat.{◌≤◌, ◌<◌}
 use lib.ListN.{length}
 use Rattle.parity.specs.House.{house_code}
 use Rattle.house.specs.Holding.{Holding}

@@ -10,5 +10,4 @@ returns-in-Accepted c = let s = c.args in
 
 pub returns-in-Refused : goal.returns-in-Refused
 returns-in-Refused c = let s = c.args in
-    let a = c.accepting-1.given in
     c.number.ensures ∙ refused_first s.words.now s.n s.m s.k c.in-Refused.why (sym (ap accepting_reply c.in-Refused.is) ∙ c.accept-accepting.ensures)

@@ -1,5 +1,4 @@
 -- `lines::put_residue` meets its contract: at each turn the text of the first b bits stands. Assumes nothing.
-use Prim.Native.Nat.{◌-◌}
 use mathlib.Core.Path.{◌≡◌, refl, sym}
 use borrow.Author.Rules.{rules}
 use native.Mathlib.Omega.{arith}

@@ -13,8 +13,8 @@ use Rattle.min_sum.proofs.min_sum.Goals as goal
 
 pub returns-in-Refused : goal.returns-in-Refused
 returns-in-Refused c = let r = c.in-Refused.r in
-    let all = leaves c.args.words.now c.args.n c.args.m c.args.k c.args.rounds c.args.word.now c.args.floats.now c.args.message-bytes.now c.args.message-floats.now (refusal_of r) (refused_number r)
-    (refused_same c.args.words.now c.args.n c.args.m c.args.k r _ (ap accepting_reply (sym c.in-Refused.is) ∙ c.accept-accepted.ensures) ∙ reply_after c.args.words.now c.args.n c.args.m c.args.k c.args.rounds c.args.word.now c.args.floats.now c.args.message-bytes.now c.args.message-floats.now) in record { result_value = all.0; word_after = all.1; floats_after = all.2; message_bytes_after = all.3; message_floats_after = all.4 }
+    let all = leaves c.args.words.now c.args.n c.args.m c.args.k c.args.rounds c.args.word.now c.args.floats.now c.args.message_bytes.now c.args.message_floats.now (refusal_of r) (refused_number r)
+    (refused_same c.args.words.now c.args.n c.args.m c.args.k r _ (ap accepting_reply (sym c.in-Refused.is) ∙ c.accept-accepted.ensures) ∙ reply_after c.args.words.now c.args.n c.args.m c.args.k c.args.rounds c.args.word.now c.args.floats.now c.args.message_bytes.now c.args.message_floats.now) in record { result_value = all.0; word_after = all.1.0; floats_after = all.1.1.0; message_bytes_after = all.1.1.1.0; message_floats_after = all.1.1.1.1 }
 
 pub overflow_add-n : goal.overflow_add-n
 overflow_add-n c = let acc = ap accepting_reply (sym c.in_default.is) ∙ c.accept-accepted.ensures in
@@ -25,7 +25,7 @@ pub returns-in-Refused-judged : goal.returns-in-Refused-judged
 returns-in-Refused-judged c = let acc = ap accepting_reply (sym c.in_default.is) ∙ c.accept-accepted.ensures in
     let e = ap accepting_reply (sym c.in-Refused-judged.is) ∙ c.judge-judged.ensures in
     let r = c.in-Refused-judged.r in
-    let all = leaves c.args.words.now c.args.n c.args.m c.args.k c.args.rounds c.args.word.now c.args.floats.now c.args.message-bytes.now c.args.message-floats.now (refusal_of r) (refused_number r) (after_reply c.args.words.now c.args.n c.args.m c.args.k c.args.rounds c.args.word.now c.args.floats.now c.args.message-bytes.now c.args.message-floats.now acc (refusal_of r) e) in record { result_value = all.0; word_after = all.1; floats_after = all.2; message_bytes_after = all.3; message_floats_after = all.4 }
+    let all = leaves c.args.words.now c.args.n c.args.m c.args.k c.args.rounds c.args.word.now c.args.floats.now c.args.message_bytes.now c.args.message_floats.now (refusal_of r) (refused_number r) (after_reply c.args.words.now c.args.n c.args.m c.args.k c.args.rounds c.args.word.now c.args.floats.now c.args.message_bytes.now c.args.message_floats.now acc (refusal_of r) e) in record { result_value = all.0; word_after = all.1.0; floats_after = all.1.1.0; message_bytes_after = all.1.1.1.0; message_floats_after = all.1.1.1.1 }
 
 pub overflow_add-m : goal.overflow_add-m
 overflow_add-m c = let acc = ap accepting_reply (sym c.in_default.is) ∙ c.accept-accepted.ensures in
@@ -51,4 +51,4 @@ returns c = let acc = ap accepting_reply (sym c.in_default.is) ∙ c.accept-acce
     let A = accepted_words c.args.words.now c.args.n c.args.m c.args.k acc in
     let e = ap accepting_reply (sym c.in_default-judged.is) ∙ c.judge-judged.ensures in
     let F = fine _ _ _ _ _ _ e in
-    let all = answers c.args.words.now c.args.n c.args.m c.args.k c.args.rounds c.args.word.now c.args.floats.now c.args.message-bytes.now c.args.message-floats.now A (after_reply c.args.words.now c.args.n c.args.m c.args.k c.args.rounds c.args.word.now c.args.floats.now c.args.message-bytes.now c.args.message-floats.now acc (answer []) e) _ _ _ _ (rw F.l_word at c.results.ensures) in record { result_value = all.0; word_after = all.1; floats_after = all.2; message_bytes_after = all.3; message_floats_after = all.4 }
+    let all = answers c.args.words.now c.args.n c.args.m c.args.k c.args.rounds c.args.word.now c.args.floats.now c.args.message_bytes.now c.args.message_floats.now A (after_reply c.args.words.now c.args.n c.args.m c.args.k c.args.rounds c.args.word.now c.args.floats.now c.args.message_bytes.now c.args.message_floats.now acc (answer []) e) _ _ _ _ (rw F.l_word at c.results.ensures) in record { result_value = all.0; word_after = all.1.0; floats_after = all.1.1.0; message_bytes_after = all.1.1.1.0; message_floats_after = all.1.1.1.1 }

@@ -20,7 +20,7 @@ mend_admitted-requires c = let t = lists_taken _ _ c.args.lost.now c.args.packet
 
 pub returns-in-Refused : goal.returns-in-Refused
 returns-in-Refused c = let all = outcome_refused c.args.words.now c.args.n c.args.m c.args.k c.args.lost.now c.args.packets.now c.args.odd.now c.in-Refused.r
-    (lists_refused c.args.words.now c.args.n c.args.m c.args.k c.args.lost.now c.args.packets.now c.args.odd.now c.in-Refused.r c.requires (ap accepting_reply (sym c.in-Refused.is) ∙ c.admit_lists-admission.ensures)) in record { result_value = all.0; lost_after = all.1; packets_after = all.2; odd_after = all.3 }
+    (lists_refused c.args.words.now c.args.n c.args.m c.args.k c.args.lost.now c.args.packets.now c.args.odd.now c.in-Refused.r c.requires (ap accepting_reply (sym c.in-Refused.is) ∙ c.admit_lists-admission.ensures)) in record { result_value = all.0; lost_after = all.1.0; packets_after = all.1.1.0; odd_after = all.1.1.1 }
 
 pub returns-in-Accepted : goal.returns-in-Accepted
 returns-in-Accepted c = record { result_value = c.mend_admitted.ensures.result_value; lost_after = c.mend_admitted.ensures.lost_after; packets_after = c.mend_admitted.ensures.packets_after; odd_after = c.mend_admitted.ensures.odd_after }

@@ -12,6 +12,7 @@ use Rattle.parity.proofs.Matrix.Lent.{lent_empty}
 use Rattle.sets.proofs.Short.{set_short}
 use Rattle.packets.proofs.Ending.{fewer_packets, outcome_is}
 use native.Mathlib.Omega.{arith}
+use borrow.Author.Rules.{rules}
 use Rattle.packets.proofs.mend_admitted.Goals as goal
 
 no_bits : lent 8 (replicate 8 0) 0 ≡ (λ a. false)
@@ -58,4 +59,9 @@ shape_of-odd c = c.mend_set-left.auto.odd
 pub returns : goal.returns
 returns c = let A = (accepts c.args.words.now c.args.n c.args.m c.args.k).0 c.requires.0 in
     let t = c.mend_set-left in
-    let o = outcome_is c.args.words.now c.args.n c.args.m c.args.k c.args.lost.now c.args.packets.now c.args.odd.now _ _ _ _ A c.requires.1 c.requires.2 c.requires.4 c.requires.3 c.set_of-gone.ensures t.ensures.1 t.auto.packets t.auto.odd (λ i. (c.type_inv.packets i).fits) (λ i. (c.slice_known-5-1.given i).fits) (omega (arith, A.sound.n120, A.sound.k392)) in record { result_value = ap (λ (v : List ℕ). answer (v ++ (c.count_lanes-odd_lanes.result ∷ []))) c.losses_of-losses.ensures ∙ rw (c.count_lanes-odd_lanes.ensures, t.auto.odd) (sym (ap (λ (o : PacketsOutcome). o.reply) o)); lost_after = (rw no_bits at c.write.ensures) ∙ sym (ap (λ (o : PacketsOutcome). o.lost) o); packets_after = sym (ap (λ (o : PacketsOutcome). o.packets) o); odd_after = sym (ap (λ (o : PacketsOutcome). o.odd) o) }
+    let o = outcome_is c.args.words.now c.args.n c.args.m c.args.k c.args.lost.now c.args.packets.now c.args.odd.now _ _ _ _ A c.requires.1 c.requires.2 c.requires.4 c.requires.3 c.set_of-gone.ensures t.ensures.1 t.auto.packets t.auto.odd (λ i. (c.type_inv.packets i).fits) (λ i. search rules) (omega (arith, A.sound.n120, A.sound.k392)) in record {
+      result_value = ap (λ (v : List ℕ). answer (v ++ (c.count_lanes-odd_lanes.result ∷ []))) c.losses_of-losses.ensures ∙ rw (c.count_lanes-odd_lanes.ensures, t.auto.odd) (sym (ap (λ (o : PacketsOutcome). o.reply) o));
+      lost_after = (rw no_bits at c.write.ensures) ∙ sym (ap (λ (o : PacketsOutcome). o.lost) o);
+      packets_after = sym (ap (λ (o : PacketsOutcome). o.packets) o);
+      odd_after = sym (ap (λ (o : PacketsOutcome). o.odd) o);
+    }

@@ -1,9 +1,7 @@
 -- `finish` meets its contract. Assumes nothing.
-use mathlib.Core.Bool.{not}
 use mathlib.Core.Path.{refl, sym, ap, ◌∙◌}
 use native.Mathlib.Omega.{arith}
 use lib.ListN.{length}
-use borrow.Author.Tests.{not-false}
 use Rattle.parity.specs.Matrix.{lent}
 use Rattle.residue.proofs.Solving.{refused, uneven_none, all_known}
 use Rattle.residue.proofs.finish.Goals as goal

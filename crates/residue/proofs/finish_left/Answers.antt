@@ -1,9 +1,7 @@
 -- `finish_left` meets its contract. Assumes nothing.
-use mathlib.Core.Bool.{not}
 use mathlib.Core.Path.{refl, ap, ◌∙◌}
 use native.Mathlib.Omega.{arith}
 use lib.ListN.{length}
-use borrow.Author.Tests.{not-false}
 use Rattle.residue.proofs.finish_left.Goals as goal
 
 pub width_of-width-requires : goal.width_of-width-requires

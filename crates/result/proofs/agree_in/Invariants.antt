@@ -1,7 +1,7 @@
 -- What the loops of `agree_in` keep.
 use mathlib.Core.Path.{◌≡◌}
 use mathlib.Core.Bool.{true}
-use Prim.Native.Nat.{◌*◌, ◌-◌, ◌≤◌}
+use Prim.Native.Nat.{◌*◌, ◌≤◌}
 use Rattle.parity.specs.Matrix.{lent}
 use Rattle.result.specs.Result.{agreeing}
 use Rattle.result.proofs.agree_in.Given as goal

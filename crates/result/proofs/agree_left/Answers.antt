@@ -1,7 +1,6 @@
 -- `agree_left` meets its contract. Assumes nothing.
 use mathlib.Core.Path.{◌≡◌, sym, ◌∙◌}
-use mathlib.Core.Bool.{true, not, and-eq-true_iff}
-use Prim.Native.Nat.{◌-◌}
+use mathlib.Core.Bool.{not, and-eq-true_iff}
 use native.Mathlib.Omega.{arith}
 use borrow.Author.Tests.{not-true, not-false}
 use Rattle.parity.proofs.Finite.Sums.{is, is_true, is_false}

@@ -1,5 +1,4 @@
 -- `write` meets its contract. Assumes nothing.
-use Prim.Native.Nat.{◌-◌}
 use native.Mathlib.Omega.{arith}
 use Rattle.result.proofs.Writing.{filling_none, masked_below, filling_next, filling_all}
 use Rattle.result.proofs.write.Goals as goal

@@ -1,5 +1,5 @@
 -- What the loops of `write` keep.
-use Prim.Native.Nat.{◌-◌, ◌≤◌}
+use Prim.Native.Nat.{◌≤◌}
 use Rattle.parity.specs.Matrix.{lent}
 use Rattle.result.proofs.Writing.{Filling}
 use Rattle.result.proofs.write.Given as goal

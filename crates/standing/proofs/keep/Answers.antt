@@ -1,7 +1,6 @@
 -- `keep` meets its contract. Assumes nothing.
 use Rattle.standing.proofs.Kept.{kept_none, kept_not, kept_more, kept_all}
 use native.Mathlib.Omega.{arith}
-use Prim.Native.Nat.{◌-◌}
 use mathlib.Core.Path.{◌∙◌}
 use Rattle.standing.proofs.keep.Goals as goal
 

@@ -1,6 +1,6 @@
 -- What the loops of `keep` keep.
 use Rattle.standing.specs.Standing.{Kept}
-use Prim.Native.Nat.{◌≤◌, ◌-◌}
+use Prim.Native.Nat.{◌≤◌}
 use Rattle.standing.proofs.keep.Given as goal
 
 abbrev pub invariant-loop-i : goal.invariant-loop-i

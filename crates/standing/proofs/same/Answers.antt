@@ -1,10 +1,8 @@
 -- `same` meets its contract. Assumes nothing.
 use Rattle.standing.proofs.Kept.{twice_none, twice_more}
-use borrow.Author.Tests.{not-false}
 use native.Mathlib.Omega.{arith}
-use Prim.Native.Nat.{◌-◌}
-use mathlib.Core.Bool.{false≢true, not}
-use mathlib.Core.Path.{◌≡◌, ap}
+use mathlib.Core.Bool.{false≢true}
+use mathlib.Core.Path.{◌≡◌}
 use Rattle.standing.proofs.same.Goals as goal
 
 pub returns-then-w-gt32512 : goal.returns-then-w-gt32512

@@ -1,6 +1,6 @@
 -- What the loops of `same` keep.
 use Rattle.standing.specs.Standing.{Twice}
-use Prim.Native.Nat.{◌≤◌, ◌-◌}
+use Prim.Native.Nat.{◌≤◌}
 use Rattle.standing.proofs.same.Given as goal
 
 abbrev pub invariant-loop-i : goal.invariant-loop-i

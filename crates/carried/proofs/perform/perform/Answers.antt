@@ -1,12 +1,8 @@
 -- `perform::perform` meets its contract. Assumes nothing.
-use mathlib.Core.Bool.{not}
-use mathlib.Core.Path.{refl, sym, ◌∙◌, ap}
-use mathlib.Core.List.{[], ◌∷◌}
-use Prim.Native.Nat.{◌-◌}
+use mathlib.Core.Path.{refl, sym, ◌∙◌}
 use native.Mathlib.Omega.{arith}
-use borrow.Author.Tests.{not-false}
 use Rattle.columns.proofs.Filling.{two_words}
-use Rattle.reading.proofs.Other.{other_kind}
+use Rattle.reading.proofs.Other.{other_split}
 use Rattle.carried.proofs.Performing.{going_start, going_ends, going_other, going_stops, going_next}
 use borrow.Author.Rules.{rules}
 use Rattle.carried.proofs.perform.perform.Goals as goal
@@ -32,7 +28,7 @@ shape_of-words-in_default c = c.loop-k.invariant.0
 
 pub returns-in_default : goal.returns-in_default
 returns-in_default c = going_other _ _ _ _ _ _ _ _ c.loop-k.invariant.2
-    (other_kind _ c.read.result (0 ∷ 1 ∷ 2 ∷ 4 ∷ 5 ∷ []) 6 c.read.ensures c.in_default.keys2 tt)
+    (other_split _ c.read.result c.read.ensures c.in_default.not-Split)
 
 pub slice_bounds-perform_split-end : goal.slice_bounds-perform_split-end
 slice_bounds-perform_split-end c = sym c.loop-k.invariant.1

@@ -1,9 +1,7 @@
 -- `recover::all_back` meets its contract. Assumes nothing.
-use mathlib.Core.Bool.{not}
 use native.Mathlib.Omega.{arith}
-use mathlib.Core.Path.{◌≡◌, ap}
+use mathlib.Core.Path.{◌≡◌}
 use lib.ListN.{length}
-use borrow.Author.Tests.{not-false}
 use borrow.Author.Rules.{rules}
 use Rattle.columns.proofs.Filling.{two_words}
 use Rattle.carried.proofs.Recovering.{rows_left, rows_made}

@@ -1,9 +1,6 @@
 -- `recover::back_one` meets its contract. Assumes nothing.
-use mathlib.Core.Bool.{not}
-use mathlib.Core.Path.{ap}
 use native.Mathlib.Numerals.{add-one}
 use native.Mathlib.Omega.{arith}
-use borrow.Author.Tests.{not-false}
 use Rattle.carried.proofs.Standing.{standing_same, standing_lower, standing_higher, joined_back, joined_columns}
 use Rattle.carried.proofs.Newest.{bits_below, raw_small, one_stops, one_keeps, one_few, one_made}
 use Rattle.carried.proofs.recover.back_one.Goals as goal

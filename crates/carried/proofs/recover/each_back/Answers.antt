@@ -1,10 +1,8 @@
 -- `recover::each_back` meets its contract. Assumes nothing.
-use mathlib.Core.Bool.{not}
-use mathlib.Core.Path.{◌≡◌, refl, sym, ◌∙◌, ap}
+use mathlib.Core.Path.{◌≡◌, refl, sym, ◌∙◌}
 use Prim.Native.Nat.{suc, ◌+◌, ◌-◌}
 use native.Mathlib.Numerals.{add-one}
 use native.Mathlib.Omega.{arith}
-use borrow.Author.Tests.{not-false}
 use Rattle.carried.proofs.Standing.{standing_same, standing_start}
 use Rattle.carried.proofs.Recovering.{taking_start, taking_next, taking_stops, taking_ends}
 use Rattle.carried.proofs.recover.each_back.Goals as goal

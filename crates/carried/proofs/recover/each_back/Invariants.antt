@@ -1,6 +1,5 @@
 -- What the loops of `each_back` keep.
 use mathlib.Core.Path.{◌≡◌}
-use Prim.Native.Nat.{◌-◌}
 use lib.ListN.{length}
 use Rattle.parity.specs.Matrix.{lent}
 use Rattle.columns.specs.Columns.{Columns}

@@ -1,6 +1,5 @@
 -- `words::put_words` meets its contract. Assumes nothing.
 use mathlib.Core.Path.{refl}
-use Prim.Native.Nat.{◌-◌}
 use native.Mathlib.Omega.{arith}
 use Rattle.carried.proofs.Putting.{putting_none, putting_next, putting_end}
 use Rattle.carried.proofs.words.put_words.Goals as goal

@@ -1,6 +1,6 @@
 -- What the loops of `put_words` keep.
 use mathlib.Core.Path.{◌≡◌}
-use Prim.Native.Nat.{◌-◌, ◌≤◌}
+use Prim.Native.Nat.{◌≤◌}
 use lib.ListN.{length}
 use Rattle.carried.proofs.Putting.{Putting}
 use Rattle.carried.proofs.words.put_words.Given as goal

@@ -1,5 +1,4 @@
 -- `first_at` meets its contract. Assumes nothing.
-use Prim.Native.Nat.{◌-◌}
 use native.Mathlib.Omega.{arith}
 use Rattle.choice.proofs.RowBounds.{below_none, below_next, below_found, below_end}
 use Rattle.choice.proofs.bounds.first_at.Goals as goal

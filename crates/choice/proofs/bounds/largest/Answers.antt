@@ -1,6 +1,5 @@
 -- `largest` meets its contract. Assumes nothing.
 use mathlib.Core.Path.{◌≡◌, refl}
-use Prim.Native.Nat.{◌-◌}
 use native.Mathlib.Omega.{arith}
 use Rattle.choice.proofs.RowBounds.{largest_none, largest_kept, largest_taken}
 use Rattle.choice.proofs.bounds.largest.Goals as goal
@@ -11,9 +10,9 @@ loop-x-init c = (omega arith, largest_none _)
 
 pub loop-x-preserved : goal.loop-x-preserved
 loop-x-preserved c = let l = c.loop-x in (
-      omega arith,
-      (elim c.if-times-t.branch [ then-times-t w ↦ rw (w.1, w.2) (largest_taken _ _ _ _ l.invariant.1 _ refl w.if-times-t.true) | else-times-t w ↦ rw (w.1, w.2) (largest_kept _ _ _ _ l.invariant.1 w.if-times-t.false) ]),
-    )
+  omega arith,
+  (elim c.if-times-t.branch [ then-times-t w ↦ rw (w.low-is, w.times-is) (largest_taken _ _ _ _ l.invariant.1 _ refl w.if-times-t.true) | else-times-t w ↦ rw (w.low-is, w.times-is) (largest_kept _ _ _ _ l.invariant.1 w.if-times-t.false) ]),
+)
 
 pub returns : goal.returns
 returns c = let e : c.loop-x.x ≡ c.args.bits = omega arith in rw e at c.loop-x.invariant.1

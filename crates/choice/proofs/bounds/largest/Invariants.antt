@@ -1,5 +1,5 @@
 -- What the loops of `largest` keep.
-use Prim.Native.Nat.{◌-◌, ◌≤◌}
+use Prim.Native.Nat.{◌≤◌}
 use Rattle.choice.specs.Bounds.{Largest}
 use Rattle.choice.proofs.bounds.largest.Given as goal
 

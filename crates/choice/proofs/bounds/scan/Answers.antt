@@ -1,5 +1,4 @@
 -- `scan` meets its contract. Assumes nothing.
-use Prim.Native.Nat.{◌-◌}
 use native.Mathlib.Omega.{arith}
 use lib.Count.{trailing_le}
 use Rattle.columns.proofs.Adders.{given_light, shares_met}
@@ -26,11 +25,11 @@ returns-then-t-s c = let l = c.loop-i in
 
 pub loop-i-preserved : goal.loop-i-preserved
 loop-i-preserved c = let l = c.loop-i in (
-      omega (arith, c.loop-i-test.true),
-      omega (arith, l.invariant.1),
-      from_all _ _ (omega (arith, l.invariant.1)),
-      rw c.larger-most.ensures (word_next _ c.args.bits _ _ _ _ l.invariant.3 _ l.invariant.2 _ (shares_met 2 _ _ c.requires.given.0 _ _ _ c.tally.ensures) _ _ c.best-top.ensures c.requires.given.1 (omega arith) c.requires.given.2 l.invariant.1 c.if-t-s.false),
-    )
+  omega (arith, c.loop-i-test.true),
+  omega (arith, l.invariant.1),
+  from_all _ _ (omega (arith, l.invariant.1)),
+  rw c.larger-most.ensures (word_next _ c.args.bits _ _ _ _ l.invariant.3 _ l.invariant.2 _ (shares_met 2 _ _ c.requires.given.0 _ _ _ c.tally.ensures) _ _ c.best-top.ensures c.requires.given.1 (omega arith) c.requires.given.2 l.invariant.1 c.if-t-s.false),
+)
 
 pub returns : goal.returns
 returns c = row_miss _ _ _ _ _ _ c.loop-i.invariant.3 (omega arith)

@@ -1,6 +1,6 @@
 -- What the loops of `weights` keep.
 use mathlib.Core.Path.{◌≡◌}
-use Prim.Native.Nat.{◌-◌, ◌≤◌}
+use Prim.Native.Nat.{◌≤◌}
 use lib.ListN.{length}
 use Rattle.columns.specs.Columns.{shares}
 use Rattle.choice.specs.Bounds.{Weights}

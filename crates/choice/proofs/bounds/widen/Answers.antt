@@ -1,6 +1,5 @@
 -- `widen` meets its contract. Assumes nothing.
 use mathlib.Core.Path.{sym, ◌∙◌}
-use Prim.Native.Nat.{◌-◌}
 use native.Mathlib.Omega.{arith}
 use lib.ListN.{length-set}
 use Rattle.columns.proofs.Adders.{given_light, shares_met}
@@ -28,10 +27,10 @@ loop-i-smaller c = omega (arith, c.loop-i-test.true)
 
 pub loop-i-preserved : goal.loop-i-preserved
 loop-i-preserved c = (
-      omega (arith, c.loop-i-test.true),
-      c.lift.auto.bound ∙ c.loop-i.invariant.1,
-      raising_next _ (together_comm 2 _) _ _ _ _ _ _ c.loop-i.invariant.2 (shares_met 2 _ _ c.requires.given _ _ _ c.tally.ensures) c.lift.ensures,
-    )
+  omega (arith, c.loop-i-test.true),
+  c.lift.auto.bound ∙ c.loop-i.invariant.1,
+  raising_next _ (together_comm 2 _) _ _ _ _ _ _ c.loop-i.invariant.2 (shares_met 2 _ _ c.requires.given _ _ _ c.tally.ensures) c.lift.ensures,
+)
 
 pub bounds-bound-new : goal.bounds-bound-new
 bounds-bound-new c = omega (arith, c.loop-i.invariant.1)

@@ -1,6 +1,5 @@
 -- `lift` meets its contract. Assumes nothing.
 use mathlib.Core.Path.{sym, ◌∙◌}
-use Prim.Native.Nat.{◌-◌}
 use native.Mathlib.Nat.{lt_of_le_of_lt}
 use native.Mathlib.Omega.{arith}
 use lib.Bits.{and_le_l}
@@ -11,7 +10,7 @@ use Rattle.choice.proofs.Lifting.{lifted_none, lifted_next}
 use Rattle.choice.proofs.numbers.lift.Goals as goal
 
 pub loop-rest-init : goal.loop-rest-init
-loop-rest-init c = (c.requires.0, c.several-rest.type-inv, lifted_none _ _ _ _ c.several-rest.ensures)
+loop-rest-init c = (c.requires.0, c.several-rest.type_inv, lifted_none _ _ _ _ c.several-rest.ensures)
 
 pub overflow_add-x : goal.overflow_add-x
 overflow_add-x c = let L = trailing_lowest 64 _ c.loop-rest.invariant.1 c.loop-rest-test.true in

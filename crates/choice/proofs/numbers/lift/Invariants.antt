@@ -1,6 +1,6 @@
 -- What the loops of `lift` keep.
 use mathlib.Core.Path.{◌≡◌}
-use Prim.Native.Nat.{◌-◌, ◌^◌, ◌<◌}
+use Prim.Native.Nat.{◌^◌, ◌<◌}
 use lib.ListN.{length}
 use Rattle.choice.specs.Numbers.{Lifted}
 use Rattle.choice.proofs.numbers.lift.Given as goal

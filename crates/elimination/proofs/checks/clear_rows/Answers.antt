@@ -6,7 +6,6 @@ use Rattle.elimination.specs.Reduction.{when}
 use Rattle.parity.specs.Matrix.{Matrix, lent}
 use native.Mathlib.Omega.{arith}
 use mathlib.Core.Path.{◌≡◌, refl, ap, ◌∙◌}
-use Prim.Native.Nat.{◌-◌}
 use Rattle.elimination.proofs.checks.clear_rows.Goals as goal
 
 pub loop-c-init : goal.loop-c-init

@@ -3,7 +3,7 @@ use Rattle.elimination.specs.Reduction.{cleared}
 use Rattle.parity.specs.Matrix.{lent}
 use lib.ListN.{length}
 use mathlib.Core.Path.{◌≡◌}
-use Prim.Native.Nat.{◌≤◌, ◌-◌}
+use Prim.Native.Nat.{◌≤◌}
 use Rattle.elimination.proofs.checks.clear_rows.Given as goal
 
 abbrev pub invariant-loop-c : goal.invariant-loop-c

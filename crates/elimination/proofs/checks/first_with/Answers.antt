@@ -2,9 +2,7 @@
 use Rattle.parity.proofs.Matrix.Lent.{row_room}
 use native.Mathlib.Decide.{ℕ_discrete}
 use native.Mathlib.Omega.{arith}
-use mathlib.Core.Bool.{false}
 use mathlib.Core.Path.{sym, ◌∙◌}
-use Prim.Native.Nat.{◌-◌}
 use Rattle.elimination.proofs.checks.first_with.Goals as goal
 
 pub loop-c-init : goal.loop-c-init
@@ -19,11 +17,11 @@ returns-then-contains c = let inv = c.loop-c.invariant in
 
 pub loop-c-preserved : goal.loop-c-preserved
 loop-c-preserved c = let inv = c.loop-c.invariant in (
-      omega arith,
-      omega arith,
-      λ i k l. elim (ℕ_discrete i c.loop-c.c)
-          [ yes q ↦ rw q (sym c.contains.ensures ∙ c.if-contains.false) | no d ↦ inv.2 i k (omega arith) ],
-    )
+  omega arith,
+  omega arith,
+  λ i k l. elim (ℕ_discrete i c.loop-c.c)
+      [ yes q ↦ rw q (sym c.contains.ensures ∙ c.if-contains.false) | no d ↦ inv.2 i k (omega arith) ],
+)
 
 pub returns : goal.returns
 returns c = let inv = c.loop-c.invariant in

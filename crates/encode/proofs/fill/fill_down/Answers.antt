@@ -15,14 +15,13 @@ pub bounds-pivots-c : goal.bounds-pivots-c
 bounds-pivots-c c = omega (arith, c.loop-c.invariant.0)
 
 pub fill_bit-requires : goal.fill_bit-requires
-fill_bit-requires c = let l = c.loop-c in
-    (
-      c.requires.rows_len.0,
-      omega (arith, l.invariant.0),
-      omega (arith, c.requires.fact.rising.low (l.c - 1) (omega (arith, l.invariant.0)), l.invariant.1),
-      omega (arith, l.invariant.1),
-      l.invariant.2,
-    )
+fill_bit-requires c = let l = c.loop-c in (
+  c.requires.rows_len.0,
+  omega (arith, l.invariant.0),
+  omega (arith, c.requires.fact.rising.low (l.c - 1) (omega (arith, l.invariant.0)), l.invariant.1),
+  omega (arith, l.invariant.1),
+  l.invariant.2,
+)
 
 pub loop-c-preserved : goal.loop-c-preserved
 loop-c-preserved c = let E = c.fill_bit in

@@ -5,7 +5,7 @@ use Rattle.parity.specs.Calls.{byte_of}
 use Rattle.parity.specs.Matrix.{lent}
 use lib.ListN.{length}
 use mathlib.Core.Path.{◌≡◌}
-use Prim.Native.Nat.{◌≤◌, ◌-◌}
+use Prim.Native.Nat.{◌≤◌}
 use Rattle.encode.proofs.fill.fill_down.Given as goal
 
 abbrev pub invariant-loop-c : goal.invariant-loop-c

@@ -1,7 +1,6 @@
 -- `completes_further` meets its contract. Assumes nothing.
 use mathlib.Core.Path.{◌≡◌, sym, ◌∙◌}
-use mathlib.Core.Bool.{true}
-use Prim.Native.Nat.{◌*◌, ◌-◌}
+use Prim.Native.Nat.{◌*◌}
 use native.Mathlib.Omega.{arith}
 use Rattle.enumeration.proofs.Lone.{none_more, none_not, completing_is}
 use Rattle.enumeration.proofs.checks.completes_further.Goals as goal

@@ -1,7 +1,7 @@
 -- What the loops of `completes_further` keep.
 use mathlib.Core.Path.{◌≡◌}
 use mathlib.Core.Bool.{true}
-use Prim.Native.Nat.{◌*◌, ◌-◌, ◌≤◌}
+use Prim.Native.Nat.{◌*◌, ◌≤◌}
 use Rattle.enumeration.proofs.Lone.{no_lone}
 use Rattle.enumeration.proofs.checks.completes_further.Given as goal
 

@@ -1,9 +1,8 @@
 -- `once_with` meets its contract. Assumes nothing.
 use mathlib.Core.Path.{◌≡◌, refl}
-use Prim.Native.Nat.{◌-◌}
 use native.Mathlib.Omega.{arith}
 use Rattle.enumeration.proofs.Storing.{filled_none, filled_more}
-use Rattle.enumeration.proofs.Lone.{lone_at, once_law}
+use Rattle.enumeration.proofs.Lone.{once_law}
 use Rattle.enumeration.proofs.checks.once_with.Goals as goal
 
 pub loop-i-init : goal.loop-i-init

@@ -1,6 +1,5 @@
 -- What the loops of `once_with` keep.
-use Prim.Native.Nat.{◌-◌, ◌≤◌}
-use Rattle.parity.specs.Finite.{all}
+use Prim.Native.Nat.{◌≤◌}
 use Rattle.enumeration.proofs.Storing.{Filled}
 use Rattle.enumeration.proofs.Lone.{lone_at}
 use Rattle.enumeration.proofs.checks.once_with.Given as goal

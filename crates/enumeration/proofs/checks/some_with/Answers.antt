@@ -1,6 +1,5 @@
 -- `some_with` meets its contract. Assumes nothing.
 use mathlib.Core.Path.{◌≡◌, refl}
-use Prim.Native.Nat.{◌-◌}
 use native.Mathlib.Omega.{arith}
 use Rattle.enumeration.proofs.Storing.{filled_none, filled_more}
 use Rattle.enumeration.proofs.Lone.{some_law}

@@ -1,6 +1,5 @@
 -- What the loops of `some_with` keep.
-use Prim.Native.Nat.{◌-◌, ◌≤◌}
-use Rattle.parity.specs.Finite.{all}
+use Prim.Native.Nat.{◌≤◌}
 use Rattle.enumeration.proofs.Storing.{Filled}
 use Rattle.enumeration.proofs.Lone.{some_at}
 use Rattle.enumeration.proofs.checks.some_with.Given as goal

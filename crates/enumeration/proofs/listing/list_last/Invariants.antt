@@ -1,5 +1,5 @@
 -- What the loops of `list_last` keep.
-use Prim.Native.Nat.{◌*◌, ◌-◌}
+use Prim.Native.Nat.{◌*◌}
 use Rattle.enumeration.specs.Search.{across, last_of}
 use Rattle.enumeration.proofs.Joining.{Searched}
 use Rattle.enumeration.proofs.listing.list_last.Given as goal

@@ -1,7 +1,7 @@
 -- `list_pairs` meets its contract. Assumes nothing.
 use mathlib.Core.Path.{refl, sym}
 use mathlib.Core.List.{[], ◌∷◌}
-use Prim.Native.Nat.{◌+◌, ◌*◌, ◌-◌}
+use Prim.Native.Nat.{◌+◌, ◌*◌}
 use native.Mathlib.Omega.{arith}
 use lib.ListN.{length, length-append, length-set}
 use lib.Seq.{length-take-le}
@@ -37,16 +37,19 @@ pub list_last-place-requires : goal.list_last-place-requires
 list_last-place-requires c = let l = c.loop-d in
     let P = c.requires in
     let g = begun_more c.args.first.now l.more c.member.result l.invariant.1 l.d c.member.ensures (omega (arith, c.requires.sized.2)) in
-    let X = c.some_with-u.ensures in
-    let Y = c.some_with-u.ensures in (
-      (record { columns = P.0.0.columns; once = X.size; some = Y.size; least = P.0.0.least; most = P.0.0.most }, P.0.1, rw (g, length-append c.args.first.now (l.d ∷ [])) (omega (arith, P.0.2))),
-      next_call c.args.cols.now c.args.first.now (c.args.search.used * 64) c.args.search.bits 1 2 refl l.invariant.2 1 refl g (omega arith) P.1.0.0 P.1.0.1 P.0.1 X Y 1099511627776 P.1.1,
-    )
+    let X = c.once_with-x.ensures in
+    let Y = c.some_with-u.ensures in
+    let F = next_call c.args.cols.now c.args.first.now (c.args.search.used * 64) c.args.search.bits 1 2 refl l.invariant.2 1 refl g (omega arith) P.begun.0 P.begun.1 P.sized.1 X Y 1099511627776 (P.from_bound, P.from_in_bounds) in record {
+      sized = (record { columns = P.sized.0.columns; once = X.size; some = Y.size; least = P.sized.0.least; most = P.sized.0.most }, P.sized.1, rw (g, length-append c.args.first.now (l.d ∷ [])) (omega (arith, P.sized.2)));
+      begun = F.0;
+      from_bound = F.1.0;
+      from_in_bounds = F.1.1;
+    }
 
 pub loop-d-preserved : goal.loop-d-preserved
 loop-d-preserved c = let l = c.loop-d in
     let g = begun_more c.args.first.now l.more c.member.result l.invariant.1 l.d c.member.ensures (omega (arith, c.requires.sized.2)) in
-    (refl, begun_set c.args.first.now l.more c.member.result l.invariant.1, next_listed c.args.cols.now c.args.first.now (c.args.search.used * 64) c.args.search.bits 1 2 refl l.invariant.2 1 refl g (omega (arith, c.before.before.before.before.before.before.before.before.before.before)) c.list_last-place.ensures)
+    (refl, begun_set c.args.first.now l.more c.member.result l.invariant.1, next_listed c.args.cols.now c.args.first.now (c.args.search.used * 64) c.args.search.bits 1 2 refl l.invariant.2 1 refl g (omega arith) c.list_last-place.ensures)
 
 pub shape_of-sets : goal.shape_of-sets
 shape_of-sets c = put_length _ _ _ _ _ _ c.loop-d.invariant.2.put

@@ -1,6 +1,6 @@
 -- What the loops of `list_pairs` keep.
 use mathlib.Core.Path.{◌≡◌}
-use Prim.Native.Nat.{◌*◌, ◌-◌}
+use Prim.Native.Nat.{◌*◌}
 use lib.ListN.{length}
 use Rattle.enumeration.specs.Search.{across}
 use Rattle.enumeration.proofs.Storing.{Begun}

@@ -1,8 +1,7 @@
 -- `longer` meets its contract. Assumes nothing.
 use mathlib.Core.Path.{◌≡◌, refl}
-use Prim.Native.Nat.{◌-◌}
 use native.Mathlib.Omega.{arith}
-use Rattle.enumeration.proofs.Storing.{filled_none, filled_more, member_at, longer_law}
+use Rattle.enumeration.proofs.Storing.{filled_none, filled_more, longer_law}
 use Rattle.enumeration.proofs.members.longer.Goals as goal
 
 pub loop-i-init : goal.loop-i-init

@@ -1,5 +1,5 @@
 -- What the loops of `longer` keep.
-use Prim.Native.Nat.{◌-◌, ◌≤◌}
+use Prim.Native.Nat.{◌≤◌}
 use Rattle.enumeration.proofs.Storing.{Filled, member_at}
 use Rattle.enumeration.proofs.members.longer.Given as goal
 

@@ -1,6 +1,6 @@
 -- What the loops of `put_set` keep.
 use mathlib.Core.Path.{◌≡◌}
-use Prim.Native.Nat.{◌-◌, ◌≤◌}
+use Prim.Native.Nat.{◌≤◌}
 use lib.ListN.{length, take}
 use lib.Seq.{sets as setsOf}
 use Rattle.enumeration.proofs.members.put_set.Given as goal

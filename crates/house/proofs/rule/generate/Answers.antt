@@ -1,6 +1,5 @@
 -- `rule::generate` meets its contract. Assumes nothing.
 use mathlib.Core.Path.{◌≡◌, refl, ◌∙◌}
-use Prim.Native.Nat.{◌-◌}
 use native.Mathlib.Omega.{arith}
 use Rattle.parity.specs.Finite.{sum}
 use Rattle.parity.specs.House.{house_code, table_word}
@@ -28,11 +27,11 @@ overflow_step-b c = record { fits = omega arith }
 
 pub loop-b-preserved : goal.loop-b-preserved
 loop-b-preserved c = let l = c.loop-b in (
-      omega arith,
-      l.invariant.1,
-      l.invariant.2,
-      rw (l.invariant.3, c.value-x.ensures, c.contains.ensures) (word_next (house_code c.args.name).matrix c.args.c.0 l.b),
-    )
+  omega arith,
+  l.invariant.1,
+  l.invariant.2,
+  rw (l.invariant.3, c.value-x.ensures, c.contains.ensures) (word_next (house_code c.args.name).matrix c.args.c.0 l.b),
+)
 
 pub returns : goal.returns
 returns c = let l = c.loop-b in

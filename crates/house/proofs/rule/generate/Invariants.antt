@@ -1,6 +1,6 @@
 -- What the loops of `generate` keep.
 use mathlib.Core.Path.{◌≡◌}
-use Prim.Native.Nat.{◌-◌, ◌≤◌, ◌<◌}
+use Prim.Native.Nat.{◌≤◌, ◌<◌}
 use Rattle.parity.specs.House.{house_code, table_word}
 use Rattle.house.proofs.rule.generate.Given as goal
 

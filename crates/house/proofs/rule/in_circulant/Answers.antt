@@ -1,6 +1,5 @@
 -- `rule::in_circulant` meets its contract. Assumes nothing.
 use mathlib.Core.Path.{◌≡◌, refl, sym, ◌∙◌}
-use Prim.Native.Nat.{◌-◌}
 use native.Mathlib.Omega.{arith}
 use Rattle.parity.specs.House.{at_offsets, circulant}
 use Rattle.house.proofs.Generated.{offset_small, offset_here, offset_on}

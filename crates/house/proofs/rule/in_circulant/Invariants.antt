@@ -1,6 +1,6 @@
 -- What the loops of `in_circulant` keep.
 use mathlib.Core.Path.{◌≡◌}
-use Prim.Native.Nat.{◌-◌, ◌≤◌}
+use Prim.Native.Nat.{◌≤◌}
 use lib.ListN.{drop}
 use Rattle.parity.specs.House.{at_offsets, offsets, circulant}
 use Rattle.house.proofs.rule.in_circulant.Given as goal

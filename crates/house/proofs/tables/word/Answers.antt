@@ -1,6 +1,6 @@
 -- `tables::word` meets its contract. Assumes nothing.
 use mathlib.Core.Path.{◌≡◌, sym, ap, ◌∙◌}
-use Prim.Native.Nat.{ℕ}
+use Prim.Native.Nat.{ℕ, ◌<◌}
 use native.Mathlib.Omega.{arith}
 use lib.ListN.{get_or}
 use Rattle.parity.specs.House.{code_of, hamming_code, house_code, table_word}
@@ -9,8 +9,8 @@ use Rattle.house.proofs.Entries.{table, table_word_lem}
 use Rattle.house.proofs.tables.word.Goals as goal
 
 -- the word in the table of a name
-here : (s : tie.Start) (x : ℕ) → s.args.name ≡ x → get_or (table x) s.args.check.0 0 ≡ table_word 32 (house_code s.args.name).matrix s.args.check.0
-here s x e = ap (λ y. get_or (table y) s.args.check.0 0) (sym e) ∙ table_word_lem s.args.name s.args.check.0 s.requires.0 s.requires.1
+here : (n c x : ℕ) → n < 5 → c < (house_code n).m → n ≡ x → get_or (table x) c 0 ≡ table_word 32 (house_code n).matrix c
+here n c x k l e = ap (λ y. get_or (table y) c 0) (sym e) ∙ table_word_lem n c k l
 
 pub offset_bounds-c : goal.offset_bounds-c
 offset_bounds-c c = let s = house_sizes c.args.name c.requires.0 in record { fits = omega arith }
@@ -49,20 +49,20 @@ bounds-c-in_default c = let e : c.args.name ≡ 4 = omega arith in rw e at c.req
 
 pub returns-in-0 : goal.returns-in-0
 unfolding table
-returns-in-0 c = here c.before 0 (omega arith)
+returns-in-0 c = here c.args.name c.args.check.0 0 c.requires.0 c.requires.1 (omega arith)
 
 pub returns-in-1 : goal.returns-in-1
 unfolding table
-returns-in-1 c = here c.before 1 (omega arith)
+returns-in-1 c = here c.args.name c.args.check.0 1 c.requires.0 c.requires.1 (omega arith)
 
 pub returns-in-2 : goal.returns-in-2
 unfolding table
-returns-in-2 c = here c.before 2 (omega arith)
+returns-in-2 c = here c.args.name c.args.check.0 2 c.requires.0 c.requires.1 (omega arith)
 
 pub returns-in-3 : goal.returns-in-3
 unfolding table
-returns-in-3 c = here c.before 3 (omega arith)
+returns-in-3 c = here c.args.name c.args.check.0 3 c.requires.0 c.requires.1 (omega arith)
 
 pub returns-in_default : goal.returns-in_default
 unfolding table
-returns-in_default c = here c.before 4 (omega arith)
+returns-in_default c = here c.args.name c.args.check.0 4 c.requires.0 c.requires.1 (omega arith)

@@ -1,6 +1,5 @@
 -- `mend::mend` meets its contract. Assumes nothing.
 use mathlib.Core.Path.{◌≡◌, refl, sym, ◌∙◌}
-use Prim.Native.Nat.{◌-◌}
 use lib.ListN.{length}
 use Rattle.lanes.proofs.Mending.{empty_tile, mended_none, mended_next}
 use native.Mathlib.Omega.{arith}

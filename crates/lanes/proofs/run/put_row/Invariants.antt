@@ -1,5 +1,5 @@
 -- What the loops of `put_row` keep.
-use Prim.Native.Nat.{◌*◌, ◌-◌, ◌≤◌}
+use Prim.Native.Nat.{◌*◌, ◌≤◌}
 use lib.Bits.{bit_or}
 use Rattle.rows.specs.Whole.{Written, word_from}
 use Rattle.rows.proofs.Writing.{onto}

@@ -1,6 +1,5 @@
 -- `run::solve_in` meets its contract. Assumes nothing.
 use mathlib.Core.Path.{◌≡◌, refl, ◌∙◌}
-use Prim.Native.Nat.{◌-◌}
 use Rattle.parity.proofs.Matrix.Lent.{row_room}
 use Rattle.lanes.proofs.Running.{ran_none, ran_next}
 use native.Mathlib.Omega.{arith}

@@ -1,7 +1,5 @@
 -- `run::test_in` meets its contract. Assumes nothing.
 use mathlib.Core.Path.{◌≡◌, refl, sym, ◌∙◌}
-use borrow.Author.Tests.{not-true, not-false}
-use Prim.Native.Nat.{◌-◌}
 use Rattle.parity.proofs.Matrix.Lent.{row_room}
 use Rattle.lanes.proofs.Running.{tested_none, tested_next, tested_skip}
 use native.Mathlib.Omega.{arith}
@@ -16,24 +14,27 @@ contains-requires c = (omega arith, omega arith)
 
 pub test-requires : goal.test-requires
 test-requires c = let l = c.loop-c in (
-      record { row = omega (arith, row_room c.args.width l.c c.args.end (omega arith)); used = c.requires.1; width = c.requires.2; tile = c.requires.3; most = c.requires.4 },
-      omega (arith, c.requires.5, l.invariant.2),
-    )
+  record { row = omega (arith, row_room c.args.width l.c c.args.end (omega arith)); used = c.requires.1; width = c.requires.2; tile = c.requires.3; most = c.requires.4 },
+  omega (arith, c.requires.5, l.invariant.2),
+)
 
 pub loop-c-preserved : goal.loop-c-preserved
 loop-c-preserved c = let l = c.loop-c in
     let k = c.contains in
-    (elim c.if-not-contains.branch [ then-not-contains w ↦ rw w.5 (
-      omega arith,
-      omega arith,
-      w.2.kept.1.1.1.1.1.1.0 ∙ l.invariant.2,
-      tested_next _ _ _ _ _ _ _ _ _ l.invariant.0 l.invariant.3 (sym k.ensures ∙ not-true k.result w.if-not-contains.true) w.2.ensures,
-    ) | else-not-contains w ↦ rw w.1 (
-      omega arith,
-      omega arith,
-      l.invariant.2,
-      tested_skip _ _ _ _ _ _ _ _ l.invariant.3 (sym k.ensures ∙ not-false k.result w.if-not-contains.false),
-    ) ])
+    elim c.if-not-contains.branch [
+      | then-not-contains w ↦ rw w.flags-is (
+        omega arith,
+        omega arith,
+        w.test.auto.flags ∙ l.invariant.2,
+        tested_next _ _ _ _ _ _ _ _ _ l.invariant.0 l.invariant.3 (sym k.ensures ∙ w.if-not-contains.true) w.test.ensures,
+      )
+      | else-not-contains w ↦ rw w.flags-is (
+        omega arith,
+        omega arith,
+        l.invariant.2,
+        tested_skip _ _ _ _ _ _ _ _ l.invariant.3 (sym k.ensures ∙ w.if-not-contains.false),
+      )
+    ]
 
 pub returns : goal.returns
 returns c = let l = c.loop-c in

@@ -1,7 +1,7 @@
 -- `sums::add_check` meets its contract. Assumes nothing.
 use native.Mathlib.Nat.{mul-le-mul_right}
 use mathlib.Core.Path.{◌≡◌, refl, ap, ◌∙◌}
-use Prim.Native.Nat.{◌≤◌, ◌+◌, ◌-◌, ◌*◌}
+use Prim.Native.Nat.{◌≤◌, ◌+◌, ◌*◌}
 use lib.ListN.{length}
 use Rattle.lanes.proofs.Adding.{sum_none, sum_next}
 use native.Mathlib.Omega.{arith}

@@ -2,7 +2,6 @@
 use Rattle.rows.proofs.Writing.{written_none, written_more}
 use Rattle.lanes.proofs.Writing.{blanked_all}
 use mathlib.Core.Path.{◌≡◌, refl}
-use Prim.Native.Nat.{◌-◌}
 use native.Mathlib.Omega.{arith}
 use Rattle.lanes.proofs.tiles.blank_row.Goals as goal
 

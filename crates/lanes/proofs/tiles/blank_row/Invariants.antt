@@ -1,6 +1,6 @@
 -- What the loops of `blank_row` keep.
 use Rattle.rows.specs.Whole.{Written}
-use Prim.Native.Nat.{◌≤◌, ◌*◌, ◌-◌}
+use Prim.Native.Nat.{◌≤◌, ◌*◌}
 use Rattle.lanes.proofs.tiles.blank_row.Given as goal
 
 abbrev pub invariant-loop-i : goal.invariant-loop-i

@@ -1,5 +1,4 @@
 -- `tiles::copy_eights` meets its contract. Assumes nothing.
-use Prim.Native.Nat.{◌-◌}
 use Rattle.rows.proofs.Writing.{written_none}
 use Rattle.lanes.proofs.Writing.{eight_more, written_rest}
 use native.Mathlib.Omega.{arith}

@@ -1,7 +1,6 @@
 -- `tiles::load` meets its contract. Assumes nothing.
 use Rattle.lanes.proofs.Storing.{loaded_none, loaded_blank, loaded_take}
 use mathlib.Core.Path.{◌≡◌, refl, sym, ◌∙◌}
-use Prim.Native.Nat.{◌-◌}
 use Rattle.parity.proofs.Matrix.Lent.{row_room}
 use native.Mathlib.Omega.{arith}
 use Rattle.lanes.proofs.tiles.load.Goals as goal
@@ -29,7 +28,10 @@ take_row-requires c = let l = c.loop-b in
 pub loop-b-preserved : goal.loop-b-preserved
 loop-b-preserved c = let l = c.loop-b in
     let k = c.contains in
-    (elim c.if-contains.branch [ then-contains w ↦ rw w.5 (omega arith, w.2.kept.1.0 ∙ l.invariant.1, loaded_blank _ _ _ _ _ _ _ _ l.invariant.2 (sym k.ensures ∙ w.if-contains.true) w.2.ensures) | else-contains w ↦ rw w.5 (omega arith, w.2.kept.1.1.1.0 ∙ l.invariant.1, loaded_take _ _ _ _ _ _ _ _ l.invariant.2 (sym k.ensures ∙ w.if-contains.false) w.2.ensures) ])
+    elim c.if-contains.branch [
+      | then-contains w ↦ rw w.tile-is (omega arith, w.blank.auto.tile ∙ l.invariant.1, loaded_blank _ _ _ _ _ _ _ _ l.invariant.2 (sym k.ensures ∙ w.if-contains.true) w.blank.ensures)
+      | else-contains w ↦ rw w.tile-is (omega arith, w.take_row.auto.tile ∙ l.invariant.1, loaded_take _ _ _ _ _ _ _ _ l.invariant.2 (sym k.ensures ∙ w.if-contains.false) w.take_row.ensures)
+    ]
 
 pub returns : goal.returns
 returns c = let l = c.loop-b in

@@ -1,7 +1,7 @@
 -- What the loops of `load` keep.
 use Rattle.lanes.specs.Tiles.{Loaded}
 use mathlib.Core.Path.{◌≡◌}
-use Prim.Native.Nat.{◌≤◌, ◌-◌}
+use Prim.Native.Nat.{◌≤◌}
 use lib.ListN.{length}
 use Rattle.parity.specs.Matrix.{lent}
 use Rattle.lanes.proofs.tiles.load.Given as goal

@@ -3,7 +3,6 @@ use Rattle.lanes.proofs.Writing.{fits_more, merged_now}
 use Rattle.rows.proofs.Writing.{written_none, written_more}
 use Rattle.lanes.proofs.Writing.{returned_all}
 use mathlib.Core.Path.{◌≡◌}
-use Prim.Native.Nat.{◌-◌}
 use native.Mathlib.Omega.{arith}
 use Rattle.lanes.proofs.tiles.return_row.Goals as goal
 

@@ -2,7 +2,7 @@
 use Prim.Native.Nat.{ℕ, ◌^◌, ◌<◌}
 use Rattle.rows.specs.Whole.{Written}
 use Rattle.lanes.proofs.Writing.{merged}
-use Prim.Native.Nat.{◌≤◌, ◌+◌, ◌-◌}
+use Prim.Native.Nat.{◌≤◌, ◌+◌}
 use lib.ListN.{get_or}
 use Rattle.lanes.proofs.tiles.return_row.Given as goal
 

@@ -1,5 +1,4 @@
 -- `lines::text::put_bytes` meets its contract: at each turn the first i bytes are copied. Assumes nothing.
-use Prim.Native.Nat.{◌-◌}
 use mathlib.Core.Path.{◌≡◌, refl}
 use borrow.Author.Rules.{rules}
 use native.Mathlib.Omega.{arith}

@@ -2,7 +2,6 @@
 use Rattle.message_bits.proofs.Placing.{place_start, place_end, place_room, place_pivot, place_other}
 use native.Mathlib.Omega.{arith}
 use mathlib.Core.Path.{refl, sym, ◌∙◌}
-use Prim.Native.Nat.{◌-◌}
 use Rattle.message_bits.proofs.message.place.Goals as goal
 use Rattle.message_bits.proofs.message.place.Goals.{then-is_next, else-is_next}
 
@@ -30,7 +29,7 @@ overflow_add-q c = let l = c.loop-b in
 pub loop-b-preserved : goal.loop-b-preserved
 loop-b-preserved c = let l = c.loop-b in
     let A = c.requires.2 in
-    (elim c.if-is_next.branch [ then-is_next w ↦ rw (w.1, w.2, w.3) (l.invariant.0, omega arith, place_pivot _ _ _ A _ _ _ _ _ l.invariant.2 (omega arith) (sym c.is_next.ensures ∙ w.if-is_next.true)) | else-is_next w ↦ rw (w.2, w.3, w.4) (l.invariant.0, omega arith, place_other _ _ _ A _ _ _ _ _ l.invariant.2 (omega arith) (sym c.is_next.ensures ∙ w.if-is_next.false)) ])
+    (elim c.if-is_next.branch [ then-is_next w ↦ rw (w.word-is, w.p-is, w.q-is) (l.invariant.0, omega arith, place_pivot _ _ _ A _ _ _ _ _ l.invariant.2 (omega arith) (sym c.is_next.ensures ∙ w.if-is_next.true)) | else-is_next w ↦ rw (w.word-is, w.p-is, w.q-is) (l.invariant.0, omega arith, place_other _ _ _ A _ _ _ _ _ l.invariant.2 (omega arith) (sym c.is_next.ensures ∙ w.if-is_next.false)) ])
 
 pub shape_of-word : goal.shape_of-word
 shape_of-word c = c.loop-b.invariant.2.long

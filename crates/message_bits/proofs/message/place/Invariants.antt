@@ -3,7 +3,7 @@ use Rattle.message_bits.specs.Placing.{Placing}
 use Rattle.parity.specs.Calls.{byte_of}
 use lib.ListN.{length}
 use mathlib.Core.Path.{◌≡◌}
-use Prim.Native.Nat.{◌≤◌, ◌-◌}
+use Prim.Native.Nat.{◌≤◌}
 use Rattle.message_bits.proofs.message.place.Given as goal
 
 abbrev pub invariant-loop-b : goal.invariant-loop-b

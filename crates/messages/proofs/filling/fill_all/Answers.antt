@@ -2,7 +2,6 @@
 use Rattle.messages.proofs.Places.{start_zero, laid_same}
 use Rattle.messages.proofs.Fill.{filling_none, filling_all}
 use native.Mathlib.Omega.{arith}
-use Prim.Native.Nat.{◌-◌}
 use mathlib.Core.Path.{◌≡◌, sym, ◌∙◌}
 use Rattle.messages.proofs.filling.fill_all.Goals as goal
 
@@ -19,7 +18,7 @@ pub overflow_step-c : goal.overflow_step-c
 overflow_step-c c = omega (arith, c.loop-c-test.true, c.requires.2)
 
 pub loop-c-preserved : goal.loop-c-preserved
-loop-c-preserved c = let E = c.fill_check-a.ensures in (omega (arith, c.loop-c-test.true), E.0, E.1)
+loop-c-preserved c = let E = c.fill_check-a.ensures in (omega (arith, c.loop-c-test.true), E.value, E.filling)
 
 pub shape_of-tags : goal.shape_of-tags
 shape_of-tags c = c.loop-c.invariant.2.tags ∙ sym c.requires.0.memory.tags

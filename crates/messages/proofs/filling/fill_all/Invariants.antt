@@ -2,7 +2,7 @@
 use Rattle.messages.specs.Memory.{start, Filling}
 use Rattle.parity.specs.Matrix.{lent}
 use Rattle.parity.specs.Soft.{message_at}
-use Prim.Native.Nat.{◌-◌, ◌≤◌}
+use Prim.Native.Nat.{◌≤◌}
 use mathlib.Core.Path.{◌≡◌}
 use Rattle.messages.proofs.filling.fill_all.Given as goal
 

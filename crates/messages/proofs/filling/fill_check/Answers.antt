@@ -3,7 +3,7 @@ use Rattle.messages.proofs.Places.{first_place, laid_same}
 use Rattle.messages.proofs.Fill.{place_last, filling_check}
 use Rattle.parity.specs.Matrix.{lent}
 use native.Mathlib.Omega.{arith}
-use Prim.Native.Nat.{◌+◌, ◌*◌, ◌-◌}
+use Prim.Native.Nat.{◌+◌, ◌*◌}
 use mathlib.Core.Path.{◌≡◌, sym, ◌∙◌}
 use Rattle.messages.proofs.filling.fill_check.Goals as goal
 
@@ -23,7 +23,7 @@ pub loop-i-preserved : goal.loop-i-preserved
 loop-i-preserved c = let l = c.loop-i in
     let e : l.i * 64 + 64 ≡ (l.i + 1) * 64 = omega arith in
     let E = rw e at c.fill_word-a.ensures in
-    (omega (arith, c.loop-i-test.true), E.0, E.1)
+    (omega (arith, c.loop-i-test.true), E.value, E.filling)
 
 pub shape_of-tags : goal.shape_of-tags
 shape_of-tags c = c.loop-i.invariant.2.tags ∙ sym c.requires.c_bound.2.tags

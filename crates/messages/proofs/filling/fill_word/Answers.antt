@@ -1,36 +1,32 @@
 -- `fill_word` meets its contract. Assumes nothing.
-use Rattle.messages.proofs.Word.{Taken, left_all, left_none, left_taken}
+use lib.Count.{count_trailing_zeros}
+use Rattle.parity.specs.declared.Channel.{Channel}
+use lib.Ieee.{Float}
+use mathlib.Core.List.{List}
+use Rattle.messages.proofs.Word.{Taken, left_all, left_none, left_taken, Left}
 use Rattle.messages.proofs.Places.{place_yes, place_small}
 use Rattle.messages.proofs.Fill.{place_gap, filling_gap, filling_one}
-use Rattle.messages.specs.Memory.{place, Filling}
+use Rattle.messages.specs.Memory.{place, Filling, Laid}
 use Rattle.parity.proofs.Matrix.Rest.{rest_less}
-use Rattle.parity.specs.Matrix.{lent}
-use Rattle.parity.specs.Soft.{message_at}
+use Rattle.parity.specs.Matrix.{lent, Matrix}
 use native.Mathlib.Omega.{arith}
-use Prim.Native.Nat.{◌+◌, ◌*◌, ◌<◌}
+use Prim.Native.Nat.{◌+◌, ◌*◌, ◌<◌, ℕ}
 use mathlib.Core.Path.{◌≡◌, sym, ◌∙◌}
 use Rattle.messages.proofs.filling.fill_word.Goals as goal
 
 -- the lowest bit left, whose value goes to the next place
-here : (w : tie.After-lowest invariant-loop decreases-loop) →
-    let l = w.before.before.loop in
-    let s = w.before.before.before.before.before.before.before.before.before in
-    let h = lent 8 s.args.words.now in
-    let e = w.lowest.result in
-    Taken (h s.args.c) s.args.i l.invariant.0 l.rest e × (e < 512) × (l.a ≡ place h 512 s.args.c e)
-    × Filling h 512 s.args.c e (message_at s.args.word.now s.args.floats.now) l.tags l.values × (place h 512 s.args.c e < 65024)
-here w =
-    let l = w.before.before.loop in
-    let s = w.before.before.before.before.before.before.before.before.before in
-    let h = lent 8 s.args.words.now in
-    let e = w.lowest.result in
-    let T = left_taken (h s.args.c) s.args.i l.invariant.0 l.rest l.invariant.1 w.before.loop-test.true e w.lowest.ensures in
-    let k : e < 512 = omega (arith, T.top, s.requires.1.1) in (
+here : (ws : List ℕ) (h : Matrix) (c i b rest a e : ℕ) (m : ℕ → Channel) (ts : List ℕ) (xs : List Float) (us : List ℕ) (ys : List Float) →
+    Laid ws h us ys → c < 512 → i < 8 → Left (h c) i b rest → (rest ≡ 0 → ⊥) → e ≡ i * 64 + count_trailing_zeros 64 rest →
+    a ≡ place h 512 c b → Filling h 512 c b m ts xs →
+    Taken (h c) i b rest e × (e < 512) × (a ≡ place h 512 c e) × Filling h 512 c e m ts xs × (place h 512 c e < 65024)
+here ws h c i b rest a e m ts xs us ys R kc ki L n q p F =
+    let T = left_taken (h c) i b rest L n e q in
+    let k : e < 512 = omega (arith, T.top, ki) in (
       T,
       k,
-      l.invariant.2 ∙ sym (place_gap h 512 s.args.c l.invariant.0 e T.gap),
-      filling_gap h 512 _ s.args.c _ _ _ l.invariant.3 e T.gap,
-      place_small h 512 s.args.c e s.requires.0.0.room s.requires.1.0 k T.one,
+      p ∙ sym (place_gap h 512 c b e T.gap),
+      filling_gap h 512 _ c _ _ _ F e T.gap,
+      place_small h 512 c e R.room kc k T.one,
     )
 
 pub offset_bounds-words-c : goal.offset_bounds-words-c
@@ -46,13 +42,18 @@ pub lowest-requires : goal.lowest-requires
 lowest-requires c = c.requires.c_bound.1
 
 pub enter-requires : goal.enter-requires
-enter-requires c = let H = here c.before.before in
+enter-requires c =
+    let l = c.loop-rest in
+    let H = here _ (lent 8 c.args.words.now) _ _ _ _ _ _ _ _ _ _ _ c.requires.laid.0 c.requires.c_bound.0 c.requires.c_bound.1 l.invariant.1 c.loop-rest-test.true c.lowest.ensures l.invariant.2 l.invariant.3 in
     let I = c.requires.laid.1 in
     let k = I.below c.args.c c.lowest.result H.0.one in
     record { b_in_bounds = (k, omega (arith, k, I.same)); j_in_bounds = (omega (arith, H.2, H.4, H.3.tags), omega (arith, H.2, H.4, H.3.values)) }
 
 pub overflow_add-a : goal.overflow_add-a
-overflow_add-a c = let H = here c.before.before.before.before.before.before.before in omega (arith, H.2, H.4)
+overflow_add-a c =
+    let l = c.loop-rest in
+    let H = here _ (lent 8 c.args.words.now) _ _ _ _ _ _ _ _ _ _ _ c.requires.laid.0 c.requires.c_bound.0 c.requires.c_bound.1 l.invariant.1 c.loop-rest-test.true c.lowest.ensures l.invariant.2 l.invariant.3 in
+    omega (arith, H.2, H.4)
 
 pub overflow_sub-rest : goal.overflow_sub-rest
 overflow_sub-rest c = omega (arith, c.loop-rest-test.true)
@@ -61,7 +62,9 @@ pub loop-rest-smaller : goal.loop-rest-smaller
 loop-rest-smaller c = rest_less _ c.loop-rest-test.true
 
 pub loop-rest-preserved : goal.loop-rest-preserved
-loop-rest-preserved c = let H = here w in (
+loop-rest-preserved c =
+    let l = c.loop-rest in
+    let H = here _ (lent 8 c.args.words.now) _ _ _ _ _ _ _ _ _ _ _ c.requires.laid.0 c.requires.c_bound.0 c.requires.c_bound.1 l.invariant.1 c.loop-rest-test.true c.lowest.ensures l.invariant.2 l.invariant.3 in (
       c.lowest.result + 1,
       H.0.next,
       rw H.2 (sym (place_yes _ 512 c.args.c c.lowest.result H.0.one)),

@@ -1,7 +1,6 @@
 -- `clear_bytes` meets its contract. Assumes nothing.
 use Rattle.min_sum.proofs.Cleared.{cleared_none, cleared_more, cleared_all}
 use native.Mathlib.Omega.{arith}
-use Prim.Native.Nat.{◌-◌}
 use mathlib.Core.Path.{refl}
 use Rattle.min_sum.proofs.clear.clear_bytes.Goals as goal
 

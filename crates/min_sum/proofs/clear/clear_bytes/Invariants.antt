@@ -1,7 +1,7 @@
 -- What the loops of `clear_bytes` keep.
 use Rattle.min_sum.proofs.Cleared.{Cleared}
 use lib.ListN.{length}
-use Prim.Native.Nat.{◌≤◌, ◌-◌}
+use Prim.Native.Nat.{◌≤◌}
 use mathlib.Core.Path.{◌≡◌}
 use Rattle.min_sum.proofs.clear.clear_bytes.Given as goal
 

@@ -3,7 +3,6 @@ use Rattle.min_sum.proofs.Cleared.{cleared_none, cleared_more, cleared_all}
 use Rattle.parity.specs.Floats.{positive_zero}
 use lib.Ieee.{nan}
 use native.Mathlib.Omega.{arith}
-use Prim.Native.Nat.{◌-◌}
 use mathlib.Core.Path.{refl}
 use Rattle.min_sum.proofs.clear.clear_floats.Goals as goal
 

@@ -3,7 +3,7 @@ use Rattle.min_sum.proofs.Cleared.{Cleared}
 use Rattle.parity.specs.Floats.{positive_zero}
 use lib.Ieee.{nan}
 use lib.ListN.{length}
-use Prim.Native.Nat.{◌≤◌, ◌-◌}
+use Prim.Native.Nat.{◌≤◌}
 use mathlib.Core.Path.{◌≡◌}
 use Rattle.min_sum.proofs.clear.clear_floats.Given as goal
 

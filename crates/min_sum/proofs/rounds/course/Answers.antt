@@ -4,7 +4,6 @@ use Rattle.standing.proofs.Kept.{twice_kept}
 use Rattle.parity.specs.Matrix.{lent}
 use native.Mathlib.Numerals.{add-one}
 use native.Mathlib.Omega.{arith}
-use Prim.Native.Nat.{◌-◌}
 use mathlib.Core.Path.{◌≡◌, refl, sym, ◌∙◌}
 use Rattle.min_sum.proofs.rounds.course.Goals as goal
 

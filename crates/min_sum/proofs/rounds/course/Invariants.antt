@@ -4,7 +4,7 @@ use Rattle.standing.specs.Standing.{Twice}
 use Rattle.parity.specs.Soft.{message_at, sent_after}
 use Rattle.parity.specs.Matrix.{lent}
 use lib.ListN.{length}
-use Prim.Native.Nat.{◌≤◌, ◌-◌}
+use Prim.Native.Nat.{◌≤◌}
 use mathlib.Core.Path.{◌≡◌}
 use Rattle.min_sum.proofs.rounds.course.Given as goal
 

@@ -20,6 +20,6 @@ returns c = let C = c.checks_send in
       mt = C.new.tags;
       mx = C.new.values;
       heard = record { tags = C.auto.tags ∙ M.tags; values = C.auto.values ∙ M.values; answering = C.ensures.answering };
-      sent = A.0;
-      above = above_more _ 512 _ _ _ _ C.ensures.above _ _ A.1;
+      sent = A.sent_all;
+      above = above_more _ 512 _ _ _ _ C.ensures.above _ _ A.above;
     }

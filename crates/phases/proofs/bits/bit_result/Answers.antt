@@ -11,4 +11,4 @@ bit_at-requires c = row_fits _ _ _ _ _ _ _ _ _ _ _ c.gather-d.ensures c.requires
 
 pub returns : goal.returns
 returns c = let G = c.gather-d.ensures in
-    let A = rw G.many at c.bit_at.ensures in record { value = A.0 ∙ row_result _ 512 c.args.checks c.args.b c.args.channel _ _ _ _ G.row; cursors = moving_end _ 512 c.args.b _ _ G.moving c.args.checks c.requires.laid_across.1 (omega arith); low = low_more _ _ _ _ G.low _ _ (part_low _ _ _ _ _ _ A.1) }
+    let A = rw G.many at c.bit_at.ensures in record { value = A.value ∙ row_result _ 512 c.args.checks c.args.b c.args.channel _ _ _ _ G.row; cursors = moving_end _ 512 c.args.b _ _ G.moving c.args.checks c.requires.laid_across.1 (omega arith); low = low_more _ _ _ _ G.low _ _ (part_low _ _ _ _ _ _ A.part) }

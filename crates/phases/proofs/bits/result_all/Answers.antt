@@ -7,7 +7,6 @@ use Rattle.messages.specs.Memory.{across}
 use Rattle.parity.specs.Soft.{message_at}
 use Rattle.parity.specs.Matrix.{lent}
 use native.Mathlib.Omega.{arith}
-use Prim.Native.Nat.{◌-◌}
 use mathlib.Core.Path.{sym, ◌∙◌}
 use Rattle.phases.proofs.bits.result_all.Goals as goal
 

@@ -5,7 +5,7 @@ use Rattle.phases.specs.Phases.{result_of}
 use Rattle.bit_row.specs.Row.{Low}
 use Rattle.parity.specs.Soft.{message_at}
 use Rattle.parity.specs.Matrix.{lent}
-use Prim.Native.Nat.{◌≤◌, ◌-◌}
+use Prim.Native.Nat.{◌≤◌}
 use lib.ListN.{length}
 use Rattle.phases.proofs.bits.result_all.Given as goal
 

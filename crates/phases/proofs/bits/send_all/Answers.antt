@@ -4,7 +4,6 @@ use Rattle.phases.proofs.Sends.{sent_none, sent_more}
 use Rattle.messages.specs.Memory.{across}
 use Rattle.parity.specs.Matrix.{lent}
 use native.Mathlib.Omega.{arith}
-use Prim.Native.Nat.{◌-◌}
 use mathlib.Core.Path.{◌≡◌, sym, ◌∙◌}
 use lib.ListN.{length}
 use Rattle.phases.proofs.bits.send_all.Goals as goal

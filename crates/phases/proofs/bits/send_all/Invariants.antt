@@ -3,7 +3,7 @@ use Rattle.messages.specs.Memory.{across, held, Cursors, Above}
 use Rattle.phases.specs.Loops.{SentAll}
 use Rattle.parity.specs.Soft.{message_at}
 use Rattle.parity.specs.Matrix.{lent}
-use Prim.Native.Nat.{◌≤◌, ◌-◌}
+use Prim.Native.Nat.{◌≤◌}
 use lib.ListN.{length}
 use Rattle.phases.proofs.bits.send_all.Given as goal
 

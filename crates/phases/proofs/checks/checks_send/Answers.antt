@@ -5,7 +5,7 @@ use Rattle.messages.proofs.Places.{start_zero, start_suc, start_mono, above_none
 use Rattle.parity.proofs.Finite.Sums.{count_bound}
 use Rattle.parity.specs.Matrix.{lent}
 use native.Mathlib.Omega.{arith}
-use Prim.Native.Nat.{suc, ◌-◌}
+use Prim.Native.Nat.{suc}
 use mathlib.Core.Path.{◌≡◌, sym, ◌∙◌}
 use Rattle.phases.proofs.checks.checks_send.Goals as goal
 
@@ -26,11 +26,14 @@ check_at-requires c = let l = c.loop-c in
     let h = lent 8 c.args.words.now in
     let W = c.weight-w.ensures in
     let t = c.loop-c-test.true in
-    let m = start_mono h 512 (suc l.c) 512 (omega (arith, t, c.requires.laid.1.most)) in record { tags_len = (
+    let m = start_mono h 512 (suc l.c) 512 (omega (arith, t, c.requires.laid.1.most)) in record {
+      tags_len = (
         l.invariant.2.tags ∙ sym l.invariant.2.values,
         omega (arith, l.invariant.1, l.invariant.2.tags, W, start_suc h 512 l.c, m, c.requires.laid.0.room),
         omega (arith, W, count_bound 512 (h l.c)),
-      ); sounds = rw (l.invariant.1, W) (answering_sounds h 512 c.args.checks _ l.c t _ _ l.invariant.4 c.requires.at_len.1) }
+      );
+      sounds = rw (l.invariant.1, W) (answering_sounds h 512 c.args.checks _ l.c t _ _ l.invariant.4 c.requires.at_len.1);
+    }
 
 pub overflow_add-a : goal.overflow_add-a
 overflow_add-a c = let l = c.loop-c in

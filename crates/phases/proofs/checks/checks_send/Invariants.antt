@@ -3,7 +3,7 @@ use Rattle.phases.proofs.Answering.{Begun}
 use Rattle.messages.specs.Memory.{start, held, Sized, Above}
 use Rattle.phases.specs.Phases.{Answering}
 use Rattle.parity.specs.Matrix.{lent}
-use Prim.Native.Nat.{◌≤◌, ◌-◌}
+use Prim.Native.Nat.{◌≤◌}
 use mathlib.Core.Path.{◌≡◌}
 use Rattle.phases.proofs.checks.checks_send.Given as goal
 

@@ -1,6 +1,5 @@
 -- `alone::list_alone` meets its contract. Assumes nothing.
 use mathlib.Core.Path.{◌≡◌, sym, ◌∙◌}
-use Prim.Native.Nat.{◌-◌}
 use native.Mathlib.Nat.{zero-mul}
 use Rattle.parity.proofs.Matrix.Lent.{row_room}
 use Rattle.plan.proofs.Aloning.{listed_none, listed_past, listed_noted}
@@ -24,19 +23,23 @@ overflow_add-s c = omega (arith, c.loop-c.invariant.4.few)
 pub loop-c-preserved : goal.loop-c-preserved
 loop-c-preserved c = let l = c.loop-c in
     let m = c.common in
-    (elim c.if-common-eq1.branch [ then-common-eq1 w ↦ rw (w.12, w.13, w.14, w.15) (
-      omega arith,
-      w.5.kept.0 ∙ l.invariant.1,
-      w.5.kept.1.0 ∙ l.invariant.2,
-      w.5.kept.1.1.0 ∙ l.invariant.3,
-      listed_noted _ _ _ _ _ _ (omega arith) c.requires.low.1 _ _ _ _ _ _ _ _ l.invariant.4 _ m.ensures w.if-common-eq1.true w.5.ensures.0 w.5.ensures.1.0 w.5.ensures.1.1 (omega (arith, l.invariant.2, l.invariant.4.few)) (omega (arith, l.invariant.3, l.invariant.4.few)),
-    ) | else-common-eq1 w ↦ rw (w.1, w.2, w.3, w.4) (
-      omega arith,
-      l.invariant.1,
-      l.invariant.2,
-      l.invariant.3,
-      listed_past _ _ _ _ _ _ (omega arith) c.requires.low.1 _ _ _ _ _ l.invariant.4 _ m.ensures w.if-common-eq1.false,
-    ) ])
+    elim c.if-common-eq1.branch [
+      | then-common-eq1 w ↦ let n = w.note in
+          rw (w.left-is, w.step_rows-is, w.step_bits-is, w.s-is) (
+            omega arith,
+            n.auto.left ∙ l.invariant.1,
+            n.auto.step_checks ∙ l.invariant.2,
+            n.auto.step_bits ∙ l.invariant.3,
+            listed_noted _ _ _ _ _ _ (omega arith) c.requires.low.1 _ _ _ _ _ _ _ _ l.invariant.4 _ m.ensures w.if-common-eq1.true n.ensures.left_after n.ensures.step_checks_after n.ensures.step_bits_after (omega (arith, l.invariant.2, l.invariant.4.few)) (omega (arith, l.invariant.3, l.invariant.4.few)),
+          )
+      | else-common-eq1 w ↦ rw (w.left-is, w.step_rows-is, w.step_bits-is, w.s-is) (
+        omega arith,
+        l.invariant.1,
+        l.invariant.2,
+        l.invariant.3,
+        listed_past _ _ _ _ _ _ (omega arith) c.requires.low.1 _ _ _ _ _ l.invariant.4 _ m.ensures w.if-common-eq1.false,
+      )
+    ]
 
 pub shape_of-left : goal.shape_of-left
 shape_of-left c = c.loop-c.invariant.1 ∙ sym c.requires.width_in_bounds.4

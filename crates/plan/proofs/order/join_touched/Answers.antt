@@ -1,6 +1,5 @@
 -- `order::join_touched` meets its contract. Assumes nothing.
 use mathlib.Core.Path.{◌≡◌, sym, ◌∙◌}
-use Prim.Native.Nat.{◌-◌}
 use Rattle.plan.proofs.Ordering.{joined_none, joined_next, joined_past}
 use native.Mathlib.Omega.{arith}
 use Rattle.plan.proofs.order.join_touched.Goals as goal
@@ -17,7 +16,10 @@ raise-requires c = (omega (arith, c.loop-c.invariant.1), omega arith)
 
 pub loop-c-preserved : goal.loop-c-preserved
 loop-c-preserved c = let t = c.touches in
-    (elim c.if-touches.branch [ then-touches w ↦ rw w.5 (omega arith, w.2.kept.0 ∙ c.loop-c.invariant.1, joined_next _ _ _ _ _ _ _ c.loop-c.invariant.2 (sym t.ensures ∙ w.if-touches.true) w.2.ensures) | else-touches w ↦ rw w.1 (omega arith, c.loop-c.invariant.1, joined_past _ _ _ _ _ _ c.loop-c.invariant.2 (sym t.ensures ∙ w.if-touches.false)) ])
+    elim c.if-touches.branch [
+      | then-touches w ↦ rw w.done-is (omega arith, w.raise.auto.rows ∙ c.loop-c.invariant.1, joined_next _ _ _ _ _ _ _ c.loop-c.invariant.2 (sym t.ensures ∙ w.if-touches.true) w.raise.ensures)
+      | else-touches w ↦ rw w.done-is (omega arith, c.loop-c.invariant.1, joined_past _ _ _ _ _ _ c.loop-c.invariant.2 (sym t.ensures ∙ w.if-touches.false))
+    ]
 
 pub returns : goal.returns
 returns c = let l = c.loop-c in

@@ -12,6 +12,6 @@ returns-then-n-payload c = not_all _ _ _ _
 
 pub returns : goal.returns
 returns c = record {
-      all = λ t.
-          let z = eqb-true _ _ t in all_bits _ _ _ _ (omega arith) (c.faults.ensures.kinds z) (c.faults.ensures.rises z) (omega (arith, c.payload.ensures, c.if-n-payload.false));
-    }
+  all = λ t.
+      let z = eqb-true _ _ t in all_bits _ _ _ _ (omega arith) (c.faults.ensures.kinds z) (c.faults.ensures.rises z) (omega (arith, c.payload.ensures, c.if-n-payload.false));
+}

@@ -1,10 +1,8 @@
 -- `judge::bits_singly` meets its contract. Assumes nothing.
 use mathlib.Core.Path.{◌≡◌}
-use mathlib.Core.List.{[], ◌∷◌}
-use Prim.Native.Nat.{◌-◌}
 use native.Mathlib.Omega.{arith}
 use Rattle.parity.proofs.Record.Reading.{bit_yes, bit_kind, bit_low, bit_large}
-use Rattle.reading.proofs.Other.{other_kind}
+use Rattle.reading.proofs.Other.{other_bit}
 use Rattle.reading.proofs.Read.{rising_none, rising_next}
 use Rattle.reading.proofs.judge.bits_singly.Goals as goal
 
@@ -19,7 +17,7 @@ returns-in_default c = let l = c.loop-i in
       top = l.invariant.0;
       low = l.low;
       rising = l.invariant.1;
-      next = λ k. bit_kind _ _ _ (other_kind _ c.read.result (0 ∷ 1 ∷ 3 ∷ 4 ∷ 5 ∷ []) 3 c.read.ensures c.in_default.keys2 tt);
+      next = λ k. bit_kind _ _ _ (other_bit _ c.read.result c.read.ensures c.in_default.not-Bit);
     }
 
 pub returns-then-b-low : goal.returns-then-b-low

@@ -1,5 +1,5 @@
 -- What the loops of `bits_singly` keep.
-use Prim.Native.Nat.{◌-◌, ◌≤◌}
+use Prim.Native.Nat.{◌≤◌}
 use Rattle.reading.specs.Read.{Rising}
 use Rattle.reading.proofs.judge.bits_singly.Given as goal
 

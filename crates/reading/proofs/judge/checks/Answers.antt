@@ -1,6 +1,5 @@
 -- `judge::checks` meets its contract. Assumes nothing.
 use mathlib.Core.Path.{◌≡◌}
-use Prim.Native.Nat.{◌-◌}
 use native.Mathlib.Omega.{arith}
 use Rattle.reading.proofs.Judging.{reach_next, reach_stop, reach_all}
 use Rattle.reading.proofs.judge.checks.Goals as goal

@@ -1,5 +1,5 @@
 -- What the loops of `checks` keep.
-use Prim.Native.Nat.{◌-◌, ◌≤◌}
+use Prim.Native.Nat.{◌≤◌}
 use Rattle.reading.specs.Judge.{Reached}
 use Rattle.reading.proofs.judge.checks.Given as goal
 

@@ -1,8 +1,7 @@
 -- `judge::end` meets its contract. Assumes nothing.
-use mathlib.Core.List.{[], ◌∷◌}
 use native.Mathlib.Omega.{arith}
 use Rattle.parity.proofs.Record.Reading.{end_yes, end_kind, end_unnamed}
-use Rattle.reading.proofs.Other.{other_kind}
+use Rattle.reading.proofs.Other.{other_end}
 use Rattle.reading.proofs.Judging.{break_missing, break_other, break_more, end_right}
 use Rattle.reading.proofs.judge.end.Goals as goal
 
@@ -11,7 +10,7 @@ returns-then-p-source c = break_missing _ _ (omega arith)
 
 pub returns-in_default : goal.returns-in_default
 returns-in_default c = break_other _ _ (omega arith)
-    (end_kind _ (other_kind _ c.read.result (0 ∷ 1 ∷ 2 ∷ 3 ∷ 5 ∷ []) 15 c.read.ensures c.in_default.keys2 tt))
+    (end_kind _ (other_end _ c.read.result c.read.ensures c.in_default.not-End))
 
 pub returns-then-x-ne0 : goal.returns-then-x-ne0
 returns-then-x-ne0 c = let K = rw c.in-End.is at c.read.ensures in

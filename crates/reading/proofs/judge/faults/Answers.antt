@@ -1,5 +1,4 @@
 -- `judge::faults` meets its contract. Assumes nothing.
-use Prim.Native.Nat.{◌-◌}
 use native.Mathlib.Omega.{arith}
 use Rattle.reading.proofs.AllBits.{faults_none, faults_next, faults_all}
 use Rattle.reading.proofs.judge.faults.Goals as goal

@@ -1,5 +1,5 @@
 -- What the loops of `faults` keep.
-use Prim.Native.Nat.{◌-◌, ◌≤◌}
+use Prim.Native.Nat.{◌≤◌}
 use Rattle.reading.specs.Read.{Rises}
 use Rattle.reading.proofs.judge.faults.Given as goal
 

@@ -1,6 +1,5 @@
 -- `judge::first_word` meets its contract. Assumes nothing.
 use mathlib.Core.Path.{ap}
-use mathlib.Core.List.{[], ◌∷◌}
 use Prim.Native.Nat.{ℕ, ◌/◌, ◌%◌}
 use native.Mathlib.Omega.{arith}
 use Rattle.parity.proofs.Record.ReadWritten.{form_head}
@@ -9,7 +8,7 @@ use Rattle.reading.proofs.Judging.{head_kind_lem, head_range, head_yes}
 use Rattle.reading.proofs.judge.first_word.Goals as goal
 
 pub returns-in_default : goal.returns-in_default
-returns-in_default c = head_kind_lem _ (other_head _ c.read.result (1 ∷ 2 ∷ 3 ∷ 4 ∷ 5 ∷ []) c.read.ensures c.in_default.keys2 tt)
+returns-in_default c = head_kind_lem _ (other_head _ c.read.result c.read.ensures c.in_default.not-Head)
 
 pub returns-then-n-lt1 : goal.returns-then-n-lt1
 returns-then-n-lt1 c = let K = rw c.in-Head.is at c.read.ensures in

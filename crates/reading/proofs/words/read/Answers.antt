@@ -10,13 +10,11 @@ use Rattle.reading.proofs.words.read.Goals as goal
 
 of-kind : (k w x : ℕ) → w / 2 ^ 28 ≡ k → x ≡ payload w → Kind k w x
 unfolding kind_of
-
 of-kind k w x e f = record { kind = e; rest = sym f }
 
 of_none : (w : ℕ) → (w / 2 ^ 28 ≡ 1 → ⊥) → (w / 2 ^ 28 ≡ 2 → ⊥) → (w / 2 ^ 28 ≡ 3 → ⊥) → (w / 2 ^ 28 ≡ 4 → ⊥) → (w / 2 ^ 28 ≡ 5 → ⊥) → (w / 2 ^ 28 ≡ 6 → ⊥)
     → (w / 2 ^ 28 ≡ 15 → ⊥) → Kindless w
 unfolding kind_of
-
 of_none w a b d g i j e = record { not_head = no-head; not_open = b; not_bit = d; not_split = j; not_end = e }
   where
     no-head : (f : Form) → w / 2 ^ 28 ≡ head_kind f → ⊥
@@ -50,9 +48,9 @@ pub returns-in-15 : goal.returns-in-15
 returns-in-15 c = of-kind 15 _ _ c.in-15.is c.payload-x.ensures
 
 pub returns-in-7-to-14 : goal.returns-in-7-to-14
-returns-in-7-to-14 c = let r = c.in_default-1.rest in
-    of_none _ r.0.0.0.0.0.0.1 r.0.0.0.0.0.1 r.0.0.0.0.1 r.0.0.0.1 r.0.0.1 r.0.1 r.1
+returns-in-7-to-14 c =
+    of_none _ (λ q. omega arith) (λ q. omega arith) (λ q. omega arith) (λ q. omega arith) (λ q. omega arith) (λ q. omega arith) (λ q. omega arith)
 
 pub returns-in-16-to-4294967295 : goal.returns-in-16-to-4294967295
-returns-in-16-to-4294967295 c = let r = c.in_default-1.rest in
-    of_none _ r.0.0.0.0.0.0.1 r.0.0.0.0.0.1 r.0.0.0.0.1 r.0.0.0.1 r.0.0.1 r.0.1 r.1
+returns-in-16-to-4294967295 c =
+    of_none _ (λ q. omega arith) (λ q. omega arith) (λ q. omega arith) (λ q. omega arith) (λ q. omega arith) (λ q. omega arith) (λ q. omega arith)

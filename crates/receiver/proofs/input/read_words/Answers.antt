@@ -17,7 +17,7 @@ loop-i-init c = (omega arith, omega arith, omega arith, refl, refl)
 
 pub loop-i-preserved : goal.loop-i-preserved
 loop-i-preserved c = let l = c.loop-i in
-    let input = c.args.input.now in (
+    (
       omega arith,
       omega arith,
       omega arith,

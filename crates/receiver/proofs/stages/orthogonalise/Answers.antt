@@ -14,21 +14,18 @@ orthogonalise_accepted-requires c = c.requires.j_value
 pub put_refused-requires : goal.put_refused-requires
 put_refused-requires c = let a = c.args in
     let p = c.orthogonalise_accepted in
-    let g = c.r-1.given in
     let e = sym (ap orthogonalising_reply c.in-Refused.is) ∙ p.ensures.result_value in
     rw (orthogonalise_refused a.words.now a.n a.m a.j a.sent.now c.in-Refused.r e) c.requires.sent_in_bounds
 
 pub peel_sent-requires : goal.peel_sent-requires
 peel_sent-requires c = let a = c.args in
     let p = c.orthogonalise_accepted in
-    let g = c.splits-1.given in
     let e = sym (ap orthogonalising_reply c.in-Finished.is) ∙ p.ensures.result_value in
     let t = orthogonalise_passes a.words.now a.n a.m a.j c.in-Finished.splits c.in-Finished.sum c.in-Finished.k (held_values c.in-Finished.held) e a.sent.now in record { k_in_bounds = rw p.ensures.words_after (omega (arith, ap length t, c.requires.sent_in_bounds)); k_value = rw p.ensures.words_after (orthogonalise_accepted a.words.now a.n a.m a.j c.in-Finished.splits c.in-Finished.sum c.in-Finished.k (held_values c.in-Finished.held) e) }
 
 pub returns-in-Refused : goal.returns-in-Refused
 returns-in-Refused c = let a = c.args in
     let p = c.orthogonalise_accepted in
-    let g = c.r-1.given in
     let e = sym (ap orthogonalising_reply c.in-Refused.is) ∙ p.ensures.result_value in
     same_text
     (orthogonalise_refused a.words.now a.n a.m a.j a.sent.now c.in-Refused.r e)
@@ -37,7 +34,6 @@ returns-in-Refused c = let a = c.args in
 pub returns-in-Finished : goal.returns-in-Finished
 returns-in-Finished c = let a = c.args in
     let p = c.orthogonalise_accepted in
-    let g = c.splits-1.given in
     let e = sym (ap orthogonalising_reply c.in-Finished.is) ∙ p.ensures.result_value in
     same_text
     (rw p.ensures.words_after (orthogonalise_passes a.words.now a.n a.m a.j c.in-Finished.splits c.in-Finished.sum c.in-Finished.k (held_values c.in-Finished.held) e a.sent.now))

@@ -26,20 +26,17 @@ peel_admitted-requires c = (c.requires.k_value.0, c.requires.k_value.1, byte_rig
 pub put_refused-requires-in-Refused : goal.put_refused-requires-in-Refused
 put_refused-requires-in-Refused c = let a = c.args in
     let p = c.peel_admitted in
-    let g = c.r-1.given in
     let e = sym (ap peeling_reply c.in-Refused.is) ∙ p.ensures.result_value in
     rw (peel_refused a.words.now a.n a.m a.k a.splits a.sum a.word.now c.in-Refused.r e) c.requires.word_in_bounds
 
 pub put_report-requires : goal.put_report-requires
 put_report-requires c = let a = c.args in
     let p = c.peel_admitted in
-    let g = c.enum_told-1.given in
     let e = sym (ap peeling_reply c.in-Made.is) ∙ p.ensures.result_value in record { word_in_bounds = rw (p.ensures.word_after, peel_passes a.words.now a.n a.m a.k a.splits a.sum a.word.now _ e) c.requires.word_in_bounds; n_in_bounds = omega (arith, c.requires.k_value.1, p.auto.word); bytes = rw p.ensures.word_after (peel_bytes a.words.now a.n a.m a.k a.splits a.sum a.word.now _ e) }
 
 pub returns-in-Refused : goal.returns-in-Refused
 returns-in-Refused c = let a = c.args in
     let p = c.peel_admitted in
-    let g = c.r-1.given in
     let e = sym (ap peeling_reply c.in-Refused.is) ∙ p.ensures.result_value in
     same_text
     (peel_refused a.words.now a.n a.m a.k a.splits a.sum a.word.now c.in-Refused.r e)
@@ -48,7 +45,6 @@ returns-in-Refused c = let a = c.args in
 pub returns-in-Made : goal.returns-in-Made
 returns-in-Made c = let a = c.args in
     let p = c.peel_admitted in
-    let g = c.enum_told-1.given in
     let e = sym (ap peeling_reply c.in-Made.is) ∙ p.ensures.result_value in
     same_text
     (rw p.ensures.word_after (peel_passes a.words.now a.n a.m a.k a.splits a.sum a.word.now _ e))

@@ -25,7 +25,7 @@ pub loop-i-preserved : goal.loop-i-preserved
 loop-i-preserved c = let e = c.payload.ensures in
     let l = c.loop-i in
     let P = c.requires.0 in
-    (elim c.if-payload-lt64.branch [ then-payload-lt64 w ↦ rw w.1 (omega arith, part_low _ _ _ _ _ _ P (omega arith) l.invariant.1 (rw (← e) w.if-payload-lt64.true)) | else-payload-lt64 w ↦ rw w.1 (omega arith, part_high _ _ _ _ _ _ P (omega arith) l.invariant.1 (rw (← e) w.if-payload-lt64.false)) ])
+    (elim c.if-payload-lt64.branch [ then-payload-lt64 w ↦ rw w.k-is (omega arith, part_low _ _ _ _ _ _ P (omega arith) l.invariant.1 (rw (← e) w.if-payload-lt64.true)) | else-payload-lt64 w ↦ rw w.k-is (omega arith, part_high _ _ _ _ _ _ P (omega arith) l.invariant.1 (rw (← e) w.if-payload-lt64.false)) ])
 
 pub returns : goal.returns
 returns c = let l = c.loop-i in

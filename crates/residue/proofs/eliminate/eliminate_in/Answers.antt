@@ -1,11 +1,9 @@
 -- `eliminate::eliminate_in` meets its contract. Assumes nothing.
-use mathlib.Core.Bool.{not}
 use Prim.Native.Nat.{◌≤◌}
 use mathlib.Core.Path.{ap, ◌∙◌}
 use native.Mathlib.Nat.{mul-le-mul_right}
 use native.Mathlib.Omega.{arith}
 use lib.ListN.{length}
-use borrow.Author.Tests.{not-false}
 use Rattle.residue.proofs.Solving.{rows_low, rows_none, rows_some}
 use Rattle.residue.proofs.eliminate.eliminate_in.Goals as goal
 

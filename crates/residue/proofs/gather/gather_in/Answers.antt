@@ -1,5 +1,4 @@
 -- `gather::gather_in` meets its contract. Assumes nothing.
-use Prim.Native.Nat.{◌-◌}
 use mathlib.Core.Path.{◌≡◌, refl, ◌∙◌}
 use native.Mathlib.Omega.{arith}
 use Rattle.parity.proofs.Matrix.Lent.{row_room}
@@ -25,15 +24,18 @@ overflow_add-count c = let l = c.loop-c in
 
 pub loop-c-preserved : goal.loop-c-preserved
 loop-c-preserved c = let l = c.loop-c in
-    (elim c.if-touches.branch [ then-touches w ↦ rw (w.5, w.6) (
-      omega arith,
-      w.2.ensures.long ∙ l.invariant.1,
-      gathered_more _ _ _ _ _ _ l.invariant.2 _ (copied_row 8 _ c.requires.3 _ _ _ _ _ w.2.ensures) (λ d b k _. row_others _ _ _ (omega arith) _ _ _ w.2.ensures d b (λ e. omega arith)),
-    ) | else-touches w ↦ rw (w.1, w.2) (
-      omega arith,
-      l.invariant.1,
-      gathered_past _ _ _ _ _ _ l.invariant.2 (not_touched _ _ c.touches.ensures w.if-touches.false),
-    ) ])
+    (elim c.if-touches.branch [
+      | then-touches w ↦ rw (w.rows-is, w.count-is) (
+        omega arith,
+        w.copy_words.ensures.long ∙ l.invariant.1,
+        gathered_more _ _ _ _ _ _ l.invariant.2 _ (copied_row 8 _ c.requires.3 _ _ _ _ _ w.copy_words.ensures) (λ d b k _. row_others _ _ _ (omega arith) _ _ _ w.copy_words.ensures d b (λ e. omega arith)),
+      )
+      | else-touches w ↦ rw (w.rows-is, w.count-is) (
+        omega arith,
+        l.invariant.1,
+        gathered_past _ _ _ _ _ _ l.invariant.2 (not_touched _ _ c.touches.ensures w.if-touches.false),
+      )
+    ])
 
 pub returns : goal.returns
 returns c = let l = c.loop-c in

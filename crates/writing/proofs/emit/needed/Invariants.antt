@@ -1,6 +1,6 @@
 -- What the loops of `needed` keep.
 use mathlib.Core.Path.{◌≡◌}
-use Prim.Native.Nat.{◌+◌, ◌*◌, ◌-◌, ◌≤◌}
+use Prim.Native.Nat.{◌+◌, ◌*◌, ◌≤◌}
 use Rattle.parity.specs.Matrix.{lent}
 use Rattle.parity.specs.Finite.{sum, count}
 use Rattle.writing.proofs.emit.needed.Given as goal

@@ -1,5 +1,5 @@
 -- What the loops of `put_checks` keep.
-use Prim.Native.Nat.{◌*◌, ◌-◌, ◌≤◌}
+use Prim.Native.Nat.{◌*◌, ◌≤◌}
 use Rattle.parity.specs.Matrix.{lent}
 use Rattle.parity.specs.Record.{check_words}
 use Rattle.writing.specs.Write.{Wrote}

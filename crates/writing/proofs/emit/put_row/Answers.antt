@@ -1,6 +1,5 @@
 -- `emit::put_row` meets its contract. Assumes nothing.
 use mathlib.Core.Path.{◌≡◌}
-use Prim.Native.Nat.{◌-◌}
 use native.Mathlib.Omega.{arith}
 use Rattle.parity.specs.Record.{bit_words}
 use Rattle.writing.proofs.Emitting.{wrote_none, wrote_more, wrote_length, row_next, bits_room}

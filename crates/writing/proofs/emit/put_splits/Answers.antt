@@ -1,6 +1,5 @@
 -- `emit::put_splits` meets its contract. Assumes nothing.
 use mathlib.Core.Path.{◌≡◌}
-use Prim.Native.Nat.{◌-◌}
 use native.Mathlib.Omega.{arith}
 use Rattle.writing.proofs.Emitting.{wrote_length, splits_none, splits_next}
 use Rattle.writing.proofs.emit.put_splits.Goals as goal

@@ -1,5 +1,5 @@
 -- What the loops of `put_splits` keep.
-use Prim.Native.Nat.{◌+◌, ◌-◌, ◌≤◌}
+use Prim.Native.Nat.{◌+◌, ◌≤◌}
 use Rattle.parity.specs.Finite.{list_from}
 use Rattle.parity.specs.Matrix.{lent}
 use Rattle.writing.specs.Write.{split_of_check, Wrote}

@@ -1,7 +1,5 @@
 -- What the loops of `put_word` keep.
 use Rattle.writing.proofs.Emitting.{Emitting}
-use Rattle.writing.proofs.emit.put_word.Reads as reads
-use Rattle.writing.proofs.emit.put_word.Lts as lts
 use Rattle.writing.proofs.emit.put_word.Given as goal
 
 abbrev pub invariant-loop-rest : goal.invariant-loop-rest

@@ -1,0 +1,5 @@
+-- The measure of `put_decimal`: the number falls.
+use Rattle.lines.proofs.text.+put_decimal.Given as goal
+
+abbrev pub decreases-put_decimal : goal.decreases-put_decimal
+decreases-put_decimal l = l.x

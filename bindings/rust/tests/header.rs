@@ -84,7 +84,7 @@ fn of_wrapper(text: &str) -> Vec<Declared> {
 /// A slice of the crate is a pointer and then its length.
 fn of_crate(text: &str) -> Vec<Declared> {
     let mut all = Vec::new();
-    for part in text.split("#[no_mangle]\npub extern \"C\" fn ").skip(1) {
+    for part in text.split("#[unsafe(no_mangle)]\npub extern \"C\" fn ").skip(1) {
         let (name, rest) = part.split_once('(').unwrap();
         let (parameters, rest) = rest.split_once(')').unwrap();
         let mut list = Vec::new();

@@ -1,6 +1,6 @@
 -- What the loops of `put_bits` keep.
 use mathlib.Core.Path.{◌≡◌}
-use Prim.Native.Nat.{◌-◌, ◌≤◌, ◌<◌}
+use Prim.Native.Nat.{◌≤◌, ◌<◌}
 use lib.ListN.{length}
 use Rattle.house_codes.proofs.put_bits.Given as goal
 

@@ -1,5 +1,4 @@
 -- `pairs_back` meets its contract. Assumes nothing.
-use Prim.Native.Nat.{◌-◌}
 use native.Mathlib.Omega.{arith}
 use Rattle.try_peel.proofs.pairs_back.Goals as goal
 use Rattle.try_peel.proofs.pairs_back.Goals.{then-comes_back, else-comes_back}

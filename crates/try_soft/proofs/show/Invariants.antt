@@ -1,10 +1,9 @@
--- What the loops of `show` keep.
-use Prim.Native.Nat.{◌-◌, ◌≤◌}
-use lib.ListN.{length}
+-- Each turn takes the next byte of the word.
+use Rattle.std.proofs.Common.{length, ◌-◌, ◌≤◌}
 use Rattle.try_soft.proofs.show.Given as goal
 
 abbrev pub invariant-loop-i : goal.invariant-loop-i
-invariant-loop-i l = l.i ≤ length l.word
+invariant-loop-i g l = l.i ≤ length l.word
 
 abbrev pub decreases-loop-i : goal.decreases-loop-i
-decreases-loop-i l = length l.word - l.i
+decreases-loop-i g l = length l.word - l.i

@@ -1,5 +1,4 @@
 -- `dense` meets its contract. Assumes nothing.
-use Prim.Native.Nat.{◌-◌}
 use native.Mathlib.Omega.{arith}
 use lib.ListN.{length-set}
 use Rattle.try_split.proofs.dense.Goals as goal

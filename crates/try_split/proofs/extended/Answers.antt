@@ -1,5 +1,4 @@
 -- `extended` meets its contract. Assumes nothing.
-use Prim.Native.Nat.{◌-◌}
 use native.Mathlib.Omega.{arith}
 use lib.ListN.{length-set}
 use Rattle.try_split.proofs.extended.Goals as goal

@@ -1,5 +1,5 @@
 -- What the loops of `ones` keep.
-use Prim.Native.Nat.{◌-◌, ◌≤◌}
+use Prim.Native.Nat.{◌≤◌}
 use Rattle.try_split.proofs.ones.Given as goal
 
 abbrev pub invariant-loop-c : goal.invariant-loop-c

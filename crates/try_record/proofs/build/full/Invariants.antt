@@ -1,5 +1,5 @@
 -- What the loops of `full` keep.
-use Prim.Native.Nat.{◌-◌, ◌≤◌}
+use Prim.Native.Nat.{◌≤◌}
 use Rattle.try_record.proofs.build.full.Given as goal
 
 abbrev pub invariant-loop-c : goal.invariant-loop-c

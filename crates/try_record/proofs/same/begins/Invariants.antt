@@ -1,5 +1,5 @@
 -- What the loops of `begins` keep.
-use Prim.Native.Nat.{◌-◌, ◌≤◌}
+use Prim.Native.Nat.{◌≤◌}
 use mathlib.Core.Path.{◌≡◌}
 use lib.ListN.{length}
 use Rattle.try_record.proofs.same.begins.Given as goal

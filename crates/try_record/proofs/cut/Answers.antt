@@ -1,8 +1,0 @@
--- `cut` is safe and ends. Assumes nothing.
-use mathlib.Core.Path.{sym}
-use native.Mathlib.Omega.{arith}
-use lib.Seq.{length-take-le}
-use Rattle.try_record.proofs.cut.Goals as goal
-
-pub slice_bounds-load-end : goal.slice_bounds-load-end
-slice_bounds-load-end c = sym (length-take-le c.args.len c.args.source.now (omega arith))

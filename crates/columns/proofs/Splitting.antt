@@ -17,7 +17,7 @@ use Rattle.parity.specs.Cycles.{split_of}
 use Rattle.parity.proofs.Matrix.Digits.{bit_of_and, bit_of_or, bit_not, bit_zero}
 use Rattle.parity.proofs.Matrix.Lent.{lent_in, lent_out, row_room}
 use Rattle.columns.specs.Columns.{Columns}
-use Rattle.columns.specs.Splits.{parted, joined, InWord, InWords, Parted, Joined}
+use Rattle.columns.specs.Splits.{parted, joined, InWord, InWords, Parted}
 
 -- The word of place p of row r becomes w.
 pub lent_set : (W : ℕ) (ws : List ℕ) (r p w : ℕ) → r * W + p < length ws → p < W → (x b : ℕ)

@@ -8,7 +8,7 @@ use native.Mathlib.Omega.{arith}
 use native.Mathlib.Decide.{ℕ_discrete, dec_lt}
 use lib.ListN.{get_or, length, set, length-set}
 use lib.Seq.{get_or-set_same, get_or-set_other}
-use lib.Arith.{digits_div, digits_lt}
+use lib.Arith.{digits_div}
 use borrow.Author.Tests.{eq-eqb, ne_eqb}
 use Rattle.parity.specs.Matrix.{Matrix, bit_of, lent}
 use Rattle.parity.proofs.Matrix.Lent.{lent_in, lent_out}

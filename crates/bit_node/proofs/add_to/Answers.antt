@@ -1,6 +1,5 @@
 -- `add_to` meets its contract. Assumes nothing.
 use mathlib.Core.Path.{◌≡◌}
-use Prim.Native.Nat.{◌-◌}
 use native.Mathlib.Omega.{arith}
 use Rattle.bit_node.proofs.SoftAlone.{added_none, added_more}
 use Rattle.bit_node.proofs.add_to.Goals as goal

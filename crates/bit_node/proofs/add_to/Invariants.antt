@@ -1,5 +1,5 @@
 -- What the loops of `add_to` keep.
-use Prim.Native.Nat.{◌≤◌, ◌-◌}
+use Prim.Native.Nat.{◌≤◌}
 use Rattle.bit_node.specs.Sums.{AddedTo}
 use Rattle.bit_node.proofs.add_to.Given as goal
 

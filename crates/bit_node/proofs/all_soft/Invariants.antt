@@ -1,6 +1,6 @@
 -- What the loops of `all_soft` keep.
 use mathlib.Core.Path.{◌≡◌}
-use Prim.Native.Nat.{ℕ, ◌≤◌, ◌<◌, ◌-◌}
+use Prim.Native.Nat.{ℕ, ◌≤◌, ◌<◌}
 use lib.ListN.{length, get_or}
 use Rattle.bit_node.proofs.all_soft.Given as goal
 

@@ -3,7 +3,6 @@ use Rattle.soft.proofs.Places.{partly_start, partly_more}
 use Rattle.bit_node.specs.Sums.{joined_with}
 use Rattle.parity.specs.Soft.{message_at, with_next}
 use native.Mathlib.Omega.{arith}
-use Prim.Native.Nat.{◌-◌}
 use mathlib.Core.Path.{◌≡◌, sym, ap, ◌∙◌}
 use Rattle.bit_node.proofs.join_all.Goals as goal
 

@@ -3,7 +3,7 @@ use Rattle.bit_node.specs.Sums.{joined_with}
 use Rattle.soft.specs.Store.{Partly}
 use Rattle.parity.specs.Soft.{message_at}
 use lib.ListN.{length}
-use Prim.Native.Nat.{◌≤◌, ◌-◌}
+use Prim.Native.Nat.{◌≤◌}
 use Rattle.bit_node.proofs.join_all.Given as goal
 
 abbrev pub invariant-loop-t : goal.invariant-loop-t

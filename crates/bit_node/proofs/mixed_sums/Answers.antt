@@ -4,7 +4,6 @@ use Rattle.soft.proofs.Places.{partly_start, partly_all}
 use Rattle.parity.specs.Soft.{message_at}
 use lib.ListN.{length}
 use native.Mathlib.Omega.{arith}
-use Prim.Native.Nat.{◌-◌}
 use mathlib.Core.Path.{◌≡◌, refl, sym, ◌∙◌}
 use Rattle.bit_node.proofs.mixed_sums.Goals as goal
 

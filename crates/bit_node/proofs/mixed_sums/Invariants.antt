@@ -3,7 +3,7 @@ use Rattle.bit_node.specs.Sums.{part_sum}
 use Rattle.soft.specs.Store.{Partly}
 use Rattle.parity.specs.Soft.{message_at}
 use lib.ListN.{length}
-use Prim.Native.Nat.{◌≤◌, ◌-◌}
+use Prim.Native.Nat.{◌≤◌}
 use mathlib.Core.Path.{◌≡◌}
 use Rattle.bit_node.proofs.mixed_sums.Given as goal
 

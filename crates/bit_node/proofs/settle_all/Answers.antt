@@ -2,7 +2,6 @@
 use Rattle.soft.proofs.Places.{partly_start, partly_more, partly_all}
 use Rattle.parity.specs.Soft.{settled}
 use native.Mathlib.Omega.{arith}
-use Prim.Native.Nat.{◌-◌}
 use mathlib.Core.Path.{refl, sym, ap, ◌∙◌}
 use Rattle.bit_node.proofs.settle_all.Goals as goal
 

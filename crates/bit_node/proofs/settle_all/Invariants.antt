@@ -3,7 +3,7 @@ use Rattle.bit_node.specs.Sums.{settled_of}
 use Rattle.soft.specs.Store.{Partly}
 use Rattle.parity.specs.Soft.{message_at}
 use lib.ListN.{length}
-use Prim.Native.Nat.{◌≤◌, ◌-◌}
+use Prim.Native.Nat.{◌≤◌}
 use mathlib.Core.Path.{◌≡◌}
 use Rattle.bit_node.proofs.settle_all.Given as goal
 

@@ -1,6 +1,5 @@
 -- `soft_sums` meets its contract. Assumes nothing.
 use mathlib.Core.Path.{◌≡◌, refl}
-use Prim.Native.Nat.{◌-◌}
 use native.Mathlib.Omega.{arith}
 use lib.ListN.{length}
 use Rattle.bit_node.proofs.SoftAlone.{alone_none, alone_more}

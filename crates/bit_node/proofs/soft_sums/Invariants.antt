@@ -1,6 +1,6 @@
 -- What the loops of `soft_sums` keep.
 use mathlib.Core.Path.{◌≡◌}
-use Prim.Native.Nat.{◌≤◌, ◌-◌}
+use Prim.Native.Nat.{◌≤◌}
 use lib.ListN.{length}
 use Rattle.bit_node.specs.Sums.{SoftSums}
 use Rattle.bit_node.proofs.soft_sums.Given as goal

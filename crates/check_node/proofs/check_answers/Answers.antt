@@ -5,7 +5,6 @@ use Rattle.check_node.specs.Pass.{check_answer}
 use Rattle.parity.specs.Soft.{message_at}
 use lib.ListN.{length}
 use native.Mathlib.Omega.{arith}
-use Prim.Native.Nat.{◌-◌}
 use mathlib.Core.Path.{◌≡◌, refl, sym, ◌∙◌}
 use Rattle.check_node.proofs.check_answers.Goals as goal
 

@@ -3,7 +3,7 @@ use Rattle.soft.specs.Store.{Partly}
 use Rattle.check_node.specs.Pass.{seen, check_answer}
 use Rattle.parity.specs.Soft.{message_at}
 use lib.ListN.{length}
-use Prim.Native.Nat.{◌≤◌, ◌-◌}
+use Prim.Native.Nat.{◌≤◌}
 use mathlib.Core.Path.{◌≡◌}
 use Rattle.check_node.proofs.check_answers.Given as goal
 

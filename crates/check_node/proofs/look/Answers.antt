@@ -2,7 +2,6 @@
 use Rattle.check_node.proofs.Two.{seen_none_lem, seen_next, seen_room}
 use lib.ListN.{length}
 use native.Mathlib.Omega.{arith}
-use Prim.Native.Nat.{◌-◌}
 use mathlib.Core.Path.{◌≡◌, refl, sym, ◌∙◌}
 use Rattle.check_node.proofs.look.Goals as goal
 

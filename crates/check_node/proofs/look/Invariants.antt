@@ -2,7 +2,7 @@
 use Rattle.check_node.specs.Pass.{seen}
 use Rattle.parity.specs.Soft.{message_at}
 use lib.ListN.{length}
-use Prim.Native.Nat.{◌≤◌, ◌-◌}
+use Prim.Native.Nat.{◌≤◌}
 use mathlib.Core.Path.{◌≡◌}
 use Rattle.check_node.proofs.look.Given as goal
 

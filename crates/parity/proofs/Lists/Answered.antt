@@ -8,7 +8,7 @@ use native.Mathlib.Decide.{ℕ_discrete, dec_lt}
 use lib.ListN.{get_or, length}
 use borrow.Author.Tests.{eq-eqb, eqb-false, ltb-false}
 use Rattle.parity.specs.Finite.{count, any_set}
-use Rattle.parity.specs.Matrix.{lent, cause}
+use Rattle.parity.specs.Matrix.{lent}
 use Rattle.parity.specs.Words.{erased, is_one, residue, solves, peels, peeled, recovered, losses}
 use Rattle.parity.specs.Determining.{determined}
 use Rattle.parity.specs.Causes.{refusal, Outcome}

@@ -9,12 +9,12 @@ use native.Mathlib.Omega.{arith}
 use native.Mathlib.Decide.{ℕ_discrete}
 use lib.ListN.{get_or, take}
 use borrow.Author.Tests.{eqb-false, ne_eqb}
-use Rattle.parity.specs.Matrix.{Matrix, lent, pack, rule_a}
+use Rattle.parity.specs.Matrix.{Matrix, lent, pack, rule_a, cause}
 use Rattle.parity.specs.Cycles.{share, cycles, split_of, largest_share, lower_bit, higher_bit, Orthogonalised}
 use Rattle.parity.specs.Words.{is_one, inside}
 use Rattle.parity.specs.Causes.{Reply, answer, Outcome}
-use Rattle.parity.specs.Calls.{byte_of, count_reply, orthogonalising, orthogonalised_reply}
-use Rattle.parity.specs.Demand3.{runs, start}
+use Rattle.parity.specs.Calls.{byte_of, count_reply, orthogonalising, orthogonalised_reply, orthogonalise_outcome, is_stopping_reply}
+use Rattle.parity.specs.Demand3.{Call, runs, start}
 use Rattle.parity.specs.ArticlePromises.{CountsFourCycles, CountsFewer, OrthogonalisingFinishes, AddedBitsDoNotStop, SentBitsStop}
 use Rattle.parity.proofs.Finite.Sums.{is_true, is_false, is}
 use Rattle.parity.proofs.Splits.Pairs.{pairs_two}
@@ -61,6 +61,10 @@ added_bits_do_not_stop ws n m k a t e f b l =
     let none = added_stop (lent 8 ws) n m k A.sound.rule (is_one (byte_of t)) S (λ b l. ne_eqb (byte_of t b) 1 (λ q. omega (arith, f b l))) b l in
     omega (arith, W.bytes b l, eqb-false (byte_of t b) 1 none)
 
+pub theorem_5 : (ws : List ℕ) (n m k : ℕ) → cause ws n m k ≡ 0 → (t : List ℕ) → is_stopping_reply ws n m k t ≡ answer (1 ∷ [])
+    → ((b : ℕ) → b < n → byte_of t b ≡ 0) → (b : ℕ) → b < n + k → byte_of t b ≡ 0
+theorem_5 = added_bits_do_not_stop
+
 -- Theorem 6, after every list of calls: the sent bits of a stopping set of the extended matrix are one of the given matrix.
 pub sent_bits_stop : SentBitsStop
 sent_bits_stop given n m a cs t e =
@@ -71,6 +75,11 @@ sent_bits_stop given n m a cs t e =
     list_stops given n m 0 A (take n t)
     (rw (add-zero n) (take_word n (n + s.k) 1 t W (omega arith)))
     (rw (add-zero n, add-zero m) (take_stops n (n + s.k) 1 t W (omega arith) (lent 8 given) m ((good (lent 8 given) n m A.sound S.built).stops (is_one (byte_of t)) T)))
+
+pub theorem_6 : (given : List ℕ) (n m : ℕ) → cause given n m 0 ≡ 0 → (cs : List Call)
+    → let s = runs n m (start given) cs in
+    (t : List ℕ) → is_stopping_reply s.words n m s.k t ≡ answer (1 ∷ []) → is_stopping_reply given n m 0 (take n t) ≡ answer (1 ∷ [])
+theorem_6 = sent_bits_stop
 
 -- After some splits with some sum: each took a four-cycle at least, and what is left was there.
 pub record Counted (n m k₀ total₀ : ℕ) (h : Matrix) (k splits total : ℕ) : Type 0 where
@@ -112,6 +121,11 @@ module _ (ws : List ℕ) (n m k : ℕ) (A : Accepted ws n m k) where
             let E = orthogonal_ends ws n m k A in
             absurd (omega (arith, counted.added, counted.each, counted.falls, E.full e, some_cycles o.matrix (n + o.k) (m + o.k) (E.pair_left e)))
       ]
+
+  -- Theorem 4: where there is room for as many added bits, it finishes.
+  pub theorem_4 : k + cycles h (n + k) (m + k) ≤ 392 → (orthogonalise_outcome ws n m k).reply.number ≡ 0
+  unfolding orthogonalised_reply
+  theorem_4 l = ap (λ (x : Outcome). x.reply.number) (orthogonalises ws n m k A) ∙ rw (room_finishes l)
 
 -- counting answers
 counted_accepted : (ws : List ℕ) (n m k c : ℕ) → count_reply ws n m k ≡ answer (c ∷ []) → Accepted ws n m k

@@ -8,7 +8,6 @@ use native.Mathlib.Omega.{arith}
 use lib.Dec.{eqb}
 use lib.ListN.{get_or, length}
 use borrow.Author.Tests.{eqb-true}
-use Rattle.parity.specs.Finite.{all}
 use Rattle.parity.specs.Matrix.{Matrix, in_range}
 use Rattle.parity.specs.Splits.{Pair, split_all, split_right, splits_right}
 use Rattle.parity.specs.Record.{kind_of, payload, head_kind, form_of, head_word, carries, pair_in, split_word, end_word, Checked, stopped, checked, reading, loaded, ending, performing, behind, loading, splitting, split_words, record_of}

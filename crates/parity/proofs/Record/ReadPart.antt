@@ -9,7 +9,6 @@ use borrow.Author.Tests.{lt-ltb, le-ltb}
 use Rattle.parity.specs.Matrix.{Matrix, put}
 use Rattle.parity.proofs.Finite.Sums.{is_true, is_false, is}
 use Rattle.parity.proofs.Matrix.Lent.{put_here, put_row, put_place}
-use Rattle.parity.proofs.Record.Reading.{bits}
 
 -- The part of a matrix that is read with check c and its bits below b: those bits, and the checks before. Bits are below 512.
 unfoldable pub cut : Matrix → ℕ → ℕ → Matrix

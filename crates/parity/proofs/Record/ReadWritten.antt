@@ -6,7 +6,7 @@ use Prim.Native.Nat.{ℕ, zero, suc, ◌+◌, ◌*◌, ◌-◌, ◌/◌, ◌%◌
 use native.Mathlib.Nat.{add-zero, zero-add}
 use native.Mathlib.Omega.{arith}
 use borrow.Author.Tests.{eq-eqb, lt-ltb}
-use Rattle.parity.specs.Finite.{one, sum, count}
+use Rattle.parity.specs.Finite.{sum, count}
 use Rattle.parity.specs.Matrix.{Matrix, put}
 use Rattle.parity.specs.Record.{kind_of, payload, head_kind, form_of, head_word, number_in, open_word, bit_word, Checked, checked, reading, bit_words, opening, check_words}
 use Rattle.parity.specs.declared.Form.{Form}

@@ -6,7 +6,7 @@ use native.Mathlib.Decide.{ℕ_discrete}
 use native.Mathlib.Omega.{arith}
 use Rattle.parity.specs.Finite.{count, any, all}
 use Rattle.parity.specs.Matrix.{Matrix}
-use Rattle.parity.specs.Words.{inside, erased}
+use Rattle.parity.specs.Words.{inside}
 use Rattle.parity.proofs.Finite.Sums.{is_true, is_false, is, any_of, any_at, all_of, count_cong}
 use Rattle.parity.proofs.Words.Extend.{odd_only}
 use Rattle.parity.specs.Soft.{is_erased, is_sure, turns_sign, turns_odd, check_sends, with_next, gathered, settled, but}

@@ -1,5 +1,4 @@
 -- `pivots::even_from` meets its contract. Assumes nothing.
-use Prim.Native.Nat.{◌-◌}
 use mathlib.Core.Path.{sym, ◌∙◌}
 use mathlib.Core.Bool.{true≢false, false≢true}
 use native.Mathlib.Omega.{arith}
@@ -24,12 +23,12 @@ returns-then-is_odd c = let l = c.loop-c in
 
 pub loop-c-preserved : goal.loop-c-preserved
 loop-c-preserved c = let l = c.loop-c in (
-      omega arith,
-      λ i k m. elim (ℕ_discrete i l.c) [
-        | yes q ↦ rw q (eqb-true _ 0 (not_odd_even _ (sym c.is_odd.ensures ∙ c.if-is_odd.false)))
-        | no d ↦ l.invariant.1 i k (omega arith)
-      ],
-    )
+  omega arith,
+  λ i k m. elim (ℕ_discrete i l.c) [
+    | yes q ↦ rw q (eqb-true _ 0 (not_odd_even _ (sym c.is_odd.ensures ∙ c.if-is_odd.false)))
+    | no d ↦ l.invariant.1 i k (omega arith)
+  ],
+)
 
 pub returns : goal.returns
 returns c = let l = c.loop-c in

@@ -1,5 +1,5 @@
 -- What the loops of `even_from` keep.
-use Prim.Native.Nat.{ℕ, ◌*◌, ◌%◌, ◌-◌, ◌≤◌, ◌<◌}
+use Prim.Native.Nat.{ℕ, ◌*◌, ◌%◌, ◌≤◌, ◌<◌}
 use mathlib.Core.Path.{◌≡◌}
 use Rattle.parity.specs.Matrix.{lent}
 use Rattle.parity.specs.Words.{inside}

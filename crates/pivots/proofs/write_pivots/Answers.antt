@@ -1,5 +1,4 @@
 -- `pivots::write_pivots` meets its contract. Assumes nothing.
-use Prim.Native.Nat.{◌-◌}
 use mathlib.Core.Path.{◌≡◌, ◌∙◌}
 use native.Mathlib.Omega.{arith}
 use Rattle.parity.proofs.Matrix.Lent.{row_room}
@@ -11,22 +10,22 @@ loop-c-init c = (omega arith, c.requires.5, c.requires.6, pivots_none _ _ _ _ _ 
 
 pub write_pivot-requires : goal.write_pivot-requires
 write_pivot-requires c = let l = c.loop-c in (
-      omega (arith, row_room c.args.width l.c c.args.r (omega arith)),
-      c.requires.1,
-      c.requires.7.low l.c (omega arith),
-      c.requires.3,
-      c.requires.4,
-      l.invariant.1,
-      l.invariant.2,
-    )
+  omega (arith, row_room c.args.width l.c c.args.r (omega arith)),
+  c.requires.1,
+  c.requires.7.low l.c (omega arith),
+  c.requires.3,
+  c.requires.4,
+  l.invariant.1,
+  l.invariant.2,
+)
 
 pub loop-c-preserved : goal.loop-c-preserved
 loop-c-preserved c = let l = c.loop-c in (
-      omega arith,
-      c.write_pivot.auto.left ∙ l.invariant.1,
-      c.write_pivot.auto.values ∙ l.invariant.2,
-      pivots_more _ _ _ _ _ _ _ _ _ _ _ _ l.invariant.3 c.write_pivot.ensures,
-    )
+  omega arith,
+  c.write_pivot.auto.left ∙ l.invariant.1,
+  c.write_pivot.auto.values ∙ l.invariant.2,
+  pivots_more _ _ _ _ _ _ _ _ _ _ _ _ l.invariant.3 c.write_pivot.ensures,
+)
 
 pub returns : goal.returns
 returns c = let l = c.loop-c in

@@ -1,5 +1,5 @@
 -- What the loops of `write_pivots` keep.
-use Prim.Native.Nat.{◌*◌, ◌-◌, ◌≤◌}
+use Prim.Native.Nat.{◌*◌, ◌≤◌}
 use mathlib.Core.Path.{◌≡◌}
 use lib.ListN.{length}
 use Rattle.parity.specs.Matrix.{lent}

@@ -30,14 +30,5 @@ pub returns : goal.returns
 returns c = let a = c.args in
     let f = c.put_text-needed in
     let b = c.put_bytes in
-    room
-    (mendText a.input.now)
-    a.output.now
-    f.result
-    (omega (arith, f.ensures.next))
-    (search rules)
-    (take f.result f.new.out)
-    b.new.out
-    b.result
-    (first f.ensures)
-    b.ensures
+    let both = room (mendText a.input.now) a.output.now f.result (omega (arith, f.ensures.next)) (search rules) (take f.result f.new.out) b.new.out b.result (first f.ensures) b.ensures in
+    record { value = both.0; output_after = both.1 }

@@ -38,5 +38,8 @@ returns-in-Complete c = let E = rw c.in-Complete.is at c.end.ensures in
     let f = right_filled _ _ _ _ _ c.requires.1 _ c.fill.ensures in
     let e = load_right _ _ _ _ _ _ c.requires.0 (splits_loads _ _ _ _ c.requires.1 _ _ _ f c.perform-k.ensures E) in
     let P = c.put_words in
-    let ws = P.new.words in record { result_value = sym (ap (λ (o : Outcome). o.reply) e); words_after = sym (pack_lent 8 (lit< tt) ws (P.auto.words ∙ c.requires.0) (λ i. (c.type_inv.words i).fits))
-          ∙ ap (λ (l : List ℕ). pack 8 (lent 8 l)) P.ensures ∙ sym (ap (λ (o : Outcome). o.after) e) }
+    let ws = P.new.words in record {
+      result_value = sym (ap (λ (o : Outcome). o.reply) e);
+      words_after = sym (pack_lent 8 (lit< tt) ws (P.auto.words ∙ c.requires.0) (λ i. (c.type_inv.words i).fits))
+          ∙ ap (λ (l : List ℕ). pack 8 (lent 8 l)) P.ensures ∙ sym (ap (λ (o : Outcome). o.after) e);
+    }

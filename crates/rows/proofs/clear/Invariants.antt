@@ -1,5 +1,5 @@
 -- What the loops of `clear` keep.
-use Prim.Native.Nat.{◌-◌, ◌≤◌}
+use Prim.Native.Nat.{◌≤◌}
 use Rattle.rows.specs.Whole.{Written}
 use Rattle.rows.proofs.clear.Given as goal
 

@@ -1,6 +1,6 @@
 -- What the loops of `common` keep.
 use mathlib.Core.Path.{◌≡◌}
-use Prim.Native.Nat.{◌+◌, ◌*◌, ◌-◌, ◌≤◌}
+use Prim.Native.Nat.{◌+◌, ◌*◌, ◌≤◌}
 use lib.Bits.{bit_and}
 use lib.Count.{ones as onesOf}
 use lib.ListN.{get_or}

@@ -5,7 +5,7 @@ use lib.Count.{ones as onesOf}
 use lib.Bits.{and_le_l, xor_lt, and_mask}
 use borrow.Author.Rules.{rules}
 use native.Mathlib.Omega.{arith}
-use Prim.Native.Nat.{◌+◌, ◌*◌, ◌-◌}
+use Prim.Native.Nat.{◌+◌, ◌*◌}
 use mathlib.Core.Path.{◌≡◌, ap, ◌∙◌}
 use lib.ListN.{get_or}
 use lib.Dec.{eqb}

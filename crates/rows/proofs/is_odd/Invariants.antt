@@ -2,7 +2,7 @@
 use Rattle.parity.specs.Words.{inside}
 use Rattle.parity.specs.Matrix.{lent}
 use lib.Count.{ones as onesOf}
-use Prim.Native.Nat.{◌*◌, ◌-◌, ◌%◌, ◌^◌, ◌≤◌, ◌<◌}
+use Prim.Native.Nat.{◌*◌, ◌%◌, ◌^◌, ◌≤◌, ◌<◌}
 use mathlib.Core.Path.{◌≡◌}
 use Rattle.rows.proofs.is_odd.Given as goal
 

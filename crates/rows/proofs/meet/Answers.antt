@@ -1,6 +1,5 @@
 -- `meet` meets its contract. Assumes nothing.
 use mathlib.Core.Path.{◌≡◌, refl}
-use Prim.Native.Nat.{◌-◌}
 use native.Mathlib.Omega.{arith}
 use Rattle.rows.specs.Zeros.{both}
 use Rattle.rows.proofs.Zeros.{zeros_none, zeros_more}

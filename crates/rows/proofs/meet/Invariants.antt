@@ -1,5 +1,5 @@
 -- What the loops of `meet` keep.
-use Prim.Native.Nat.{◌-◌, ◌≤◌}
+use Prim.Native.Nat.{◌≤◌}
 use Rattle.rows.specs.Zeros.{Zeros, both}
 use Rattle.rows.proofs.meet.Given as goal
 

@@ -1,6 +1,6 @@
 -- `next_in_words` meets its contract. Assumes nothing.
 use mathlib.Core.Path.{◌≡◌}
-use Prim.Native.Nat.{◌+◌, ◌*◌, ◌-◌}
+use Prim.Native.Nat.{◌+◌, ◌*◌}
 use native.Mathlib.Omega.{arith}
 use lib.Count.{trailing_le}
 use lib.ListN.{get_or}
@@ -23,13 +23,12 @@ returns-then-x-ne0 c = let l = c.loop-i in
     _ (trailing_lowest 64 _ (c.type_inv.rows (c.args.c * c.args.width + l.i)).fits c.if-x-ne0.true))
 
 pub loop-i-preserved : goal.loop-i-preserved
-loop-i-preserved c = let l = c.loop-i in
-    (
-      omega arith,
-      omega arith,
-      clear_word c.args.width c.args.rows.now c.args.c l.i (c.args.from * 64) _ (omega arith)
-          (from_all c.args.width c.args.rows.now c.args.c l.i (c.args.from * 64) (omega arith)) l.invariant.2 c.if-x-ne0.false,
-    )
+loop-i-preserved c = let l = c.loop-i in (
+  omega arith,
+  omega arith,
+  clear_word c.args.width c.args.rows.now c.args.c l.i (c.args.from * 64) _ (omega arith)
+      (from_all c.args.width c.args.rows.now c.args.c l.i (c.args.from * 64) (omega arith)) l.invariant.2 c.if-x-ne0.false,
+)
 
 pub returns : goal.returns
 returns c = let e : c.loop-i.i ≡ c.args.width = omega arith in

@@ -1,6 +1,6 @@
 -- What the loops of `weight` keep.
 use mathlib.Core.Path.{◌≡◌}
-use Prim.Native.Nat.{◌+◌, ◌*◌, ◌-◌, ◌≤◌}
+use Prim.Native.Nat.{◌+◌, ◌*◌, ◌≤◌}
 use lib.Count.{ones as onesOf}
 use lib.ListN.{get_or}
 use Rattle.parity.specs.Finite.{sum}

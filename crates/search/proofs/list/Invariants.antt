@@ -1,6 +1,6 @@
 -- What the loops of `list` keep.
 use mathlib.Core.Path.{◌≡◌}
-use Prim.Native.Nat.{◌-◌, ◌≤◌}
+use Prim.Native.Nat.{◌≤◌}
 use lib.ListN.{length}
 use Rattle.search.specs.Live.{Listed}
 use Rattle.search.proofs.list.Given as goal

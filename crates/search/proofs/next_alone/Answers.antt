@@ -1,6 +1,5 @@
 -- `next_alone` meets its contract. Assumes nothing.
 use mathlib.Core.Path.{◌≡◌, refl, sym, ◌∙◌}
-use Prim.Native.Nat.{◌-◌}
 use native.Mathlib.Omega.{arith}
 use lib.ListN.{length-set}
 use Rattle.parity.proofs.Matrix.Ones.{trailing_lowest}

@@ -1,6 +1,5 @@
 -- `offsets` meets its contract. Assumes nothing.
 use mathlib.Core.Path.{◌≡◌}
-use Prim.Native.Nat.{◌-◌}
 use native.Mathlib.Omega.{arith}
 use Rattle.search.proofs.Offset.{offsets_none, offsets_more}
 use Rattle.search.proofs.offsets.Goals as goal

@@ -1,5 +1,5 @@
 -- What the loops of `offsets` keep.
-use Prim.Native.Nat.{◌-◌, ◌≤◌}
+use Prim.Native.Nat.{◌≤◌}
 use Rattle.search.specs.Live.{Offsets}
 use Rattle.search.proofs.offsets.Given as goal
 

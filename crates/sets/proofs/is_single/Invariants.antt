@@ -1,5 +1,5 @@
 -- What the loops of `is_single` keep.
-use Prim.Native.Nat.{◌*◌, ◌-◌, ◌≤◌}
+use Prim.Native.Nat.{◌*◌, ◌≤◌}
 use Rattle.parity.specs.Matrix.{lent}
 use Rattle.parity.specs.Words.{inside}
 use Rattle.sets.proofs.Single.{Seen}

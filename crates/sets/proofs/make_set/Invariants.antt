@@ -1,5 +1,5 @@
 -- What the loops of `make_set` keep.
-use Prim.Native.Nat.{◌-◌, ◌≤◌}
+use Prim.Native.Nat.{◌≤◌}
 use Rattle.sets.proofs.Making.{Words}
 use Rattle.sets.proofs.make_set.Given as goal
 

@@ -11,14 +11,13 @@ pub loop-b-init : goal.loop-b-init
 loop-b-init c = (refl, c.lesser-end.ensures, omega arith, omega arith, upto_none _ _ _)
 
 pub loop-b-preserved : goal.loop-b-preserved
-loop-b-preserved c = let l = c.loop-b in
-    (
-      refl,
-      c.lesser-end.ensures,
-      omega arith,
-      omega arith,
-      (elim c.if-bytes-b.branch [ then-bytes-b w ↦ let k : l.b - c.args.i * 64 < 64 = omega arith in rw (w.x-is, one_shl _ k) (upto_in _ _ _ _ _ l.invariant.4 (omega arith) w.if-bytes-b.true) | else-bytes-b w ↦ rw w.x-is (upto_out _ _ _ _ _ l.invariant.4 w.if-bytes-b.false) ]),
-    )
+loop-b-preserved c = let l = c.loop-b in (
+  refl,
+  c.lesser-end.ensures,
+  omega arith,
+  omega arith,
+  (elim c.if-bytes-b.branch [ then-bytes-b w ↦ let k : l.b - c.args.i * 64 < 64 = omega arith in rw (w.x-is, one_shl _ k) (upto_in _ _ _ _ _ l.invariant.4 (omega arith) w.if-bytes-b.true) | else-bytes-b w ↦ rw w.x-is (upto_out _ _ _ _ _ l.invariant.4 w.if-bytes-b.false) ]),
+)
 
 pub returns : goal.returns
 returns c = let l = c.loop-b in

@@ -1,5 +1,5 @@
 -- What the loops of `word_of` keep.
-use Prim.Native.Nat.{◌+◌, ◌*◌, ◌-◌, ◌≤◌, min, max}
+use Prim.Native.Nat.{◌+◌, ◌*◌, ◌≤◌, min, max}
 use mathlib.Core.Path.{◌≡◌}
 use lib.ListN.{length}
 use Rattle.sets.specs.Sets.{Upto}

@@ -5,10 +5,8 @@ use native.Mathlib.Numerals.{add-one}
 use mathlib.Core.List.{[], ◌∷◌}
 use Prim.Native.Nat.{ℕ, ◌+◌}
 use native.Mathlib.Omega.{arith}
-use borrow.Author.Tests.{not-false}
 use Rattle.parity.specs.Matrix.{lent}
-use Rattle.parity.specs.Cycles.{share, held_by}
-use Rattle.parity.specs.Causes.{refusal, held_values}
+use Rattle.parity.specs.Causes.{refusal}
 use Rattle.parity.specs.Calls.{not_pair}
 use Rattle.parity.proofs.Matrix.Accept.{accepts}
 use Rattle.parity.proofs.Splits.Splitting.{is_pair, split_made, packed, split_no_pair, split_low_share, split_no_room}

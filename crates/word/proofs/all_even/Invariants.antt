@@ -1,7 +1,7 @@
 -- What the loops of `all_even` keep.
 use mathlib.Core.Path.{◌≡◌}
 use mathlib.Core.Bool.{true}
-use Prim.Native.Nat.{◌*◌, ◌-◌, ◌≤◌}
+use Prim.Native.Nat.{◌*◌, ◌≤◌}
 use Rattle.parity.specs.Matrix.{lent}
 use Rattle.parity.specs.Words.{even_checks}
 use Rattle.word.proofs.all_even.Given as goal

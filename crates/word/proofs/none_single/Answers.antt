@@ -1,7 +1,6 @@
 -- `none_single` meets its contract. Assumes nothing.
 use mathlib.Core.Path.{◌≡◌, refl, sym}
 use mathlib.Core.Bool.{true}
-use Prim.Native.Nat.{◌-◌}
 use native.Mathlib.Omega.{arith}
 use Rattle.parity.specs.Finite.{all}
 use Rattle.parity.specs.Words.{stopping}

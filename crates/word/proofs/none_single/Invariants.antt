@@ -1,7 +1,7 @@
 -- What the loops of `none_single` keep.
 use mathlib.Core.Path.{◌≡◌}
 use mathlib.Core.Bool.{true}
-use Prim.Native.Nat.{◌*◌, ◌-◌, ◌≤◌}
+use Prim.Native.Nat.{◌*◌, ◌≤◌}
 use Rattle.parity.specs.Matrix.{lent}
 use Rattle.parity.specs.Words.{stopping}
 use Rattle.word.proofs.none_single.Given as goal

@@ -1,6 +1,5 @@
 -- `join` meets its contract. Assumes nothing.
 use mathlib.Core.Path.{◌≡◌, sym, ◌∙◌}
-use Prim.Native.Nat.{◌-◌}
 use native.Mathlib.Omega.{arith}
 use Rattle.columns.proofs.Splitting.{joined_local, words_none, words_next, words_all}
 use Rattle.columns.proofs.splits.join.Goals as goal

@@ -1,6 +1,5 @@
 -- `three::apart` meets its contract. Assumes nothing.
 use mathlib.Core.Path.{◌≡◌}
-use Prim.Native.Nat.{◌-◌}
 use native.Mathlib.Omega.{arith}
 use Rattle.rows.proofs.Zeros.{zeros_none, zeros_more}
 use Rattle.columns.proofs.Apart.{apart_law}

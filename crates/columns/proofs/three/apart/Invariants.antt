@@ -1,5 +1,5 @@
 -- What the loops of `apart` keep.
-use Prim.Native.Nat.{◌-◌, ◌≤◌}
+use Prim.Native.Nat.{◌≤◌}
 use Rattle.rows.specs.Zeros.{Zeros}
 use Rattle.columns.specs.Three.{two_in}
 use Rattle.columns.proofs.three.apart.Given as goal

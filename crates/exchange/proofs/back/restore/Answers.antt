@@ -1,6 +1,5 @@
 -- `restore` meets its contract. Assumes nothing.
 use mathlib.Core.Path.{◌≡◌, ◌∙◌}
-use Prim.Native.Nat.{◌-◌}
 use native.Mathlib.Omega.{arith}
 use Rattle.exchange.proofs.Restoring.{restored_none, restored_step, restored_one, restored_few}
 use Rattle.exchange.proofs.back.restore.Goals as goal

@@ -1,6 +1,5 @@
 -- `exchange_all` meets its contract. Assumes nothing.
 use mathlib.Core.Path.{◌≡◌, sym, ◌∙◌}
-use Prim.Native.Nat.{◌-◌}
 use native.Mathlib.Omega.{arith}
 use Rattle.exchange.proofs.Exchange.{exchanged_none, exchanged_next, exchanged_all}
 use Rattle.exchange.proofs.merge.exchange_all.Goals as goal

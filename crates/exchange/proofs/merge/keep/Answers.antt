@@ -1,5 +1,4 @@
 -- `keep` meets its contract. Assumes nothing.
-use Prim.Native.Nat.{◌-◌}
 use mathlib.Core.Path.{◌≡◌}
 use native.Mathlib.Omega.{arith}
 use Rattle.exchange.proofs.Common.{keeping_none, keeping_next, keeping_all}

@@ -1,5 +1,5 @@
 -- What the loops of `keep` keep.
-use Prim.Native.Nat.{◌-◌, ◌≤◌}
+use Prim.Native.Nat.{◌≤◌}
 use Rattle.exchange.proofs.Common.{Keeping}
 use Rattle.exchange.proofs.merge.keep.Given as goal
 

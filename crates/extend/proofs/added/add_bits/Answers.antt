@@ -1,6 +1,5 @@
 -- `added::add_bits` meets its contract. Assumes nothing.
 use mathlib.Core.Path.{◌≡◌}
-use Prim.Native.Nat.{◌-◌}
 use native.Mathlib.Omega.{arith}
 use lib.ListN.{length-set}
 use Rattle.parity.specs.Matrix.{lent}

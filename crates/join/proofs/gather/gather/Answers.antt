@@ -1,6 +1,6 @@
 -- `gather::gather` meets its contract. Assumes nothing.
 use mathlib.Core.Path.{◌≡◌, refl, ◌∙◌}
-use Prim.Native.Nat.{◌-◌, ◌≤◌}
+use Prim.Native.Nat.{◌≤◌}
 use native.Mathlib.Omega.{arith}
 use lib.Dec.{lit<}
 use Rattle.parity.specs.Matrix.{lent}
@@ -14,12 +14,12 @@ copy_rows-requires c = (omega (arith, c.requires.0, c.requires.1), omega arith, 
 pub loop-c-init : goal.loop-c-init
 unfolding joined
 loop-c-init c = let E = c.copy_rows in (
-      omega arith,
-      c.requires.1,
-      E.auto.rows ∙ c.requires.4,
-      refl,
-      rows_first 2 8 (lit< tt) (omega arith) c.args.words1.now _ c.args.m1 c.requires.0 (λ i. (c.type_inv.words1 i).fits) (omega (arith, c.requires.1)) E.ensures,
-    )
+  omega arith,
+  c.requires.1,
+  E.auto.rows ∙ c.requires.4,
+  refl,
+  rows_first 2 8 (lit< tt) (omega arith) c.args.words1.now _ c.args.m1 c.requires.0 (λ i. (c.type_inv.words1 i).fits) (omega (arith, c.requires.1)) E.ensures,
+)
 
 pub add-at-requires : goal.add-at-requires
 add-at-requires c = let l = c.loop-c in

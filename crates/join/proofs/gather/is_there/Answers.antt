@@ -1,7 +1,6 @@
 -- `gather::is_there` meets its contract. Assumes nothing.
 use mathlib.Core.Path.{◌≡◌, refl, sym, ◌∙◌}
 use mathlib.Core.Bool.{false}
-use Prim.Native.Nat.{◌-◌}
 use native.Mathlib.Omega.{arith}
 use Rattle.parity.specs.Finite.{any}
 use Rattle.parity.proofs.Finite.Sums.{any_of}

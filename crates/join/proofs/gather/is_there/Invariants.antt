@@ -1,7 +1,7 @@
 -- What the loops of `is_there` keep.
 use mathlib.Core.Path.{◌≡◌}
 use mathlib.Core.Bool.{false}
-use Prim.Native.Nat.{◌*◌, ◌-◌, ◌≤◌}
+use Prim.Native.Nat.{◌*◌, ◌≤◌}
 use lib.ListN.{length}
 use Rattle.parity.specs.Finite.{any}
 use Rattle.join.specs.Rows.{is_row}

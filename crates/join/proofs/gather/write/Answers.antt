@@ -1,6 +1,5 @@
 -- `gather::write` meets its contract. Assumes nothing.
 use mathlib.Core.Path.{◌≡◌, ◌∙◌}
-use Prim.Native.Nat.{◌-◌}
 use native.Mathlib.Omega.{arith}
 use Rattle.join.proofs.Rows.{spread_none, spread_next}
 use Rattle.join.proofs.gather.write.Goals as goal

@@ -1,6 +1,6 @@
 -- What the loops of `write` keep.
 use mathlib.Core.Path.{◌≡◌}
-use Prim.Native.Nat.{◌-◌, ◌≤◌}
+use Prim.Native.Nat.{◌≤◌}
 use lib.ListN.{length}
 use Rattle.join.specs.Rows.{Spread}
 use Rattle.join.proofs.gather.write.Given as goal

@@ -1,6 +1,5 @@
 -- `outside::masks` meets its contract. Assumes nothing.
 use mathlib.Core.Path.{◌≡◌, refl}
-use Prim.Native.Nat.{◌-◌}
 use native.Mathlib.Omega.{arith}
 use lib.ListN.{length, length-set}
 use Rattle.matrix.proofs.Masks.{masks_none, masks_more}

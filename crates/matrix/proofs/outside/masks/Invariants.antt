@@ -1,6 +1,6 @@
 -- What the loops of `masks` keep.
 use mathlib.Core.Path.{◌≡◌}
-use Prim.Native.Nat.{◌-◌, ◌≤◌}
+use Prim.Native.Nat.{◌≤◌}
 use lib.ListN.{length}
 use Rattle.matrix.specs.Masks.{Masks}
 use Rattle.matrix.proofs.outside.masks.Given as goal

@@ -1,6 +1,5 @@
 -- `outside::or_row` meets its contract. Assumes nothing.
 use mathlib.Core.Path.{◌≡◌}
-use Prim.Native.Nat.{◌-◌}
 use native.Mathlib.Omega.{arith}
 use Rattle.matrix.proofs.Masks.{row_none, row_more}
 use Rattle.matrix.proofs.outside.or_row.Goals as goal

@@ -1,5 +1,5 @@
 -- What the loops of `or_row` keep.
-use Prim.Native.Nat.{◌-◌, ◌≤◌}
+use Prim.Native.Nat.{◌≤◌}
 use Rattle.matrix.specs.Masks.{RowIn}
 use Rattle.matrix.proofs.outside.or_row.Given as goal
 

@@ -1,6 +1,5 @@
 -- `outside::or_rows` meets its contract. Assumes nothing.
 use mathlib.Core.Path.{◌≡◌, refl, ◌∙◌}
-use Prim.Native.Nat.{◌-◌}
 use native.Mathlib.Omega.{arith}
 use Rattle.parity.proofs.Matrix.Lent.{row_room}
 use Rattle.matrix.proofs.Masks.{ored_more}

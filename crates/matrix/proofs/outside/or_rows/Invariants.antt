@@ -1,6 +1,6 @@
 -- What the loops of `or_rows` keep.
 use mathlib.Core.Path.{◌≡◌}
-use Prim.Native.Nat.{◌-◌, ◌≤◌}
+use Prim.Native.Nat.{◌≤◌}
 use lib.ListN.{length}
 use Rattle.matrix.specs.Masks.{Ored}
 use Rattle.matrix.proofs.outside.or_rows.Given as goal

@@ -2,7 +2,6 @@
 use Rattle.parity.proofs.SoftRange.Law.{range_first, range_more}
 use lib.ListN.{length}
 use native.Mathlib.Omega.{arith}
-use Prim.Native.Nat.{◌-◌}
 use mathlib.Core.Path.{◌≡◌, refl, sym, ◌∙◌}
 use Rattle.min_sum_range.proofs.combine.range_of.Goals as goal
 

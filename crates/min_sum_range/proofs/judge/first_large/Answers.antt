@@ -3,7 +3,6 @@ use Rattle.parity.specs.SoftRange.{unfit}
 use Rattle.parity.proofs.Finite.Firsts.{any_none, least_none, least_is}
 use borrow.Author.Count.{below_more}
 use native.Mathlib.Omega.{arith}
-use Prim.Native.Nat.{◌-◌}
 use mathlib.Core.Bool.{false}
 use mathlib.Core.Path.{◌≡◌, refl, sym, ◌∙◌}
 use Rattle.min_sum_range.proofs.judge.first_large.Goals as goal

@@ -1,7 +1,6 @@
 -- `orthogonal::repeat` meets its contract. Assumes nothing.
 use mathlib.Core.Path.{refl, sym, ◌∙◌}
 use mathlib.Core.Bool.{false}
-use Prim.Native.Nat.{◌-◌}
 use native.Mathlib.Omega.{arith}
 use Rattle.columns.proofs.Filling.{two_words}
 use Rattle.orthogonalise.proofs.Turns.{stands_start, head_start, stands_bound, ends_finished, ends_full, share_few, picked_ready, stands_split, head_split, given_columns, narrow_columns}

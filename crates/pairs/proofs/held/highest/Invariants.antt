@@ -1,5 +1,5 @@
 -- What the loops of `highest` keep.
-use Prim.Native.Nat.{◌*◌, ◌-◌, ◌≤◌}
+use Prim.Native.Nat.{◌*◌, ◌≤◌}
 use Rattle.pairs.specs.Rows.{in_both}
 use Rattle.rows.proofs.Next.{Clear}
 use Rattle.pairs.proofs.held.highest.Given as goal

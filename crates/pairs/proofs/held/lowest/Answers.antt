@@ -1,6 +1,5 @@
 -- `lowest` meets its contract. Assumes nothing.
 use mathlib.Core.Path.{◌≡◌}
-use Prim.Native.Nat.{◌-◌}
 use native.Mathlib.Omega.{arith}
 use lib.Count.{trailing_le}
 use Rattle.parity.proofs.Matrix.Ones.{trailing_lowest}

@@ -1,5 +1,4 @@
 -- `receiver::input::read_words` meets its contract: at each turn the first i words are read. Assumes nothing.
-use Prim.Native.Nat.{◌-◌}
 use mathlib.Core.Path.{◌≡◌, ◌∙◌, refl}
 use borrow.Author.Rules.{rules}
 use native.Mathlib.Omega.{arith}
@@ -16,14 +15,13 @@ unfolding words_in list_from
 loop-i-init c = (omega arith, omega arith, omega arith, refl, refl)
 
 pub loop-i-preserved : goal.loop-i-preserved
-loop-i-preserved c = let l = c.loop-i in
-    (
-      omega arith,
-      omega arith,
-      omega arith,
-      simp length-set (search rules),
-      rw (words_more, add-one) (take-suc-set l.out l.i c.number_at.result (omega arith) ∙ rw (l.invariant.4, c.number_at.ensures)),
-    )
+loop-i-preserved c = let l = c.loop-i in (
+  omega arith,
+  omega arith,
+  omega arith,
+  simp length-set (search rules),
+  rw (words_more, add-one) (take-suc-set l.out l.i c.number_at.result (omega arith) ∙ rw (l.invariant.4, c.number_at.ensures)),
+)
 
 pub returns : goal.returns
 returns c = let l = c.loop-i in

@@ -1,6 +1,5 @@
 -- `fill::below` meets its contract. Assumes nothing.
 use mathlib.Core.Path.{◌≡◌}
-use Prim.Native.Nat.{◌-◌}
 use native.Mathlib.Omega.{arith}
 use Rattle.record.proofs.Filling.{part_none, part_low, part_high}
 use Rattle.record.proofs.fill.below.Goals as goal

@@ -1,5 +1,5 @@
 -- What the loops of `below` keep.
-use Prim.Native.Nat.{◌-◌, ◌≤◌}
+use Prim.Native.Nat.{◌≤◌}
 use Rattle.record.specs.Fill.{Parted}
 use Rattle.record.proofs.fill.below.Given as goal
 

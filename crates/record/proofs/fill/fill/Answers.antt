@@ -1,6 +1,5 @@
 -- `fill::fill` meets its contract. Assumes nothing.
 use mathlib.Core.Path.{◌≡◌, ◌∙◌}
-use Prim.Native.Nat.{◌-◌}
 use native.Mathlib.Omega.{arith}
 use Rattle.record.proofs.Filling.{zeroed_none, filling_none, filling_more, filling_count, filling_payloads, filling_next, filling_end}
 use Rattle.record.proofs.fill.fill.Goals as goal
@@ -20,10 +19,10 @@ overflow_add-p c = let k = filling_more _ _ _ _ _ c.loop-c.invariant.2 (omega ar
 
 pub fill_check-requires : goal.fill_check-requires
 fill_check-requires c = let l = c.loop-c in (
-      rw c.payload-count.ensures (filling_payloads _ _ _ _ _ l.invariant.2 (omega arith)),
-      omega arith,
-      omega (arith, l.invariant.2.checks),
-    )
+  rw c.payload-count.ensures (filling_payloads _ _ _ _ _ l.invariant.2 (omega arith)),
+  omega arith,
+  omega (arith, l.invariant.2.checks),
+)
 
 pub overflow_add-p-in-loop-c : goal.overflow_add-p-in-loop-c
 overflow_add-p-in-loop-c c = let l = c.loop-c in

@@ -1,6 +1,5 @@
 -- `fill::fill_few` meets its contract. Assumes nothing.
 use mathlib.Core.Path.{◌≡◌, refl, ◌∙◌}
-use Prim.Native.Nat.{◌-◌}
 use native.Mathlib.Omega.{arith}
 use Rattle.reading.specs.Read.{puts}
 use Rattle.record.proofs.Filling.{puts_next}

@@ -1,6 +1,5 @@
 -- `fill::gather` meets its contract. Assumes nothing.
 use mathlib.Core.Path.{◌≡◌, refl}
-use Prim.Native.Nat.{◌-◌}
 use native.Mathlib.Omega.{arith}
 use Rattle.record.specs.Fill.{gathered}
 use Rattle.record.proofs.Filling.{gathered_next}

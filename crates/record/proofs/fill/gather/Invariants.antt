@@ -1,6 +1,6 @@
 -- What the loops of `gather` keep.
 use mathlib.Core.Path.{◌≡◌}
-use Prim.Native.Nat.{◌-◌, ◌≤◌}
+use Prim.Native.Nat.{◌≤◌}
 use Rattle.record.specs.Fill.{gathered}
 use Rattle.record.proofs.fill.gather.Given as goal
 

@@ -2,7 +2,6 @@
 use native.Mathlib.Omega.{arith}
 use mathlib.Core.Path.{◌≡◌, refl}
 use mathlib.Core.Bool.{xor}
-use Prim.Native.Nat.{◌-◌}
 use lib.Bits.{bit_xor}
 use Rattle.parity.proofs.Words.Sets.{bit_of_xor}
 use Rattle.rows.proofs.Writing.{written_none, written_onto, combined_all}

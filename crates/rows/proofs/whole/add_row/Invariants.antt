@@ -1,5 +1,5 @@
 -- What the loops of `add_row` keep.
-use Prim.Native.Nat.{◌*◌, ◌-◌, ◌≤◌}
+use Prim.Native.Nat.{◌*◌, ◌≤◌}
 use lib.Bits.{bit_xor}
 use Rattle.rows.specs.Whole.{Written, word_from}
 use Rattle.rows.proofs.Writing.{onto}

@@ -3,7 +3,6 @@ use Rattle.rows.proofs.Writing.{rows_none, rows_more}
 use Rattle.parity.proofs.Matrix.Lent.{row_room}
 use native.Mathlib.Omega.{arith}
 use mathlib.Core.Path.{◌≡◌, refl, ◌∙◌}
-use Prim.Native.Nat.{◌-◌}
 use Rattle.rows.proofs.whole.copy_rows.Goals as goal
 
 pub loop-c-init : goal.loop-c-init

@@ -2,7 +2,7 @@
 use Rattle.rows.specs.Whole.{RowsCopied}
 use lib.ListN.{length}
 use mathlib.Core.Path.{◌≡◌}
-use Prim.Native.Nat.{◌≤◌, ◌-◌}
+use Prim.Native.Nat.{◌≤◌}
 use Rattle.rows.proofs.whole.copy_rows.Given as goal
 
 abbrev pub invariant-loop-c : goal.invariant-loop-c

@@ -1,6 +1,5 @@
 -- `whole::copy_words` meets its contract. Assumes nothing.
 use mathlib.Core.Path.{◌≡◌, refl}
-use Prim.Native.Nat.{◌-◌}
 use native.Mathlib.Omega.{arith}
 use Rattle.rows.proofs.Writing.{written_none, written_more}
 use Rattle.rows.proofs.whole.copy_words.Goals as goal

@@ -1,5 +1,5 @@
 -- What the loops of `copy_words` keep.
-use Prim.Native.Nat.{◌-◌, ◌≤◌}
+use Prim.Native.Nat.{◌≤◌}
 use Rattle.rows.specs.Whole.{Written, word_from}
 use Rattle.rows.proofs.whole.copy_words.Given as goal
 

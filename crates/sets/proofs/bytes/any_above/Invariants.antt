@@ -1,6 +1,6 @@
 -- What the loops of `any_above` keep.
 use mathlib.Core.Path.{◌≡◌}
-use Prim.Native.Nat.{◌-◌, ◌≤◌}
+use Prim.Native.Nat.{◌≤◌}
 use lib.Dec.{ltb}
 use lib.ListN.{length}
 use Rattle.parity.specs.Finite.{any}

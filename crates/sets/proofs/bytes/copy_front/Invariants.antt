@@ -1,7 +1,7 @@
 -- What the loops of `copy_front` keep.
 use mathlib.Core.Path.{◌≡◌}
 use mathlib.Core.List.{◌++◌}
-use Prim.Native.Nat.{◌+◌, ◌-◌, ◌≤◌}
+use Prim.Native.Nat.{◌≤◌}
 use lib.ListN.{length, take, drop}
 use Rattle.sets.proofs.bytes.copy_front.Given as goal
 

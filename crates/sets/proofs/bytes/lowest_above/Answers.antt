@@ -1,5 +1,4 @@
 -- `bytes::lowest_above` meets its contract. Assumes nothing.
-use Prim.Native.Nat.{◌-◌}
 use native.Mathlib.Omega.{arith}
 use Rattle.sets.proofs.Above.{passed_none, passed_more, place_here, place_none}
 use Rattle.sets.proofs.bytes.lowest_above.Goals as goal

@@ -1,5 +1,5 @@
 -- What the loops of `eights` keep.
-use Prim.Native.Nat.{◌+◌, ◌*◌, ◌-◌, ◌≤◌}
+use Prim.Native.Nat.{◌+◌, ◌*◌, ◌≤◌}
 use Rattle.sets.specs.Sets.{Upto}
 use Rattle.sets.proofs.pairs.eights.Given as goal
 

@@ -1,5 +1,4 @@
 -- `pairs::make_sets` meets its contract. Assumes nothing.
-use Prim.Native.Nat.{◌-◌}
 use native.Mathlib.Omega.{arith}
 use borrow.Author.Rules.{rules}
 use Rattle.sets.proofs.Making.{words_none, words_more, words_all}

@@ -1,5 +1,5 @@
 -- What the loops of `make_sets` keep.
-use Prim.Native.Nat.{◌-◌, ◌≤◌}
+use Prim.Native.Nat.{◌≤◌}
 use Rattle.sets.proofs.Making.{Words}
 use Rattle.sets.proofs.pairs.make_sets.Given as goal
 

@@ -1,6 +1,5 @@
 -- `pairs::rest` meets its contract. Assumes nothing.
 use mathlib.Core.Path.{refl}
-use Prim.Native.Nat.{◌-◌}
 use native.Mathlib.Omega.{arith}
 use Rattle.sets.proofs.Eights.{bit_one, half}
 use Rattle.sets.proofs.Making.{upto_bit, upto_all}

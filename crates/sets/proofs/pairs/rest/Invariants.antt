@@ -1,6 +1,6 @@
 -- What the loops of `rest` keep.
 use mathlib.Core.Path.{◌≡◌}
-use Prim.Native.Nat.{◌+◌, ◌*◌, ◌-◌, ◌≤◌, min}
+use Prim.Native.Nat.{◌+◌, ◌*◌, ◌≤◌, min}
 use lib.ListN.{length}
 use Rattle.sets.specs.Sets.{Upto}
 use Rattle.sets.proofs.pairs.rest.Given as goal

@@ -1,5 +1,6 @@
 -- Sums of soft values alone, over their floats. Assumes nothing.
 use mathlib.Core.Path.{◌≡◌, refl, sym, ap, ◌∙◌}
+use mathlib.Core.Bool.{true}
 use mathlib.Core.List.{List}
 use Prim.Native.Nat.{ℕ, ◌+◌, ◌<◌}
 use native.Mathlib.Decide.{ℕ_discrete}
@@ -7,6 +8,10 @@ use native.Mathlib.Omega.{arith}
 use lib.ListN.{get_or, length, set, length-set}
 use lib.Seq.{get_or-set_same, get_or-set_other}
 use lib.Ieee.{Float, nan, binary32, add}
+use lib.Dec.{eqb}
+use borrow.Author.Tests.{eqb-true}
+use Rattle.std.specs.List.{list_all}
+use Rattle.soft.proofs.Zipped.{all_at}
 use Rattle.parity.specs.Soft.{byte_for, float_for, message_at, with_next}
 use Rattle.parity.specs.declared.Channel.TheVariants.{Soft}
 use Rattle.parity.proofs.Soft.Cong.{gathered_cong}
@@ -54,6 +59,9 @@ module _ (c : Float) (xs : List Float) where
       }
 
 -- ---- as values in bytes and floats
+pub each_soft : (ts : List ℕ) → list_all (λ t. eqb t 3) ts ≡ true → (t : ℕ) → t < length ts → get_or ts t 0 ≡ 3
+each_soft ts e t k = eqb-true _ 3 (all_at (λ t. eqb t 3) ts e t 0 k)
+
 module _ (ts : List ℕ) (xs : List Float) (c : Float) (soft : (t : ℕ) → t < length ts → get_or ts t 0 ≡ 3) (same : length ts ≡ length xs) where
   same_sum : (t : ℕ) → part_sum (Soft c) (soft_at xs) (length ts) t ≡ part_sum (Soft c) (message_at ts xs) (length ts) t
   unfolding part_sum message_at

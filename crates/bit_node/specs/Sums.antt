@@ -19,10 +19,6 @@ joined_with f v t = with_next (f t) v
 abbrev pub settled_of : (ℕ → Channel) → ℕ → Channel
 settled_of f t = settled (f t)
 
--- r says that every byte is 3
-pub record AllSoft (ts : List ℕ) (r : Bool) : Type 0 where
-  pub at : r ≡ true → (t : ℕ) → t < length ts → get_or ts t 0 ≡ 3
-
 -- x is added to the first j floats, and the others are as they were
 pub record AddedTo (xs : List Float) (x : Float) (j : ℕ) (ys : List Float) : Type 0 where
   pub size : length ys ≡ length xs

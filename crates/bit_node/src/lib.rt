@@ -1,10 +1,11 @@
 // The bit node of min-sum: what a bit sends to its checks.
 #![tactic(auto)]
 
-ghost use Rattle.std.specs.Prelude.{◌≡◌, ◌≤◌, length};
+ghost use Rattle.std.specs.Prelude.{◌≡◌, ◌≤◌, eqb, length};
+ghost use Rattle.std.specs.List.{list_all};
 ghost use Rattle.parity.specs.Soft.{with_next, settled, bit_sends, message_at};
 ghost use Rattle.soft.specs.Store.{Holding, Partly};
-ghost use Rattle.bit_node.specs.Sums.{bit_answer, every, part_sum, joined_with, settled_of, AllSoft, AddedTo, SoftSums};
+ghost use Rattle.bit_node.specs.Sums.{bit_answer, every, part_sum, joined_with, settled_of, AddedTo, SoftSums};
 
 use parity::Channel;
 use soft::floats::{cut_off, plus_zero};
@@ -78,15 +79,9 @@ fn mixed_sums(tags: &mut [u8], values: &mut [f32], channel: Channel) -> Channel
 
 // Whether every value is soft.
 fn all_soft(tags: &[u8]) -> bool
-    ensures { AllSoft tags.now result }
+    ensures { result ≡ list_all (λ t. eqb t 3) tags.now }
 {
-    let d = tags.len();
-    for t in 0..d {
-        if tags[t] != 3 {
-            return false;
-        }
-    }
-    true
+    tags.iter().all(|t| *t == 3)
 }
 
 // `x` is added to each of the first `j` floats.
@@ -95,7 +90,7 @@ fn add_to(floats: &mut [f32], j: usize, x: f32)
     ensures { AddedTo floats.old x j floats.new }
 {
     for t in 0..j {
-        floats[t] = floats[t] + x;
+        floats[t] += x;
     }
 }
 
@@ -120,16 +115,9 @@ fn sums(tags: &mut [u8], values: &mut [f32], channel: Channel) -> Channel
     ensures value { result ≡ part_sum channel (message_at tags.old values.old) (length tags.old) (length tags.old) }
     ensures holding { Holding (length tags.old) (part_sum channel (message_at tags.old values.old) (length tags.old)) tags.new values.new }
 {
-    let soft = all_soft(tags);
     match channel {
-        Channel::Soft(x) => {
-            if soft {
-                return Channel::Soft(soft_sums(values, x));
-            }
-            mixed_sums(tags, values, channel)
-        }
-        Channel::Sure(_) => mixed_sums(tags, values, channel),
-        Channel::Erased => mixed_sums(tags, values, channel),
+        Channel::Soft(x) if all_soft(tags) => Channel::Soft(soft_sums(values, x)),
+        _ => mixed_sums(tags, values, channel),
     }
 }
 

@@ -50,11 +50,10 @@ pub fn gather(
     requires at_bit { AtBit cols.now b at.old }
     ensures { Gathering (across (lent 8 cols.now)) 512 b checks tags.old values.old result at.new tags.new values.new }
 {
+    let used = checks.div_ceil(64);
     let mut d: usize = 0;
-    let mut i: usize = 0;
-    while i * 64 < checks {
+    for i in 0..used {
         d = gather_word(cols, b, i, d, at, tags, values);
-        i += 1;
     }
     d
 }
@@ -99,10 +98,9 @@ pub fn scatter(
     requires b_bound { (b < 512) × Cursors (across (lent 8 cols.now)) 512 (b + 1) at.now }
     ensures { Spread (across (lent 8 cols.now)) 512 b 0 checks tags.old values.old tags.new values.new }
 {
+    let used = checks.div_ceil(64);
     let mut d: usize = 0;
-    let mut i: usize = 0;
-    while i * 64 < checks {
+    for i in 0..used {
         d = scatter_word(cols, b, i, d, at, tags, values);
-        i += 1;
     }
 }

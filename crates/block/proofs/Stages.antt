@@ -1,14 +1,15 @@
 -- What each stage of mending a block comes to, from what the calls below it come to. Assumes nothing.
 use mathlib.Core.Path.{◌≡◌, sym, ap, ◌∙◌}
 use mathlib.Core.Bool.{true, false}
-use mathlib.Core.List.{List, [], ◌∷◌, ◌++◌, append-nil}
+use mathlib.Core.List.{List, [], ◌∷◌, ◌++◌}
 use Prim.Native.Nat.{ℕ, ◌+◌, ◌-◌, ◌≤◌}
 use native.Mathlib.Omega.{arith}
 use native.Mathlib.Decide.{ℕ_discrete}
 use lib.Dec.{eqb, ltb}
-use lib.ListN.{get_or, length, take, drop, replicate, drop_of_length-le}
+use lib.ListN.{get_or, length, take, replicate}
 use lib.Seq.{take_at}
 use borrow.Author.Tests.{eq-eqb, ne_eqb, le-ltb, lt-ltb}
+use Rattle.std.specs.Prelude.{Option, Some, None}
 use Rattle.parity.specs.Causes.{Reply, answer, refusal, refusal_of, refuse, Outcome}
 use Rattle.parity.specs.Matrix.{lent}
 use Rattle.parity.specs.Determining.{some_agrees, determined}
@@ -23,9 +24,7 @@ use Rattle.word.specs.Answers.{admit_reply}
 use Rattle.extended.specs.Answers.{Longer, in_all, copy_reply, copy_word}
 use Rattle.word.specs.Solved.{solved_reply}
 use Rattle.word.proofs.Solved.{outcome_refused}
-use Rattle.block.specs.Answers.{Kept, Ready}
-use Rattle.block.specs.declared.Peelings.{Peelings}
-use Rattle.block.specs.declared.Peelings.TheVariants.{Whole, Stopped, Remaining}
+use Rattle.block.specs.Answers.{KeptFor, Ready}
 
 -- a refusal's number, and an answer's
 not_zero : (r : Refusal) (reply : Reply) → refusal_of r ≡ reply → reply.number ≡ 0 → ⊥
@@ -162,12 +161,7 @@ word_refused ws n m w r e =
     let (a, b, s) = mended_as_determined ws n m w in
     (f ∙ sym (s (not_zero r _ f)), l ∙ sym a)
 
--- bytes that take the place of all of a word
-pub replaced : (a w new : List ℕ) → length a ≡ length w → new ≡ a ++ drop (length a) w → new ≡ a
-replaced a w new l e = e ∙ ap (λ (v : List ℕ). a ++ v) (drop_of_length-le w {i = length a} (omega arith)) ∙ append-nil a
-
 -- what elimination needs
-pub ready : (p : Peelings) (n : ℕ) (w v : List ℕ) → length w ≡ n → wrong_byte 2 w ≡ false → Kept p w v → Ready p n v
-ready (Whole stage recovered) n w v l e k = tt
-ready (Stopped r) n w v l e k = tt
-ready (Remaining recovered) n w v l e k = (ap length k ∙ l, ap (wrong_byte 2) k ∙ e)
+pub ready : (stage : Option ℕ) (n : ℕ) (w v : List ℕ) → length w ≡ n → wrong_byte 2 w ≡ false → KeptFor stage w v → Ready stage n v
+ready (Some stage) n w v l e k = tt
+ready None n w v l e k = (ap length k ∙ l, ap (wrong_byte 2) k ∙ e)

@@ -9,7 +9,7 @@ ghost use Rattle.parity.specs.Calls.{load_outcome, write_outcome, share_reply, c
 ghost use Rattle.parity.specs.Block.{block_outcome};
 ghost use Rattle.parity.specs.SoftCall.{min_sum_outcome};
 ghost use Rattle.parity.specs.SoftRange.{min_sum_range_outcome};
-ghost use Rattle.passing.specs.Passed.{Passed, ends_filled};
+ghost use Rattle.passing.specs.Passed.{Passed, filled};
 
 use parity::Bit;
 
@@ -20,8 +20,7 @@ pub extern "C" fn parity_load(record: &[u32], words: &mut [u64], values: &mut [u
     ensures words_after { words.new ≡ (load_outcome «record».now words.old).after }
 {
     let loading = record::load(record, words);
-    let numbered = reply::loading(loading);
-    passing::pass(numbered, values)
+    reply::pass(loading, values)
 }
 
 // Carries the number of words used.
@@ -38,8 +37,7 @@ pub extern "C" fn parity_write(
     ensures record_after { «record».new ≡ (write_outcome words.now n m k «record».old).after }
 {
     let writing = record::write(words, n, m, k, record);
-    let numbered = reply::writing(writing);
-    passing::pass(numbered, values)
+    reply::pass(writing, values)
 }
 
 // Carries the share and, if it is above 0, the lowest and the highest check that contain both bits.
@@ -56,8 +54,7 @@ pub extern "C" fn parity_share(
     ensures { Passed (share_reply words.now n m k u v) values.old values.new result }
 {
     let sharing = cycles::share(words, n, m, k, Bit(u), Bit(v));
-    let numbered = reply::sharing(sharing);
-    passing::pass(numbered, values)
+    reply::pass(sharing, values)
 }
 
 // Carries the cycle count.
@@ -72,8 +69,7 @@ pub extern "C" fn parity_count(
     ensures { Passed (count_reply words.now n m k) values.old values.new result }
 {
     let counting = cycles::count(words, n, m, k);
-    let numbered = reply::counting(counting);
-    passing::pass(numbered, values)
+    reply::pass(counting, values)
 }
 
 // Carries the share, the new k, and the lowest and the highest check that contained both bits.
@@ -91,8 +87,7 @@ pub extern "C" fn parity_split(
     ensures words_after { words.new ≡ (split_outcome words.old n m k u v).after }
 {
     let splitting = split::split(words, n, m, k, Bit(u), Bit(v));
-    let numbered = reply::splitting(splitting);
-    passing::pass(numbered, values)
+    reply::pass(splitting, values)
 }
 
 // Carries the number of other checks that contained the newest added bit, and the new k.
@@ -108,8 +103,7 @@ pub extern "C" fn parity_take_back(
     ensures words_after { words.new ≡ (take_back_outcome words.old n m k).after }
 {
     let taking = split::take_back(words, n, m, k);
-    let numbered = reply::taking_back(taking);
-    passing::pass(numbered, values)
+    reply::pass(taking, values)
 }
 
 // Carries the number of splits, their sum, k and, if it made a split, the lowest and the highest check that held the pair of the final one, also when
@@ -126,8 +120,7 @@ pub extern "C" fn parity_orthogonalise(
     ensures words_after { words.new ≡ (orthogonalise_outcome words.old n m k).after }
 {
     let orthogonalising = orthogonalise::orthogonalise(words, n, m, k);
-    let numbered = reply::orthogonalising(orthogonalising);
-    passing::pass(numbered, values)
+    reply::pass(orthogonalising, values)
 }
 
 // Carries 1 for yes, 0 for no.
@@ -143,8 +136,7 @@ pub extern "C" fn parity_verify(
     ensures { Passed (verify_reply words.now n m k word.now) values.old values.new result }
 {
     let verifying = word::verify(words, n, m, k, word);
-    let numbered = reply::verifying(verifying);
-    passing::pass(numbered, values)
+    reply::pass(verifying, values)
 }
 
 // Carries nothing.
@@ -162,8 +154,7 @@ pub extern "C" fn parity_extend(
     ensures word_after { word.new ≡ (extend_outcome words.now n m k sent.now word.old).after }
 {
     let extending = extend::extend(words, n, m, k, sent, word);
-    let numbered = reply::extending(extending);
-    passing::pass(numbered, values)
+    reply::pass(extending, values)
 }
 
 // Carries 1 for yes, 0 for no.
@@ -179,8 +170,7 @@ pub extern "C" fn parity_is_stopping(
     ensures { Passed (is_stopping_reply words.now n m k set.now) values.old values.new result }
 {
     let stopping = word::is_stopping(words, n, m, k, set);
-    let numbered = reply::stopping(stopping);
-    passing::pass(numbered, values)
+    reply::pass(stopping, values)
 }
 
 // Carries how many sent bits and how many added bits were recovered, and how many of each are left.
@@ -197,8 +187,7 @@ pub extern "C" fn parity_peel(
     ensures word_after { word.new ≡ (peel_outcome words.now n m k word.old).after }
 {
     let peeling = peel::peel(words, n, m, k, word);
-    let numbered = reply::peeling(peeling);
-    passing::pass(numbered, values)
+    reply::pass(peeling, values)
 }
 
 // Carries how many sent bits and how many added bits were recovered, and how many of each are left.
@@ -215,8 +204,7 @@ pub extern "C" fn parity_determine(
     ensures word_after { word.new ≡ (determine_outcome words.now n m k word.old).after }
 {
     let determining = determine::determine(words, n, m, k, word);
-    let numbered = reply::determining(determining);
-    passing::pass(numbered, values)
+    reply::pass(determining, values)
 }
 
 // Carries how many sent packets and how many added packets were recovered, how many of each are left, and how many lanes no codeword agrees with.
@@ -237,8 +225,7 @@ pub extern "C" fn parity_mend_packets(
     ensures odd_after { odd.new ≡ (packets_outcome words.now n m k lost.old packets.old odd.old).odd }
 {
     let mending = packets::mend_packets(words, n, m, k, lost, packets, odd);
-    let numbered = reply::mending_packets(mending);
-    passing::pass(numbered, values)
+    reply::pass(mending, values)
 }
 
 // Carries the last stage to run, and how many bits the two peelings recovered together.
@@ -255,8 +242,7 @@ pub extern "C" fn parity_mend_block(
     ensures word_after { word.new ≡ (block_outcome words.now n m k word.old).after }
 {
     let mending = block::mend_block(words, n, m, k, word);
-    let numbered = reply::mending(mending);
-    passing::pass(numbered, values)
+    reply::pass(mending, values)
 }
 
 // Carries the rank.
@@ -271,8 +257,7 @@ pub extern "C" fn parity_rank(
     ensures { Passed (rank_reply words.now n m k) values.old values.new result }
 {
     let ranking = rank::rank(words, n, m, k);
-    let numbered = reply::ranking(ranking);
-    passing::pass(numbered, values)
+    reply::pass(ranking, values)
 }
 
 // Carries nothing.
@@ -290,8 +275,7 @@ pub extern "C" fn parity_encode(
     ensures word_after { word.new ≡ (encode_outcome words.now n m k message.now word.old).after }
 {
     let encoding = encode::encode(words, n, m, k, message, word);
-    let numbered = reply::encoding(encoding);
-    passing::pass(numbered, values)
+    reply::pass(encoding, values)
 }
 
 // Carries nothing.
@@ -308,8 +292,7 @@ pub extern "C" fn parity_message_bits(
     ensures set_after { set.new ≡ (message_bits_outcome words.now n m k set.old).after }
 {
     let marking = message_bits::message_bits(words, n, m, k, set);
-    let numbered = reply::marking(marking);
-    passing::pass(numbered, values)
+    reply::pass(marking, values)
 }
 
 // Carries n and m.
@@ -319,8 +302,7 @@ pub extern "C" fn parity_house_code(name: usize, words: &mut [u64], values: &mut
     ensures words_after { words.new ≡ (house_outcome name words.old).after }
 {
     let copying = house::copy(name, words);
-    let numbered = reply::copying(copying);
-    passing::pass(numbered, values)
+    reply::pass(copying, values)
 }
 
 // Carries how many sets there are.
@@ -338,8 +320,7 @@ pub extern "C" fn parity_stopping_sets(
     ensures sets_after { sets.new ≡ (stopping_sets_outcome words.now n m k t sets.old).after }
 {
     let listing = stopping_sets::list(words, n, m, k, t, sets);
-    let numbered = reply::listing(listing);
-    passing::pass(numbered, values)
+    reply::pass(listing, values)
 }
 
 // Carries the number of checks.
@@ -360,8 +341,7 @@ pub extern "C" fn parity_join(
     ensures words3_after { words3.new ≡ (join_outcome words1.now n1 m1 k1 words2.now n2 m2 k2 words3.old).after }
 {
     let joining = join::join(words1, n1, m1, k1, words2, n2, m2, k2, words3);
-    let numbered = reply::joining(joining);
-    passing::pass(numbered, values)
+    reply::pass(joining, values)
 }
 
 // Carries nothing.
@@ -395,8 +375,7 @@ pub extern "C" fn parity_min_sum(
         message_bytes,
         message_floats,
     );
-    let numbered = reply::decoding(decoding);
-    passing::pass(numbered, values)
+    reply::pass(decoding, values)
 }
 
 // Carries 0 for sure 0, or 3 for a range, whose low and high are put at the front of `ends`.
@@ -408,7 +387,7 @@ pub extern "C" fn parity_min_sum_range(
     values: &mut [u64],
 ) -> u32
     ensures passed { Passed (min_sum_range_outcome lows.now highs.now).reply values.old values.new result }
-    ensures ends_after { ends.new ≡ ends_filled (min_sum_range_outcome lows.now highs.now).ends ends.old }
+    ensures ends_after { ends.new ≡ filled (min_sum_range_outcome lows.now highs.now).ends ends.old }
 {
     let ranging = min_sum_range::range(lows, highs);
     let numbered = reply::ranging(ranging, ends);

@@ -1,5 +1,4 @@
 pub mod Performing
 pub mod Recovering
-pub mod Putting
 pub mod Newest
 pub mod Standing

@@ -3,7 +3,7 @@ use mathlib.Core.Path.{◌≡◌, refl, sym, ◌∙◌}
 use mathlib.Core.Bool.{Bool, true, false, true≢false, false≢true}
 use mathlib.Core.List.{List}
 use Prim.Native.Nat.{ℕ, ◌+◌, ◌/◌, ◌%◌, ◌≤◌, ◌<◌}
-use native.Mathlib.Nat.{add-zero, add-suc}
+use native.Mathlib.Nat.{add-suc}
 use native.Mathlib.Numerals.{add-one}
 use native.Mathlib.Omega.{arith}
 use lib.ListN.{get_or, length}
@@ -91,15 +91,9 @@ pub record Going (source : List ℕ) (n m p : ℕ) (h h' g : Matrix) (k : ℕ) :
   pub columns : Columns m h' g
   pub goes : performing_at Third n m source p 0 h ≡ performing_at Third n m source (p + k) k h'
 
-pub going_start : (source : List ℕ) (n m p : ℕ) (h g : Matrix) → p ≤ length source → Sound h n m 0 → Columns m h g → Going source n m p h h g 0
-going_start source n m p h g l S C = record { inside = omega arith; sound = S; columns = C; goes = rw (add-zero p) }
-
 module _ (source : List ℕ) (n m p : ℕ) (h h' g : Matrix) (k : ℕ) (G : Going source n m p h h' g k) where
   ended : (p + k < length source → split_word Third h' n m k (get_or source (p + k) 0) ≡ false) → Performs source n m p h h' k
   ended o = record { inside = G.inside; sound = G.sound; goes = G.goes; next = o }
-
-  pub going_ends : length source ≤ p + k → Performs source n m p h h' k
-  going_ends l = ended (λ t. absurd (omega arith))
 
   pub going_other : (kind_of (get_or source (p + k) 0) ≡ 6 → ⊥) → Performs source n m p h h' k
   going_other d = ended (λ t. split_kind Third h' n m k (get_or source (p + k) 0) d)

@@ -86,9 +86,6 @@ taking_ends h g n m k j z S T =
     let (s, B) = U 0 given in
     record { decides = built_written g n m (rw e at (all_sound n m k h S)) B; matrix = λ q. sym e }
 
-pub rows_left : (h g r : Matrix) (n m k : ℕ) (t : Bool) → AllBack h g n m k t → t ≡ false → AllBack h r n m k false
-rows_left h g r n m k t A f = record { decides = A.decides ∙ ap not f; matrix = λ q. absurd (false≢true q) }
-
 -- The rows of the bits below n, from the columns, are the checks before the splits.
 pub rows_made : (h g r : Matrix) (n m k : ℕ) → Sound h n m k → Columns m (standing h g m 0) g → ColumnsOf 2 n g r → (t : Bool)
     → AllBack h (standing h g m 0) n m k t → t ≡ true → AllBack h r n m k true

@@ -3,4 +3,3 @@
 
 pub mod perform;
 pub mod recover;
-pub mod words;

@@ -7,7 +7,7 @@ ghost use Rattle.carried.specs.Perform.{Performed, Performs};
 ghost use Rattle.carried.specs.Recover.{WithColumns};
 
 use columns::splits::part;
-use columns::{fill, no_columns, shared};
+use columns::{fill, shared};
 use exchange::merge::merge;
 use parity::{Bit, Check};
 use reading::words::{Word, read};
@@ -51,17 +51,16 @@ pub fn perform(source: &[u32], words: &mut [u64], n: usize, m: usize, p: usize) 
     requires sound { Sound (lent 8 words.old) n m 0 }
     ensures { Performs source.now n m p (lent 8 words.old) (lent 8 words.new) result }
 {
-    let mut cols = no_columns();
+    let mut cols = [0u64; 1024];
     fill(words, &mut cols, 2, m);
-    let mut k = 0;
-    while p + k < source.len() {
+    let left = source.len() - p;
+    for k in 0..left {
         let Word::Split(x) = read(source[p + k]) else {
             return k;
         };
         if !perform_split(words, &mut cols, n, m, k, x) {
             return k;
         }
-        k += 1;
     }
-    k
+    left
 }

@@ -8,7 +8,7 @@ ghost use Rattle.carried.specs.Recover.{WithColumns, standing, Raw, BackOne, All
 
 use columns::splits::join;
 use columns::three::apart;
-use columns::{fill, fill_checks, no_columns};
+use columns::{fill, fill_checks};
 use parity::{Bit, Check};
 use rows::ones::next_one;
 use rows::weight;
@@ -41,9 +41,7 @@ fn each_back(words: &[u64], cols: &mut [u64], n: usize, m: usize, k: usize) -> b
     ensures all_back { AllBack (lent 8 words.now) (standing (lent 8 words.now) (lent 2 cols.new) m 0) n m k result }
     ensures columns { Columns m (standing (lent 8 words.now) (lent 2 cols.new) m 0) (lent 2 cols.new) }
 {
-    let mut j = k;
-    while j != 0 {
-        j -= 1;
+    for j in (0..k).rev() {
         if !back_one(words, cols, n, m, j) {
             return false;
         }
@@ -56,7 +54,7 @@ pub fn all_back(words: &[u64], rows: &mut [u64], n: usize, m: usize, k: usize) -
     requires { (length words.now ≡ 4096) × (length rows.old ≡ 256) × Empty (lent 2 rows.old) × Sound (lent 8 words.now) n m k }
     ensures { AllBack (lent 8 words.now) (lent 2 rows.new) n m k result }
 {
-    let mut cols = no_columns();
+    let mut cols = [0u64; 1024];
     fill(words, &mut cols, 2, m);
     if !each_back(words, &mut cols, n, m, k) {
         return false;

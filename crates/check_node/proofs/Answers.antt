@@ -7,9 +7,7 @@ use native.Mathlib.Omega.{arith}
 use lib.Dec.{eqb, ltb}
 use borrow.Author.Tests.{eq-eqb, ne_eqb, lt-ltb, le-ltb}
 use Rattle.parity.specs.Finite.{one, count, any}
-use Rattle.parity.specs.Words.{odd}
 use Rattle.parity.proofs.Finite.Sums.{is_true, is_false, is}
-use Rattle.parity.specs.Floats.{turned}
 use Rattle.parity.specs.Soft.{is_erased, is_soft, turns_sign, least_soft, turns_odd, check_sends, but}
 use Rattle.soft.specs.Store.{Sounds}
 use Rattle.check_node.specs.Pass.{seen, answer_to, check_answer}

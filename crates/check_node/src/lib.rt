@@ -8,7 +8,7 @@ ghost use Rattle.soft.specs.Store.{Holding, Sounds};
 ghost use Rattle.check_node.specs.Pass.{see_size, see_one, seen, seen_none, answer_to, check_answer};
 
 use parity::Channel;
-use soft::floats::{flipped, infinity, magnitude_of, turn};
+use soft::floats::{flipped, magnitude_of, turn};
 use soft::store::{message, put};
 
 // What one pass over a check's messages saw: how many are erased, how many soft, whether an odd number turns the sign, the least
@@ -27,22 +27,14 @@ pub struct Seen {
 fn erased_of(v: Channel) -> usize
     ensures { result ≡ one (is_erased v) }
 {
-    match v {
-        Channel::Sure(_) => 0,
-        Channel::Soft(_) => 0,
-        Channel::Erased => 1,
-    }
+    matches!(v, Channel::Erased) as usize
 }
 
 // 1 for a soft value.
 fn soft_of(v: Channel) -> usize
     ensures { result ≡ one (is_soft v) }
 {
-    match v {
-        Channel::Sure(_) => 0,
-        Channel::Soft(_) => 1,
-        Channel::Erased => 0,
-    }
+    matches!(v, Channel::Soft(_)) as usize
 }
 
 // Whether a value turns the sign: a sure 1 and a negative value do.
@@ -61,35 +53,23 @@ fn see_size(s: Seen, i: usize, x: f32, odd: bool) -> Seen
     requires { s.soft < 65536 }
     ensures { result ≡ see_size s i x odd }
 {
-    let soft = s.soft + 1;
+    let seen = Seen {
+        soft: s.soft + 1,
+        odd,
+        ..s
+    };
     if x < s.least {
         return Seen {
-            erased: s.erased,
-            soft: soft,
-            odd: odd,
             least: x,
             next: s.least,
             at: i,
+            ..seen
         };
     }
     if x < s.next {
-        return Seen {
-            erased: s.erased,
-            soft: soft,
-            odd: odd,
-            least: s.least,
-            next: x,
-            at: s.at,
-        };
+        return Seen { next: x, ..seen };
     }
-    Seen {
-        erased: s.erased,
-        soft: soft,
-        odd: odd,
-        least: s.least,
-        next: s.next,
-        at: s.at,
-    }
+    seen
 }
 
 // A message more, at place `i`.
@@ -99,22 +79,11 @@ fn see_one(s: Seen, i: usize, v: Channel) -> Seen
 {
     let odd = flipped(does_turn(v), s.odd);
     match v {
-        Channel::Sure(_) => Seen {
-            erased: s.erased,
-            soft: s.soft,
-            odd: odd,
-            least: s.least,
-            next: s.next,
-            at: s.at,
-        },
+        Channel::Sure(_) => Seen { odd, ..s },
         Channel::Soft(x) => see_size(s, i, magnitude_of(x), odd),
         Channel::Erased => Seen {
             erased: s.erased + 1,
-            soft: s.soft,
-            odd: s.odd,
-            least: s.least,
-            next: s.next,
-            at: s.at,
+            ..s
         },
     }
 }
@@ -127,8 +96,8 @@ fn none_seen(d: usize) -> Seen
         erased: 0,
         soft: 0,
         odd: false,
-        least: infinity(),
-        next: infinity(),
+        least: f32::INFINITY,
+        next: f32::INFINITY,
         at: d,
     }
 }

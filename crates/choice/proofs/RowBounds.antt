@@ -18,7 +18,7 @@ use Rattle.parity.proofs.Matrix.Ones.{Lowest, trailing_lowest}
 use Rattle.columns.specs.Planes.{number, Shares, From}
 use Rattle.choice.specs.Numbers.{Best, Lifted}
 use Rattle.columns.specs.declared.planes.Planes.{Planes}
-use Rattle.choice.specs.Bounds.{Weights, Bounded, Head, Largest, FirstAt, RowBelow, Narrow, Scanned, Picked, NoPair, Raised}
+use Rattle.choice.specs.Bounds.{Weights, Bounded, Head, Largest, Without, RowBelow, Narrow, Hit, Miss, Picked, NoPair, Raised}
 
 -- the first bounds
 pub weights_next : (share : ℕ → ℕ → ℕ) (bound : List ℕ) (x t : ℕ) → Weights share bound x → x < length bound → t ≡ share x x → Weights share (set bound x t) (x + 1)
@@ -43,11 +43,6 @@ pub record RowTo (share : ℕ → ℕ → ℕ) (u s v most : ℕ) : Type 0 where
   pub below : most < s
   pub over : (y : ℕ) → u < y → y < v → share u y ≤ most
 
--- The rows from `from` up to x do not have the cap.
-pub record Below (bound : List ℕ) (from cap x : ℕ) : Type 0 where
-  pub start : from ≤ x
-  pub none : (y : ℕ) → from ≤ y → y < x → get_or bound y 0 ≡ cap → ⊥
-
 -- the largest bound
 pub largest_none : (bound : List ℕ) → Largest bound 0 0 0
 largest_none bound = record { most = λ x k. absurd (omega arith); found = λ k. absurd (omega arith); first = λ x k. absurd (omega arith) }
@@ -70,8 +65,8 @@ module _ (bound : List ℕ) (i u s : ℕ) (L : Largest bound i u s) where
 pub row_start : (share : ℕ → ℕ → ℕ) (u s i : ℕ) → i * 64 ≤ u + 1 → 0 < s → RowTo share u s (max (u + 1) (i * 64)) 0
 row_start share u s i l k = record { low = omega arith; below = k; over = λ y a b. absurd (omega arith) }
 
-pub row_miss : (share : ℕ → ℕ → ℕ) (bits u s v most : ℕ) → RowTo share u s v most → bits ≤ v → Scanned share bits u s bits most
-row_miss share bits u s v most R k = record { hit = λ l. absurd (omega arith); miss = λ l. (R.below, λ y a b. R.over y a (omega arith)) }
+pub row_miss : (share : ℕ → ℕ → ℕ) (bits u s v most : ℕ) → RowTo share u s v most → bits ≤ v → Miss share bits u s most
+row_miss share bits u s v most R k = record { below = R.below; over = λ y a b. R.over y a (omega arith) }
 
 -- one word more: its largest share at the bits above u, and the places of it
 module _ (share : ℕ → ℕ → ℕ) (bits u s i most : ℕ) (R : RowTo share u s (max (u + 1) (i * 64)) most) (mask : ℕ) (F : From mask i (u + 1))
@@ -101,25 +96,23 @@ module _ (share : ℕ → ℕ → ℕ) (bits u s i most : ℕ) (R : RowTo share 
       let (m, n) = B.here _ the_first.here in
       omega (arith, S.at _ the_first.short, at_most _ (unmasked _ the_first.short m))
 
-  pub word_hit : value ≡ s → Scanned share bits u s (i * 64 + count_trailing_zeros 64 left) most
+  pub word_hit : value ≡ s → Hit share bits u s (i * 64 + count_trailing_zeros 64 left)
   word_hit e =
       let t : ℕ = count_trailing_zeros 64 left in
       let short : t < 64 = the_first.short in
       let (m, n) = B.here t the_first.here in
       let q : share u (i * 64 + t) ≡ s = omega (arith, S.at t short) in
       record {
-        hit = λ l. (
-          unmasked t short m,
-          q,
-          λ y a b. elim (dec_lt y (max (u + 1) (i * 64))) [
-            | yes c ↦ omega (arith, R.over y a c, R.below)
-            | no c ↦
-                let w : i * 64 + (y - i * 64) ≡ y = omega arith in
-                let j : y - i * 64 < t = omega arith in
-                omega (arith, rw w at (S.at (y - i * 64) (omega arith)), B.below (y - i * 64) (omega arith) (masked (y - i * 64) (omega arith) (omega arith)) (the_first.none (y - i * 64) j))
-          ],
-        );
-        miss = λ l. absurd (omega (arith, N.none u (i * 64 + t) l));
+        high = elim (dec_lt (i * 64 + t) bits) [ yes l ↦ l | no l ↦ absurd (omega (arith, N.none u (i * 64 + t) (omega arith))) ];
+        low = unmasked t short m;
+        here = q;
+        near = λ y a b. elim (dec_lt y (max (u + 1) (i * 64))) [
+          | yes c ↦ omega (arith, R.over y a c, R.below)
+          | no c ↦
+              let w : i * 64 + (y - i * 64) ≡ y = omega arith in
+              let j : y - i * 64 < t = omega arith in
+              omega (arith, rw w at (S.at (y - i * 64) (omega arith)), B.below (y - i * 64) (omega arith) (masked (y - i * 64) (omega arith) (omega arith)) (the_first.none (y - i * 64) j))
+        ];
       }
 
   pub word_next : (value ≡ s → ⊥) → RowTo share u s (max (u + 1) ((i + 1) * 64)) (max most value)
@@ -151,26 +144,25 @@ module _ (share : ℕ → ℕ → ℕ) (bits : ℕ) (bound : List ℕ) (B : Boun
     few = λ x y a b. elim (dec_le 2 (share x y)) [ yes c ↦ absurd (omega (arith, B.over x y a b c, L.most x (omega arith))) | no c ↦ omega arith ];
   }
 
-  module _ (two : 2 ≤ s) (v t : ℕ) (S : Scanned share bits u s v t) where
-    pub pick_found : v < bits → Picked share bits u v s
-    pick_found k =
-        let (a, b, f) = S.hit k in
+  module _ (two : 2 ≤ s) where
+    pub pick_found : (v : ℕ) → Hit share bits u s v → Picked share bits u v s
+    pick_found v S =
         record {
           two = two;
-          low = a;
-          high = k;
-          here = b;
+          low = S.low;
+          high = S.high;
+          here = S.here;
           most = λ x y i j. elim (dec_le 2 (share x y)) [ yes p ↦ omega (arith, B.over x y i j p, L.most x (omega arith)) | no p ↦ omega arith ];
           first = λ x y i j c. elim (dec_le 2 (share x y)) [ yes p ↦ omega (arith, B.over x y i j p, L.first x c) | no p ↦ omega arith ];
-          near = f;
+          near = S.near;
         }
 
-    module _ (k : bits ≤ v) (long : u < length bound) where
+    module _ (t : ℕ) (S : Miss share bits u s t) (long : u < length bound) where
       pub pick_lower : Bounded share bits (set bound u t)
       pick_lower = record {
         over = λ x y i j c.
             elim (ℕ_discrete x u) [
-              | yes q ↦ rw (q, get_or-set_same bound u t 0 long) ((S.miss k).1 y (omega arith) j)
+              | yes q ↦ rw (q, get_or-set_same bound u t 0 long) (S.over y (omega arith) j)
               | no d ↦ rw (get_or-set_other bound u x t 0 d) (B.over x y i j c)
             ];
       }
@@ -179,7 +171,7 @@ module _ (share : ℕ → ℕ → ℕ) (bits : ℕ) (bound : List ℕ) (B : Boun
       pick_falls =
           let (a, b) = L.found (omega arith) in
           let p = sum_point bits u {f = λ x. get_or (set bound u t) x 0} {g = λ x. get_or bound x 0} a (λ x i d. get_or-set_other bound u x t 0 d) in
-          omega (arith, rw (get_or-set_same bound u t 0 long) at p, (S.miss k).0)
+          omega (arith, rw (get_or-set_same bound u t 0 long) at p, S.below)
 
 -- After a split: no old share is larger, and the shares of the new bit z were taken in.
 pub bounded_split : (share share' : ℕ → ℕ → ℕ) (z : ℕ) (bound bound' : List ℕ) → Bounded share z bound
@@ -227,26 +219,19 @@ raising_all share z bound bound' i R k l = record {
 }
 
 -- the first row that has the cap
-pub below_none : (bound : List ℕ) (from cap : ℕ) → Below bound from cap from
-below_none bound from cap = record { start = omega arith; none = λ y a b. absurd (omega arith) }
+pub without_none : (bound : List ℕ) (from cap : ℕ) → Without bound from cap from
+without_none bound from cap = record { none = λ y a b. absurd (omega arith) }
 
-module _ (bound : List ℕ) (from cap x : ℕ) (L : Below bound from cap x) where
-  pub below_next : (get_or bound x 0 ≡ cap → ⊥) → Below bound from cap (x + 1)
-  below_next d = record {
-    start = omega (arith, L.start);
-    none = λ y a b e. elim (ℕ_discrete y x) [ yes q ↦ d (rw q at e) | no n ↦ L.none y a (omega arith) e ];
-  }
+pub without_next : (bound : List ℕ) (from cap x : ℕ) → Without bound from cap x → (get_or bound x 0 ≡ cap → ⊥) → Without bound from cap (x + 1)
+without_next bound from cap x L d = record { none = λ y a b e. elim (ℕ_discrete y x) [ yes q ↦ d (rw q at e) | no n ↦ L.none y a (omega arith) e ] }
 
-  pub below_found : (bits : ℕ) → get_or bound x 0 ≡ cap → FirstAt bound bits from cap x
-  below_found bits e = record { none = L.none; found = λ l. e }
+pub without_end : (bound : List ℕ) (from cap x bits : ℕ) → Without bound from cap x → bits ≤ x → Without bound from cap bits
+without_end bound from cap x bits L k = record { none = λ y a b. L.none y a (omega arith) }
 
-  pub below_end : (bits : ℕ) → bits ≤ x → FirstAt bound bits from cap x
-  below_end bits k = record { none = L.none; found = λ l. absurd (omega arith) }
-
-pub head_top : (bound : List ℕ) (bits from cap x : ℕ) → Head bound bits from cap → FirstAt bound bits from cap x → x < bits → Largest bound bits x cap
-head_top bound bits from cap x H F k = record {
+pub head_top : (bound : List ℕ) (bits from cap x : ℕ) → Head bound bits from cap → Without bound from cap x → x < bits → get_or bound x 0 ≡ cap → Largest bound bits x cap
+head_top bound bits from cap x H F k e = record {
   most = H.most;
-  found = λ l. (k, F.found k);
+  found = λ l. (k, e);
   first = λ y l. elim (dec_lt y from) [
     | yes a ↦ H.first y a
     | no a ↦ elim (ℕ_discrete (get_or bound y 0) cap) [ yes q ↦ absurd (F.none y (omega arith) l q) | no d ↦ omega (arith, H.most y (omega arith)) ]

@@ -1,28 +1,21 @@
 // Row bounds: for each bit, a bound on its shares of two or more with the bits above it. They give the pair to split.
-ghost use Rattle.std.specs.Prelude.{◌≡◌, ◌≤◌, ◌<◌, length, replicate};
+ghost use Rattle.std.specs.Prelude.{◌≡◌, ◌≤◌, ◌<◌, length};
 ghost use Rattle.parity.specs.Matrix.{lent};
 ghost use Rattle.columns.specs.Columns.{shares, Given};
 ghost use Rattle.choice.specs.Bounds.{Weights, Bounded, Head, Largest, FirstAt, RowBelow, Narrow, Scanned, Chosen, Raised};
 
 use crate::numbers::{best, lift};
-use columns::planes::{above, larger, tally};
+use columns::planes::{above, tally};
 use columns::shared;
 use parity::Bit;
-use rows::wide;
-
-// Bounds of 0.
-fn no_bounds() -> [u64; 512]
-    ensures { result ≡ replicate 512 0 }
-{
-    [0u64; 512]
-}
+use rows::words_of;
 
 // The first bounds: how many given checks contain the bit.
 pub fn weights(cols: &[u64], bits: usize) -> [u64; 512]
     requires { (length cols.now ≡ 1024) × (bits ≤ 512) }
     ensures { Weights (shares cols.now) result bits }
 {
-    let mut bound = no_bounds();
+    let mut bound = [0u64; 512];
     for x in 0..bits {
         bound[x] = shared(cols, 2, Bit(x), Bit(x));
     }
@@ -57,18 +50,16 @@ fn largest(bound: &[u64], bits: usize) -> Row
 }
 
 // The first row from `from` on whose bound is the cap, if there is one below `bits`.
-fn first_at(bound: &[u64], bits: usize, from: Bit, cap: u64) -> Bit
+fn first_at(bound: &[u64], bits: usize, from: Bit, cap: u64) -> Option<Bit>
     requires { bits ≤ length bound.now }
-    ensures { FirstAt bound.now bits from.0 cap result.0 }
+    ensures { FirstAt bound.now bits from.0 cap result }
 {
-    let mut x = from.0;
-    while x < bits {
+    for x in from.0..bits {
         if bound[x] == cap {
-            return Bit(x);
+            return Some(Bit(x));
         }
-        x += 1;
     }
-    Bit(x)
+    None
 }
 
 // The first row that has the largest bound, where no bound is above the cap and those before `from` are below it.
@@ -77,55 +68,41 @@ fn top_row(bound: &[u64], bits: usize, from: Bit, cap: u64) -> Row
     requires head { Head bound.now bits from.0 cap }
     ensures { Largest bound.now bits result.low.0 result.times }
 {
-    let x = first_at(bound, bits, from, cap);
-    if x.0 < bits {
-        return Row { low: x, times: cap };
+    match first_at(bound, bits, from, cap) {
+        Some(low) => Row { low, times: cap },
+        None => largest(bound, bits),
     }
-    largest(bound, bits)
-}
-
-// Where the scan of a row ended, and the largest share that it saw before.
-#[derive(Clone, Copy)]
-struct Seen {
-    at: usize,
-    most: u64,
 }
 
 // The first bit above `u` that shares `s` checks with it, or else the row's largest share: a word of bits at a time.
-fn scan(words: &[u64], cols: &[u64], bits: usize, u: Bit, s: u64) -> Seen
+fn scan(words: &[u64], cols: &[u64], bits: usize, u: Bit, s: u64) -> Result<Bit, u64>
     requires words_len { (length words.now ≡ 4096) × (length cols.now ≡ 1024) × (bits ≤ 512) × (u.0 < bits) × (2 ≤ s) }
     requires given { Given (lent 8 words.now) (lent 2 cols.now) × Narrow (shares cols.now) bits × RowBelow (shares cols.now) bits u.0 s }
-    ensures { Scanned (shares cols.now) bits u.0 s result.at result.most }
+    ensures { Scanned (shares cols.now) bits u.0 s result }
 {
     let from = u.0 + 1;
-    let mut i = from / 64;
     let mut mask = above(from);
     let mut most: u64 = 0;
-    while i * 64 < bits {
+    for i in from / 64..words_of(bits) {
         let top = best(tally(cols, 2, u.0, 2, words, 8, i), mask);
-        let t = top.value;
-        let left = top.left;
-        if t == s {
-            return Seen {
-                at: i * 64 + wide(u64::trailing_zeros(left)),
-                most,
-            };
+        if top.value == s {
+            return Ok(Bit(i * 64 + top.left.trailing_zeros() as usize));
         }
-        most = larger(most, t);
-        i += 1;
+        most = most.max(top.value);
         mask = !0;
     }
-    Seen { at: bits, most }
+    Err(most)
 }
 
-// The pair to split: its two bits and their share, which is two or more; or nothing.
-#[derive(Clone, Copy)]
-pub enum Choice {
-    Pair { low: Bit, high: Bit, share: u64 },
-    Nothing,
+// The pair to split: its two bits and their share, which is two or more.
+#[derive(Clone, Copy, Debug, PartialEq, Eq)]
+pub struct Pair {
+    pub low: Bit,
+    pub high: Bit,
+    pub share: u64,
 }
 
-// The pair to split, where the rows before `first` have bounds below `most`, and no row has one above it.
+// The pair to split, if there is one, where the rows before `first` have bounds below `most`, and no row has one above it.
 pub fn pick(
     words: &[u64],
     cols: &[u64],
@@ -133,7 +110,7 @@ pub fn pick(
     bound: &mut [u64],
     first: Bit,
     most: u64,
-) -> Choice
+) -> Option<Pair>
     requires words_len { (length words.now ≡ 4096) × (length cols.now ≡ 1024) × (length bound.old ≡ 512) × (bits ≤ 512) }
     requires given { Given (lent 8 words.now) (lent 2 cols.now) × Narrow (shares cols.now) bits }
     requires bounded { Bounded (shares cols.now) bits bound.old × Head bound.old bits first.0 most }
@@ -142,25 +119,18 @@ pub fn pick(
     let mut from = first;
     let mut cap = most;
     loop {
-        let row = top_row(bound, bits, from, cap);
-        let low = row.low;
-        let share = row.times;
+        let Row { low, times: share } = top_row(bound, bits, from, cap);
         if share < 2 {
-            return Choice::Nothing;
+            return None;
         }
-        let seen = scan(words, cols, bits, low, share);
-        let v = seen.at;
-        if v < bits {
-            return Choice::Pair {
-                low,
-                high: Bit(v),
-                share,
-            };
+        match scan(words, cols, bits, low, share) {
+            Ok(high) => return Some(Pair { low, high, share }),
+            Err(most) => {
+                bound[low.0] = most;
+                from = Bit(low.0 + 1);
+                cap = share;
+            }
         }
-        let u = low.0;
-        bound[u] = seen.most;
-        from = Bit(u + 1);
-        cap = share;
     }
 }
 
@@ -171,10 +141,8 @@ pub fn widen(words: &[u64], cols: &[u64], z: Bit, bound: &mut [u64])
     ensures { Raised (shares cols.now) z.0 bound.old bound.new z.0 }
 {
     let new = z.0;
-    let mut i: usize = 0;
-    while i * 64 < new {
-        lift(bound, tally(cols, 2, z.0, 2, words, 8, i), i);
-        i += 1;
+    for i in 0..words_of(new) {
+        lift(bound, tally(cols, 2, new, 2, words, 8, i), i);
     }
     bound[new] = 0;
 }

@@ -5,8 +5,7 @@ ghost use Rattle.parity.specs.Matrix.{bit_of};
 ghost use Rattle.columns.specs.Planes.{number};
 ghost use Rattle.choice.specs.Numbers.{high, Candidates, Best, Several, Lifted};
 
-use columns::planes::{Planes, larger};
-use rows::wide;
+use columns::planes::Planes;
 
 // The places of the largest number, and that number.
 #[derive(Clone, Copy)]
@@ -101,9 +100,9 @@ pub fn lift(bound: &mut [u64], p: Planes, i: usize)
 {
     let mut rest = several(p);
     while rest != 0 {
-        let t = wide(u64::trailing_zeros(rest));
+        let t = rest.trailing_zeros() as usize;
         let x = i * 64 + t;
-        bound[x] = larger(bound[x], number_at(p, t));
-        rest = rest & (rest - 1);
+        bound[x] = bound[x].max(number_at(p, t));
+        rest &= rest - 1;
     }
 }

@@ -8,9 +8,8 @@ ghost use Rattle.parity.specs.Matrix.{cause};
 ghost use Rattle.parity.specs.Calls.{peel_outcome};
 ghost use Rattle.client.specs.Relied.{ReliesOn};
 
-use orthogonalise::{Orthogonalising, orthogonalise};
-use peel::{Peeling, peel};
-use rows::whole::copy_words;
+use orthogonalise::orthogonalise;
+use peel::peel;
 
 // Peels the first n + k bytes, and says whether peeling answers.
 fn peel_front(words: &[u64], n: usize, m: usize, k: usize, bytes: &mut [u8]) -> bool
@@ -18,10 +17,7 @@ fn peel_front(words: &[u64], n: usize, m: usize, k: usize, bytes: &mut [u8]) -> 
     ensures value { result ≡ eqb (peel_outcome words.now n m k (take (n + k) bytes.old)).reply.number 0 }
     ensures bytes_after { bytes.new ≡ (peel_outcome words.now n m k (take (n + k) bytes.old)).after ++ drop (n + k) bytes.old }
 {
-    match peel(words, n, m, k, &mut bytes[..n + k]) {
-        Peeling::Refused(_) => false,
-        Peeling::Made(_) => true,
-    }
+    peel(words, n, m, k, &mut bytes[..n + k]).is_ok()
 }
 
 // Peels the received word with the given matrix in `given`, and with its orthogonalised copy, made in `own`, in `longer`, where 392 erased bits stand
@@ -37,17 +33,12 @@ pub fn peel_both(
     requires { (cause words.now n m 0 ≡ 0) × (length own.old ≡ 4096) × (length given.old ≡ n) × (longer.old ≡ given.old ++ replicate 392 2) }
     ensures { ReliesOn words.now n m given.old result given.new longer.new }
 {
-    copy_words(words, 0, own, 0, 4096);
+    own.copy_from_slice(words);
     if !peel_front(words, n, m, 0, given) {
         return false;
     }
     match orthogonalise(own, n, m, 0) {
-        Orthogonalising::Refused(_) => peel_front(words, n, m, 0, longer),
-        Orthogonalising::Finished {
-            splits: _,
-            sum: _,
-            k,
-            held: _,
-        } => peel_front(own, n, m, k, longer),
+        Err(_) => peel_front(words, n, m, 0, longer),
+        Ok(made) => peel_front(own, n, m, made.k, longer),
     }
 }

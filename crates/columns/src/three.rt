@@ -29,7 +29,7 @@ pub fn apart(cols: &[u64], width: usize, x: usize, y: usize, z: usize) -> bool
 {
     let mut acc: u64 = 0;
     for i in 0..width {
-        acc = acc | two_in(cols, width, x, y, z, i);
+        acc |= two_in(cols, width, x, y, z, i);
     }
     acc == 0
 }

@@ -6,9 +6,9 @@ use Prim.Native.Nat.{ℕ, ◌+◌, ◌*◌, ◌-◌, ◌≤◌, ◌<◌}
 use native.Mathlib.Omega.{arith}
 use lib.ListN.{length}
 use borrow.Author.Tests.{eqb-false}
-use Rattle.parity.specs.Finite.{one, list_from}
+use Rattle.parity.specs.Finite.{list_from}
 use Rattle.parity.specs.Matrix.{Matrix, lent}
-use Rattle.parity.specs.Words.{erased, is_one, within}
+use Rattle.parity.specs.Words.{erased, within}
 use Rattle.parity.specs.Determining.{some_agrees, determined}
 use Rattle.parity.specs.Causes.{answer, refusal}
 use Rattle.parity.specs.Calls.{byte_of, wrong_byte}

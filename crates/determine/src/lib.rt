@@ -3,10 +3,10 @@
 
 ghost use Rattle.std.specs.Prelude.{◌≡◌, false, ◌+◌, ◌≤◌, ◌<◌, length};
 ghost use Rattle.parity.specs.Matrix.{lent, cause};
+ghost use Rattle.parity.specs.Causes.{result_reply, loss_values};
 ghost use Rattle.parity.specs.Calls.{wrong_byte, determine_outcome};
-ghost use Rattle.determine.specs.Answers.{determining_reply, word_outcome};
+ghost use Rattle.determine.specs.Answers.{word_outcome};
 
-use matrix::Accepting;
 use parity::{Losses, Refusal};
 use residue::finish;
 use rows::words_of;
@@ -15,18 +15,16 @@ use sets::pairs::make_sets;
 use steps::settle;
 use word::admit;
 
-// What determining answers: how many sent bits and how many added bits were recovered, peeled and eliminated ones together, and how many of
-// each are left.
-#[derive(Clone, Copy)]
-pub enum Determining {
-    Made(Losses),
-    Refused(Refusal),
-}
-
 // Determines a word of bytes up to 2, of `n` sent and `k` added bits: it is peeled, and what peeling leaves is solved by elimination.
-fn determine_word(words: &[u64], n: usize, k: usize, checks: usize, word: &mut [u8]) -> Determining
+fn determine_word(
+    words: &[u64],
+    n: usize,
+    k: usize,
+    checks: usize,
+    word: &mut [u8],
+) -> Result<Losses, Refusal>
     requires { (length words.now ≡ 4096) × (checks ≤ 512) × (length word.old ≡ n + k) × (n + k ≤ 512) × (n < 512) × (wrong_byte 2 word.old ≡ false) }
-    ensures result_value { determining_reply result ≡ (word_outcome (lent 8 words.now) n k checks word.old).reply }
+    ensures result_value { result_reply loss_values result ≡ (word_outcome (lent 8 words.now) n k checks word.old).reply }
     ensures word_after { word.new ≡ (word_outcome (lent 8 words.now) n k checks word.old).after }
 {
     let mut lost = [0u64; 8];
@@ -48,9 +46,9 @@ fn determine_word(words: &[u64], n: usize, k: usize, checks: usize, word: &mut [
         &mut erased,
         &mut ones,
     ) {
-        return Determining::Refused(Refusal::Contradiction);
+        return Err(Refusal::Contradiction);
     }
-    Determining::Made(losses_of(&lost, &erased, n))
+    Ok(losses_of(&lost, &erased, n))
 }
 
 // Determines a word that no cause before 12 refuses.
@@ -60,22 +58,25 @@ pub fn determine_admitted(
     m: usize,
     k: usize,
     word: &mut [u8],
-) -> Determining
+) -> Result<Losses, Refusal>
     requires { (cause words.now n m k ≡ 0) × (length word.old ≡ n + k) × (wrong_byte 2 word.old ≡ false) }
-    ensures result_value { determining_reply result ≡ (determine_outcome words.now n m k word.old).reply }
+    ensures result_value { result_reply loss_values result ≡ (determine_outcome words.now n m k word.old).reply }
     ensures word_after { word.new ≡ (determine_outcome words.now n m k word.old).after }
 {
     determine_word(words, n, k, m + k, word)
 }
 
 // Determines a word: each bit at which all codewords that agree with it have one value gets this value, and the others keep 2.
-pub fn determine(words: &[u64], n: usize, m: usize, k: usize, word: &mut [u8]) -> Determining
-    ensures result_value { determining_reply result ≡ (determine_outcome words.now n m k word.old).reply }
+pub fn determine(
+    words: &[u64],
+    n: usize,
+    m: usize,
+    k: usize,
+    word: &mut [u8],
+) -> Result<Losses, Refusal>
+    ensures result_value { result_reply loss_values result ≡ (determine_outcome words.now n m k word.old).reply }
     ensures word_after { word.new ≡ (determine_outcome words.now n m k word.old).after }
 {
-    let admission = admit(words, n, m, k, word, 2);
-    match admission {
-        Accepting::Refused(r) => Determining::Refused(r),
-        Accepting::Accepted => determine_admitted(words, n, m, k, word),
-    }
+    admit(words, n, m, k, word, 2)?;
+    determine_admitted(words, n, m, k, word)
 }

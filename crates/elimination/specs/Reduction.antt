@@ -1,5 +1,5 @@
 -- Elimination: adding checks to others, and the form that a reduced matrix has. Assumes nothing.
-use Rattle.std.specs.Prelude.{ℕ, ◌+◌, ◌≤◌, ◌<◌, ◌≡◌, Bool, true, false, cond, ◌&&◌, List, eqb, ltb, leb, get_or}
+use Rattle.std.specs.Prelude.{ℕ, ◌+◌, ◌≤◌, ◌<◌, ◌≡◌, Bool, true, false, cond, ◌&&◌, List, eqb, ltb, leb, get_or, Option, Some, None}
 use Rattle.std.specs.Bool.{xor}
 use Rattle.parity.specs.Finite.{any}
 use Rattle.parity.specs.Matrix.{Matrix}
@@ -20,6 +20,11 @@ pub record FirstIn (g : Matrix) (m first b p : ℕ) : Type 0 where
   pub to : p ≤ m
   pub none : (c : ℕ) → first ≤ c → c < p → g c b ≡ false
   pub found : p < m → g p b ≡ true
+
+-- the first such check, or none
+abbrev pub FirstOf : Matrix → ℕ → ℕ → ℕ → Option ℕ → Type 0
+FirstOf g m first b (Some p) = FirstIn g m first b p × (p < m)
+FirstOf g m first b None = (c : ℕ) → first ≤ c → c < m → g c b ≡ false
 
 -- The two matrices have the same codewords, in their first n bits and m checks.
 abbrev pub Same : Matrix → Matrix → ℕ → ℕ → Type 0

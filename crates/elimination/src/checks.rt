@@ -2,7 +2,7 @@
 ghost use Rattle.std.specs.Prelude.{◌≡◌, ◌+◌, ◌*◌, ◌/◌, ◌<◌, ◌≤◌, length};
 ghost use Rattle.parity.specs.Matrix.{lent};
 ghost use Rattle.rows.specs.Whole.{plus};
-ghost use Rattle.elimination.specs.Reduction.{when, cleared, FirstIn};
+ghost use Rattle.elimination.specs.Reduction.{when, cleared, FirstOf};
 ghost use Rattle.elimination.specs.Rows.{Blank, RowOf};
 
 use rows::contains;
@@ -24,7 +24,7 @@ pub fn add_check(rows: &mut [u64], width: usize, p: usize, c: usize)
     ensures { lent width rows.new ≡ plus c (lent width rows.old p) (lent width rows.old) }
 {
     for i in 0..width {
-        rows[c * width + i] = rows[c * width + i] ^ rows[p * width + i];
+        rows[c * width + i] ^= rows[p * width + i];
     }
 }
 
@@ -53,24 +53,27 @@ pub fn clear(rows: &mut [u64], width: usize, first: usize, end: usize, row: &[u6
     requires { (first ≤ end) × (end * width ≤ length rows.old) × (width ≤ 8) × (b < width * 64) × Blank width row.now }
     ensures { lent width rows.new ≡ cleared (lent width row.now 1) b first end (lent width rows.old) }
 {
-    if width == 3 {
-        clear_rows(rows, 3, first, end, row, b);
-        return;
+    match width {
+        3 => clear_rows(rows, 3, first, end, row, b),
+        _ => clear_rows(rows, width, first, end, row, b),
     }
-    clear_rows(rows, width, first, end, row, b);
 }
 
-// The first check from `first` on that contains bit `b`, or `checks` if none does.
-pub fn first_with(rows: &[u64], width: usize, checks: usize, first: usize, b: usize) -> usize
+// The first check from `first` on that contains bit `b`.
+pub fn first_with(
+    rows: &[u64],
+    width: usize,
+    checks: usize,
+    first: usize,
+    b: usize,
+) -> Option<usize>
     requires { (checks * width ≤ length rows.now) × (b < width * 64) × (first ≤ checks) }
-    ensures { FirstIn (lent width rows.now) checks first b result }
+    ensures { FirstOf (lent width rows.now) checks first b result }
 {
-    let mut c = first;
-    while c < checks {
+    for c in first..checks {
         if contains(rows, width, c, b) {
-            return c;
+            return Some(c);
         }
-        c += 1;
     }
-    c
+    None
 }

@@ -68,23 +68,13 @@ fn make_pivot(
     requires { (checks * width ≤ length rows.old) × (width ≤ 8) × (b < width * 64) × (first ≤ r) × (r < checks) × (p < checks) }
     ensures { lent width rows.new ≡ around first checks r b (lifted p r (lent width rows.old)) }
 {
-    if width == 1 {
-        make_pivot_in(rows, 1, first, checks, p, r, b);
-        return;
+    match width {
+        1 => make_pivot_in(rows, 1, first, checks, p, r, b),
+        2 => make_pivot_in(rows, 2, first, checks, p, r, b),
+        4 => make_pivot_in(rows, 4, first, checks, p, r, b),
+        8 => make_pivot_in(rows, 8, first, checks, p, r, b),
+        _ => make_pivot_in(rows, width, first, checks, p, r, b),
     }
-    if width == 2 {
-        make_pivot_in(rows, 2, first, checks, p, r, b);
-        return;
-    }
-    if width == 4 {
-        make_pivot_in(rows, 4, first, checks, p, r, b);
-        return;
-    }
-    if width == 8 {
-        make_pivot_in(rows, 8, first, checks, p, r, b);
-        return;
-    }
-    make_pivot_in(rows, width, first, checks, p, r, b);
 }
 
 // The turn of bit `b`: it becomes the pivot of check `r` if one from `r` on contains it, and is cleared from the checks from `first` on. The answer is the
@@ -101,13 +91,14 @@ fn turn(
     requires { (checks * width ≤ length rows.old) × (width ≤ 8) × (b < width * 64) × (first ≤ r) × (r ≤ checks) × (checks ≤ length pivots.old) }
     ensures { Turned first (lent width rows.old) (lent width rows.new) checks b r pivots.old result pivots.new }
 {
-    let p = first_with(rows, width, checks, r, b);
-    if p < checks {
-        make_pivot(rows, width, first, checks, p, r, b);
-        pivots[r] = b;
-        return r + 1;
+    match first_with(rows, width, checks, r, b) {
+        Some(p) => {
+            make_pivot(rows, width, first, checks, p, r, b);
+            pivots[r] = b;
+            r + 1
+        }
+        None => r,
     }
-    r
 }
 
 // The rows are reduced in the bits of a set. The answer is the number of pivots, which stand in `pivots`, rising.

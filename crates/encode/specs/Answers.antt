@@ -1,17 +1,11 @@
--- What encoding answers, as document 01's number and values, and encoding behind causes 1 to 4 and 13. Assumes nothing.
+-- Encoding behind causes 1 to 4 and 13. Assumes nothing.
 use Rattle.std.specs.Prelude.{ℕ, ◌-◌, List, [], length}
 use Rattle.parity.specs.Finite.{one, list_from}
 use Rattle.parity.specs.Matrix.{lent}
 use Rattle.parity.specs.Words.{is_one}
 use Rattle.parity.specs.Encoding.{rank_of, encoded}
-use Rattle.parity.specs.Causes.{Reply, answer, refusal_of, Outcome, leaving}
+use Rattle.parity.specs.Causes.{answer, Outcome, leaving}
 use Rattle.parity.specs.Calls.{byte_of, checking_bytes}
-use Rattle.encode.specs.declared.Encoding.{Encoding}
-use Rattle.encode.specs.declared.Encoding.TheVariants as encodes
-
-abbrev pub encoding_reply : Encoding → Reply
-encoding_reply encodes.Written = answer []
-encoding_reply (encodes.Refused r) = refusal_of r
 
 -- encoding with an accepted matrix that has k = 0, for a word of n bytes
 unfoldable pub given_outcome : List ℕ → ℕ → List ℕ → List ℕ → Outcome

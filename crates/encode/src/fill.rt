@@ -10,13 +10,6 @@ ghost use Rattle.encode.specs.Filling.{Open, Filled};
 use rows::{is_odd, lower, raise};
 use sets::make_set;
 
-// A bit, as the byte of a word.
-fn byte(x: bool) -> u8
-    ensures { result ≡ one x }
-{
-    if x { 1 } else { 0 }
-}
-
 // Bit `b` of the set becomes `x`.
 fn put_bit(set: &mut [u64], b: usize, x: bool)
     requires { (length «set».old ≡ 2) × (b < 128) }
@@ -38,29 +31,27 @@ fn fill_bit(rows: &[u64], c: usize, b: usize, ones: &mut [u64], word: &mut [u8])
 {
     let sum = is_odd(rows, 2, 2, c, ones);
     put_bit(ones, b, sum);
-    word[b] = byte(sum);
+    word[b] = sum as u8;
 }
 
 // The pivots are filled in, from the last one down.
-fn fill_down(rows: &[u64], pivots: &[usize], r: usize, ones: &mut [u64], word: &mut [u8])
-    requires rows_len { (length rows.now ≡ 240) × (r ≤ 120) × (r ≤ length pivots.now) × (length word.old ≤ 120) × SetOf 2 word.old 1 ones.old }
-    requires fact { Open (lent 2 rows.now) (length word.old) r pivots.now (byte_of word.old) }
-    ensures { Filled (lent 2 rows.now) (length word.old) r pivots.now 0 (byte_of word.old) (byte_of word.new) }
+fn fill_down(rows: &[u64], pivots: &[usize], ones: &mut [u64], word: &mut [u8])
+    requires rows_len { (length rows.now ≡ 240) × (length pivots.now ≤ 120) × (length word.old ≤ 120) × SetOf 2 word.old 1 ones.old }
+    requires fact { Open (lent 2 rows.now) (length word.old) (length pivots.now) pivots.now (byte_of word.old) }
+    ensures { Filled (lent 2 rows.now) (length word.old) (length pivots.now) pivots.now 0 (byte_of word.old) (byte_of word.new) }
 {
-    let mut c = r;
-    while 0 < c {
-        c -= 1;
+    for c in (0..pivots.len()).rev() {
         fill_bit(rows, c, pivots[c], ones, word);
     }
 }
 
-// The pivots of the first `r` checks, which are 0, become the bits that make these checks even.
-pub fn fill(rows: &[u64], pivots: &[usize], r: usize, word: &mut [u8])
-    requires rows_len { (length rows.now ≡ 240) × (r ≤ 120) × (r ≤ length pivots.now) × (length word.old ≤ 120) }
-    requires fact { Open (lent 2 rows.now) (length word.old) r pivots.now (byte_of word.old) }
-    ensures { Filled (lent 2 rows.now) (length word.old) r pivots.now 0 (byte_of word.old) (byte_of word.new) }
+// The pivots of the first checks, which are 0, become the bits that make these checks even.
+pub fn fill(rows: &[u64], pivots: &[usize], word: &mut [u8])
+    requires rows_len { (length rows.now ≡ 240) × (length pivots.now ≤ 120) × (length word.old ≤ 120) }
+    requires fact { Open (lent 2 rows.now) (length word.old) (length pivots.now) pivots.now (byte_of word.old) }
+    ensures { Filled (lent 2 rows.now) (length word.old) (length pivots.now) pivots.now 0 (byte_of word.old) (byte_of word.new) }
 {
     let mut ones = [0u64; 2];
     make_set(word, 1, 2, &mut ones);
-    fill_down(rows, pivots, r, &mut ones, word);
+    fill_down(rows, pivots, &mut ones, word);
 }

@@ -2,7 +2,6 @@
 use mathlib.Core.Path.{◌≡◌, refl, sym, ◌∙◌, fun_ext}
 use mathlib.Core.Bool.{Bool, true, false, cond, ◌&&◌, ◌||◌, and-false, or-false, true≢false}
 use Prim.Native.Nat.{ℕ, ◌+◌, ◌≤◌}
-use native.Mathlib.Nat.{add-zero}
 use native.Mathlib.Omega.{arith}
 use native.Mathlib.Numerals.{add-one}
 use native.Mathlib.Decide.{ℕ_discrete, dec_lt}
@@ -11,18 +10,18 @@ use borrow.Author.Tests.{eq-eqb, ne_eqb, lt-ltb, le-ltb}
 use Rattle.parity.specs.Finite.{count}
 use Rattle.parity.specs.Matrix.{Matrix, put}
 use Rattle.parity.specs.Cycles.{taken_back, others}
-use Rattle.parity.proofs.Finite.Sums.{is_true, is_false, is, below_next, count_suc, count_end, count_bound, one≤1}
+use Rattle.parity.proofs.Finite.Sums.{is_true, is_false, is, below_next, count_suc, count_end, count_bound}
 use Rattle.parity.proofs.Matrix.Lent.{put_row}
 use Rattle.parity.proofs.Splits.Back.{back_check, back_bit, back_at}
-use Rattle.exchange.specs.Back.{RestoredAt, Restored, Newer}
+use Rattle.exchange.specs.Back.{Restored, Newer}
 
 pub restored_none : (h : Matrix) (u v z : ℕ) → Restored h h 0 u v z 0
 unfolding count
 restored_none h u v z = record { at = λ c b. rw (le-ltb c 0 (omega arith)); holders = refl }
 
--- one more check
+-- one more check, which contains z or not
 module _ (h g : Matrix) (i u v z s : ℕ) (R : Restored h g i u v z s) where
-  still : (b : ℕ) → g i b ≡ h i b
+  pub still : (b : ℕ) → g i b ≡ h i b
   still b = R.at i b ∙ rw (le-ltb i i (omega arith))
 
   elsewhere : (c b : ℕ) → (c ≡ i → ⊥) → g c b ≡ cond (ltb c (i + 1) && h c z) (cond (eqb b u || eqb b v) true (cond (eqb b z) false (h c b))) (h c b)
@@ -52,25 +51,6 @@ module _ (h g : Matrix) (i u v z s : ℕ) (R : Restored h g i u v z s) where
     ];
     holders = rw R.holders (sym (rw (add-one i) (count_suc i (λ c. h c z) ∙ rw e)));
   }
-
--- one check
-pub restored_yes : (h g : Matrix) (c u v z : ℕ) → h c z ≡ true → g ≡ put c v true (put c u true (put c z false h)) → RestoredAt h g c u v z 1
-restored_yes h g c u v z e f = record { at = rw e f; holder = rw e }
-
-pub restored_no : (h : Matrix) (c u v z : ℕ) → h c z ≡ false → RestoredAt h h c u v z 0
-restored_no h c u v z e = record { at = rw e; holder = rw e }
-
-pub restored_one : (h g : Matrix) (c u v z r : ℕ) → RestoredAt h g c u v z r → r ≤ 1
-restored_one h g c u v z r A = rw A.holder (one≤1 (h c z))
-
--- what one turn does, and how many there are at most
-pub restored_step : (h g f : Matrix) (i u v z s r : ℕ) → Restored h g i u v z s → RestoredAt g f i u v z r → Restored h f (i + 1) u v z (s + r)
-restored_step h g f i u v z s r R A =
-    let e : g i z ≡ h i z = still h g i u v z s R z in
-    elim (is (h i z)) [
-      | is_true q ↦ rw (A.holder, A.at, e, q) (restored_next h g i u v z s R q)
-      | is_false q ↦ rw (A.holder, A.at, e, q, add-zero s) (restored_skip h g i u v z s R q)
-    ]
 
 pub restored_few : (h g : Matrix) (i u v z s : ℕ) → Restored h g i u v z s → s ≤ i
 restored_few h g i u v z s R = rw R.holders (count_bound i (λ c. h c z))

@@ -1,12 +1,7 @@
 -- What taking back on the words is made of: the given checks with the two bits in the newest one's place. Assumes nothing.
 use Rattle.std.specs.Prelude.{◌≡◌, true, false, cond, ◌&&◌, ◌||◌, ℕ, ◌≤◌, ◌<◌, eqb, ltb}
-use Rattle.parity.specs.Finite.{one, count}
-use Rattle.parity.specs.Matrix.{Matrix, put}
-
--- g is h with u and v in the place of z in check c if it contains z; r is 1 then, and else 0
-pub record RestoredAt (h g : Matrix) (c u v z r : ℕ) : Type 0 where
-  pub at : g ≡ cond (h c z) (put c v true (put c u true (put c z false h))) h
-  pub holder : r ≡ one (h c z)
+use Rattle.parity.specs.Finite.{count}
+use Rattle.parity.specs.Matrix.{Matrix}
 
 -- g is h with u and v in the place of z in the checks below m that contain z, of which there are s
 pub record Restored (h g : Matrix) (m u v z s : ℕ) : Type 0 where

@@ -3,7 +3,7 @@ ghost use Rattle.std.specs.Prelude.{◌≡◌, true, false, ◌≤◌, ◌<◌, 
 ghost use Rattle.parity.specs.Matrix.{lent, put};
 ghost use Rattle.parity.specs.Cycles.{taken_back, others};
 ghost use Rattle.exchange.specs.Merge.{Numbers};
-ghost use Rattle.exchange.specs.Back.{RestoredAt, Restored, Newer};
+ghost use Rattle.exchange.specs.Back.{Restored, Newer};
 
 use parity::{Bit, Check};
 use rows::bits::{has, put_in, take_out};
@@ -18,18 +18,6 @@ fn restore_check(words: &mut [u64], c: Check, u: Bit, v: Bit, z: Bit)
     put_in(words, c, v);
 }
 
-// Check `c` gets them if it contains `z`; answers whether it does, as 1 or 0.
-fn restore_at(words: &mut [u64], c: Check, u: Bit, v: Bit, z: Bit) -> u64
-    requires { Numbers words.old c.0 u.0 v.0 z.0 }
-    ensures { RestoredAt (lent 8 words.old) (lent 8 words.new) c.0 u.0 v.0 z.0 result }
-{
-    if has(words, c, z) {
-        restore_check(words, c, u, v, z);
-        return 1;
-    }
-    0
-}
-
 // The given checks that contain `z` get `u` and `v` in its place; answers how many they are.
 fn restore(words: &mut [u64], m: usize, u: Bit, v: Bit, z: Bit) -> u64
     requires { (length words.old ≡ 4096) × (m ≤ 120) × (u.0 < 512) × (v.0 < 512) × (z.0 < 512) }
@@ -37,7 +25,10 @@ fn restore(words: &mut [u64], m: usize, u: Bit, v: Bit, z: Bit) -> u64
 {
     let mut s: u64 = 0;
     for d in 0..m {
-        s += restore_at(words, Check(d), u, v, z);
+        if has(words, Check(d), z) {
+            restore_check(words, Check(d), u, v, z);
+            s += 1;
+        }
     }
     s
 }

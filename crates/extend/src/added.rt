@@ -8,7 +8,6 @@ ghost use Rattle.extend.specs.Added.{ExtendedTo, Bits, extended_bytes};
 
 use parity::Check;
 use rows::ones::next_one;
-use sets::bytes::copy_front;
 
 // The sum modulo 2 of the two lower bits of added check `m + j`.
 fn added_bit(words: &[u64], n: usize, m: usize, k: usize, j: usize, word: &[u8]) -> u8
@@ -36,6 +35,6 @@ pub fn write_word(words: &[u64], n: usize, m: usize, k: usize, sent: &[u8], word
     requires { (cause words.now n m k ≡ 0) × (length word.old ≡ n + k) × (length sent.now ≡ n) × Bits sent.now n }
     ensures { word.new ≡ extended_bytes (lent 8 words.now) n m k sent.now }
 {
-    copy_front(sent, word);
+    word[..n].copy_from_slice(sent);
     add_bits(words, n, m, k, word);
 }

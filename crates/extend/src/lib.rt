@@ -4,20 +4,12 @@
 mod added;
 
 ghost use Rattle.std.specs.Prelude.{◌≡◌};
+ghost use Rattle.parity.specs.Causes.{result_reply, no_values};
 ghost use Rattle.parity.specs.Calls.{extend_outcome};
-ghost use Rattle.extend.specs.Answers.{extending_reply};
 
 use crate::added::write_word;
-use matrix::Accepting;
 use parity::Refusal;
 use sets::bytes::first_above;
-
-// What extending answers.
-#[derive(Clone, Copy)]
-pub enum Extending {
-    Written,
-    Refused(Refusal),
-}
 
 // Extends the `n` sent bits to the `n + k` bits of the word.
 pub fn extend(
@@ -27,26 +19,22 @@ pub fn extend(
     k: usize,
     sent: &[u8],
     word: &mut [u8],
-) -> Extending
-    ensures { (extending_reply result ≡ (extend_outcome words.now n m k sent.now word.old).reply)
+) -> Result<(), Refusal>
+    ensures { (result_reply no_values result ≡ (extend_outcome words.now n m k sent.now word.old).reply)
         × (word.new ≡ (extend_outcome words.now n m k sent.now word.old).after) }
 {
-    let accepted = matrix::accept(words, n, m, k);
-    match accepted {
-        Accepting::Refused(r) => Extending::Refused(r),
-        Accepting::Accepted => {
-            if word.len() != n + k {
-                return Extending::Refused(Refusal::WrongLength);
-            }
-            if sent.len() != n {
-                return Extending::Refused(Refusal::WrongLength);
-            }
-            let place = first_above(sent, 1);
-            if place < sent.len() {
-                return Extending::Refused(Refusal::WrongByte { place });
-            }
+    matrix::accept(words, n, m, k)?;
+    if word.len() != n + k {
+        return Err(Refusal::WrongLength);
+    }
+    if sent.len() != n {
+        return Err(Refusal::WrongLength);
+    }
+    match first_above(sent, 1) {
+        Some(place) => Err(Refusal::WrongByte { place }),
+        None => {
             write_word(words, n, m, k, sent, word);
-            Extending::Written
+            Ok(())
         }
     }
 }

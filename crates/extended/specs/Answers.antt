@@ -1,10 +1,10 @@
 -- What peeling with the orthogonalised copy answers and leaves. Assumes nothing.
-use Rattle.std.specs.Prelude.{ℕ, ◌+◌, ◌-◌, ◌≡◌, Bool, true, false, cond, List, [], ◌∷◌, ◌++◌, eqb, get_or, length, take, replicate}
+use Rattle.std.specs.Prelude.{ℕ, ◌+◌, ◌-◌, ◌≡◌, Bool, true, false, cond, List, [], ◌∷◌, ◌++◌, eqb, get_or, length, take, replicate, Option, Some, None, Result, Ok, Err}
 use Rattle.parity.specs.Causes.{Reply, answer, refusal, refusal_of}
 use Rattle.parity.specs.Calls.{wrong_byte}
 use Rattle.parity.specs.Block.{bits_recovered, copy_made, copy_peeled}
-use Rattle.extended.specs.declared.CopyPeeling.{CopyPeeling}
-use Rattle.extended.specs.declared.CopyPeeling.TheVariants.{Made, NoRoom, Refused}
+use Rattle.parity.specs.declared.Refusal.{Refusal}
+use Rattle.extended.specs.declared.CopyPeeled.{CopyPeeled}
 
 -- the received word of n bytes at the front of 512, with bytes of 2 behind it
 pub record Longer (n : ℕ) (l : List ℕ) : Type 0 where
@@ -12,16 +12,20 @@ pub record Longer (n : ℕ) (l : List ℕ) : Type 0 where
   pub behind : l ≡ take n l ++ replicate (512 - n) 2
   pub bytes : wrong_byte 2 (take n l) ≡ false
 
--- orthogonalising was refused 9
-abbrev pub no_room : CopyPeeling → Bool
-no_room (Made recovered left) = false
-no_room NoRoom = true
-no_room (Refused r) = false
+-- the two numbers, as the values carried
+abbrev pub copy_peeled_values : CopyPeeled → List ℕ
+copy_peeled_values p = p.recovered ∷ p.left ∷ []
 
-abbrev pub copy_peeling_reply : CopyPeeling → Reply
-copy_peeling_reply (Made recovered left) = answer (recovered ∷ left ∷ [])
-copy_peeling_reply NoRoom = refusal 9 []
-copy_peeling_reply (Refused r) = refusal_of r
+-- orthogonalising was refused 9
+abbrev pub no_room : Result (Option CopyPeeled) Refusal → Bool
+no_room (Ok None) = true
+no_room (Ok (Some p)) = false
+no_room (Err r) = false
+
+abbrev pub copy_peeling_reply : Result (Option CopyPeeled) Refusal → Reply
+copy_peeling_reply (Ok None) = refusal 9 []
+copy_peeling_reply (Ok (Some p)) = answer (copy_peeled_values p)
+copy_peeling_reply (Err r) = refusal_of r
 
 -- a peeling's four numbers as two, sent and added bits together; a refusal stays
 unfoldable pub in_all : Reply → Reply

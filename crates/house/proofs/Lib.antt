@@ -1,3 +1,4 @@
 pub mod Entries
 pub mod Generated
 pub mod Held
+pub mod Names

@@ -1,7 +1,9 @@
 // The house codes as constant tables of 32-bit words, bit b of word c being bit b of check c.
 ghost use Rattle.std.specs.Prelude.{◌≡◌, ◌<◌};
-ghost use Rattle.parity.specs.House.{house_code, table_word};
+ghost use Rattle.parity.specs.House.{table_word};
+ghost use Rattle.house.specs.Names.{code};
 
+use crate::Name;
 use parity::Check;
 
 // The circulant: case L.
@@ -50,16 +52,16 @@ const HAMMING_31: [u32; 5] = [
 ];
 
 // The word of a check in the table of a name.
-pub fn word(name: usize, check: Check) -> u32
-    requires { (name < 5) × (check.0 < (house_code name).m) }
-    ensures { result ≡ table_word 32 (house_code name).matrix check.0 }
+pub fn word(name: Name, check: Check) -> u32
+    requires { check.0 < (code name).m }
+    ensures { result ≡ table_word 32 (code name).matrix check.0 }
 {
     let c = check.0;
     match name {
-        0 => CIRCULANT[c],
-        1 => HAMMING_3[c],
-        2 => HAMMING_7[c],
-        3 => HAMMING_15[c],
-        _ => HAMMING_31[c],
+        Name::Circulant => CIRCULANT[c],
+        Name::Hamming3 => HAMMING_3[c],
+        Name::Hamming7 => HAMMING_7[c],
+        Name::Hamming15 => HAMMING_15[c],
+        Name::Hamming31 => HAMMING_31[c],
     }
 }

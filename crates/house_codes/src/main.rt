@@ -1,49 +1,37 @@
 // Prints the house codes by rising name, as the generator computes them: a line for each check, its bits as 0 and 1, rising.
 #![tactic(auto)]
 
-ghost use Rattle.std.specs.Prelude.{◌<◌, ◌≤◌, length};
-ghost use Rattle.parity.specs.House.{house_code};
+ghost use Rattle.std.specs.Prelude.{◌<◌};
+ghost use Rattle.house.specs.Names.{code};
 
-use house::rule::{bits, checks, generate};
+use house::Name;
+use house::rule::{generate, size};
 use parity::Check;
 use std::io;
 
-// The character of bit `b` of `x`.
-fn character(x: u32, b: usize) -> u8
-    requires { b < 32 }
+// The bits of a check.
+fn print_check(rt: &impl Print, name: Name, c: Check) -> io::Result<()>
+    requires { c.0 < (code name).m }
 {
-    if x & (1 << b) != 0 { b'1' } else { b'0' }
+    let n = size(name).n;
+    println!(rt; "{:0n$b}", generate(name, c).reverse_bits() >> (32 - n))
 }
 
-// Puts the characters of the lowest `n` bits of `x`.
-fn put_bits(x: u32, n: usize, line: &mut [u8])
-    requires { (n < 32) × (n ≤ length line.old) }
-{
-    for b in 0..n {
-        line[b] = character(x, b);
-    }
-}
-
-fn print_check(rt: &impl Print, name: usize, c: Check) -> io::Result<()>
-    requires { (name < 5) × (c.0 < (house_code name).m) }
-{
-    let mut line = [b'\n'; 32];
-    let n = bits(name);
-    put_bits(generate(name, c), n, &mut line);
-    rt.write_all(&line[..n + 1])
-}
-
-fn print_code(rt: &impl Print, name: usize) -> io::Result<()>
-    requires { name < 5 }
-{
-    for c in 0..checks(name) {
+fn print_code(rt: &impl Print, name: Name) -> io::Result<()> {
+    for c in 0..size(name).m {
         print_check(rt, name, Check(c))?;
     }
     Ok(())
 }
 
 fn main(rt: HostRuntime) -> io::Result<()> {
-    for name in 0..5 {
+    for name in [
+        Name::Circulant,
+        Name::Hamming3,
+        Name::Hamming7,
+        Name::Hamming15,
+        Name::Hamming31,
+    ] {
         print_code(&rt, name)?;
     }
     Ok(())

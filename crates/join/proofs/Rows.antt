@@ -9,9 +9,9 @@ use native.Mathlib.Omega.{arith}
 use native.Mathlib.Decide.{ℕ_discrete, dec_lt}
 use lib.Arith.{digits_div, digits_mod, digits_lt}
 use lib.Dec.{eqb, ltb, lit<}
-use lib.ListN.{get_or, length, set, length-set}
+use lib.ListN.{get_or, length}
 use lib.Pow.{pow_pos}
-use lib.Seq.{get_or-set_same, get_or-set_other, ext_get_or}
+use lib.Seq.{ext_get_or}
 use borrow.Author.Tests.{eq-eqb, eqb-true, lt-ltb, le-ltb}
 use Rattle.parity.specs.Finite.{all, any}
 use Rattle.parity.specs.Matrix.{Matrix, bit_of, lent, word_of, pack}
@@ -25,7 +25,8 @@ use Rattle.parity.proofs.Matrix.Packing.{word_lt, word_bit, pack_length, pack_at
 use Rattle.parity.proofs.Joining.Checks.{same_bits_of, join_equal, join_new, with_checks, with_last, with_other, checks_most}
 use Rattle.rows.specs.Zeros.{Zeroed}
 use Rattle.rows.specs.Whole.{Written, word_from, RowsCopied}
-use Rattle.join.specs.Rows.{is_row, HasRows, Gathered, Added, Spread}
+use Rattle.std.specs.Prelude.{Some, None}
+use Rattle.join.specs.Rows.{is_row, HasRows, Added, Spread}
 
 -- bit j of word i of a check
 row_bit : (W : ℕ) (h : Matrix) (c i j : ℕ) → i < W → j < 64 → bit_of (word_of W h (c * W + i)) j ≡ h c (i * 64 + j)
@@ -53,10 +54,6 @@ same_words U W u h g c d =
 -- a word of a lent matrix
 lent_word_of : (W : ℕ) → 0 < W → (ws : List ℕ) → length ws ≡ 512 * W → ((i : ℕ) → get_or ws i 0 < 2 ^ 64) → (i : ℕ) → i < 512 * W → get_or ws i 0 ≡ word_of W (lent W ws) i
 lent_word_of W p ws e a i l = ap (λ (v : List ℕ). get_or v i 0) (sym (pack_lent W p ws e a)) ∙ pack_at W (lent W ws) i l
-
--- a test that nothing has passed so far
-pub none_next : (d : ℕ) (p : ℕ → Bool) → any d p ≡ false → p d ≡ false → any (d + 1) p ≡ false
-none_next d p e f = rw (add-one d) (unfold any in (rw (e, f)))
 
 -- The first checks of the first matrix, as rows.
 pub rows_first : (U W : ℕ) → 0 < W → U ≤ W → (ws after : List ℕ) (m : ℕ) → length ws ≡ 512 * W → ((i : ℕ) → get_or ws i 0 < 2 ^ 64) → m ≤ 512
@@ -116,35 +113,23 @@ module _ (ws : List ℕ) (size : length ws ≡ 4096) (machine : (i : ℕ) → ge
   same_row = earlier 8 (omega arith) ws size machine c (omega arith) before at
 
   -- it is one of the rows;
-  pub added_none : at ≤ 120 → found 8 ws c before at ≡ true → Added ws c before at before at
-  added_none l f = record {
-    added = λ j e H. rw (join_equal 128 j (lent 8 ws c) (sym (same_row j e H) ∙ f)) record {
-      number = λ q. e;
-      held = λ q. H;
-      many = λ q. absurd (omega arith);
-    };
-  }
+  pub added_none : at ≤ 120 → found 8 ws c before at ≡ true → Added ws c before at before (Some at)
+  added_none l f = record { added = λ j e H. rw (join_equal 128 j (lent 8 ws c) (sym (same_row j e H) ∙ f)) record { few = l; number = e; held = H } }
 
   -- it is none of them, and there is no room for it;
-  pub added_full : at ≡ 120 → found 8 ws c before at ≡ false → Added ws c before at before 121
-  added_full l f = record {
-    added = λ j e H. rw (join_new 128 j (lent 8 ws c) (sym (same_row j e H) ∙ f)) record {
-      number = λ q. absurd (omega arith);
-      held = λ q. absurd (omega arith);
-      many = λ q. rw (with_checks j (lent 8 ws c)) (omega arith);
-    };
-  }
+  pub added_full : at ≡ 120 → found 8 ws c before at ≡ false → Added ws c before at before None
+  added_full l f = record { added = λ j e H. rw (join_new 128 j (lent 8 ws c) (sym (same_row j e H) ∙ f), with_checks j (lent 8 ws c)) (omega arith) }
 
   -- or it is put behind them.
-  pub added_one : at < 120 → found 8 ws c before at ≡ false → (after : List ℕ) → Written before after (at * 2) (word_from ws (c * 8)) 2 → Added ws c before at after (at + 1)
+  pub added_one : at < 120 → found 8 ws c before at ≡ false → (after : List ℕ) → Written before after (at * 2) (word_from ws (c * 8)) 2 → Added ws c before at after (Some (at + 1))
   added_one l f after C = record {
     added = λ j e H.
         let s : ℕ → Bool = lent 8 ws c in
         let number : at + 1 ≡ (with_check j s).checks = rw (with_checks j s) (omega arith) in
         rw (join_new 128 j s (sym (same_row j e H) ∙ f)) record {
-          number = λ q. number;
-          held = λ q. rows_next 8 (omega arith) ws size machine c (omega arith) before at j e H after C;
-          many = λ q. absurd (omega arith);
+          few = omega arith;
+          number = number;
+          held = rows_next 8 (omega arith) ws size machine c (omega arith) before at j e H after C;
         };
   }
 
@@ -153,19 +138,11 @@ pub joined_next : (n : ℕ) (h : Matrix) (m : ℕ) (g : Matrix) (c : ℕ) → jo
 unfolding joined
 joined_next n h m g c = rw (add-one c)
 
--- the rows where all checks have room, and where one has none
-pub gathered_few : (j : Joined) (rows : List ℕ) (r : ℕ) → r ≤ 120 → r ≡ j.checks → HasRows 2 8 j.matrix r rows → Gathered j rows r
-gathered_few j rows r l e H = record { number = λ q. e; held = λ q. H; many = λ q. absurd (omega arith) }
-
-pub gathered_many : (h : Matrix) (m : ℕ) (g : Matrix) (c M : ℕ) → c < M → (rows : List ℕ) (r : ℕ) → 120 < r
-    → Gathered (join_check 128 (joined 128 h m g c) (g c)) rows r → Gathered (joined 128 h m g M) rows r
-gathered_many h m g c M k rows r l G =
-    let n : 120 < (joined 128 h m g (c + 1)).checks = rw (joined_next 128 h m g c) (G.many l) in
-    record {
-      number = λ q. absurd (omega arith);
-      held = λ q. absurd (omega arith);
-      many = λ q. omega (arith, checks_most 128 h m g (c + 1) M (omega arith));
-    }
+-- where a check of the second has no room
+pub gathered_many : (h : Matrix) (m : ℕ) (g : Matrix) (c M : ℕ) → c < M → 120 < (join_check 128 (joined 128 h m g c) (g c)).checks → 120 < (joined 128 h m g M).checks
+gathered_many h m g c M k G =
+    let n : 120 < (joined 128 h m g (c + 1)).checks = rw (joined_next 128 h m g c) G in
+    omega (arith, checks_most 128 h m g (c + 1) M (omega arith))
 
 -- words that are all 0
 pub spread_none : (U W : ℕ) (rows words : List ℕ) → Zeroed words (512 * W) → Spread U W rows 0 words

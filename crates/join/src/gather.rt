@@ -5,18 +5,14 @@ ghost use Rattle.parity.specs.Matrix.{lent};
 ghost use Rattle.parity.specs.Joining.{joined};
 ghost use Rattle.join.specs.Rows.{is_row, Added, Gathered, Spread};
 
-use rows::clear;
-use rows::whole::{copy_rows, copy_words};
+use rows::whole::copy_rows;
 
 // Whether row `d` has the words `x` and `y`.
 fn is_row(rows: &[u64], d: usize, x: u64, y: u64) -> bool
     requires { d * 2 + 2 ≤ length rows.now }
     ensures { result ≡ is_row rows.now x y d }
 {
-    if rows[d * 2] != x {
-        return false;
-    }
-    rows[d * 2 + 1] == y
+    rows[d * 2] == x && rows[d * 2 + 1] == y
 }
 
 // Whether one of the first `checks` rows has the words `x` and `y`.
@@ -24,43 +20,43 @@ fn is_there(rows: &[u64], checks: usize, x: u64, y: u64) -> bool
     requires { checks * 2 ≤ length rows.now }
     ensures { result ≡ any checks (is_row rows.now x y) }
 {
-    for d in 0..checks {
-        if is_row(rows, d, x, y) {
-            return true;
-        }
-    }
-    false
+    (0..checks).any(|d| is_row(rows, d, x, y))
 }
 
-// Check `c` becomes row `at`, unless it is one of the rows before. The number of rows then, and 121 if there is no room for it.
-fn add(words: &[u64], c: usize, rows: &mut [u64], at: usize) -> usize
+// Check `c` becomes row `at`, unless it is one of the rows before. The number of rows then, if there is room for it.
+fn add(words: &[u64], c: usize, rows: &mut [u64], at: usize) -> Option<usize>
     requires { (length words.now ≡ 4096) × (c < 120) × (length rows.old ≡ 240) × (at ≤ 120) }
     ensures { Added words.now c rows.old at rows.new result }
 {
     if is_there(rows, at, words[c * 8], words[c * 8 + 1]) {
-        return at;
+        return Some(at);
     }
     if at == 120 {
-        return 121;
+        return None;
     }
-    copy_words(words, c * 8, rows, at * 2, 2);
-    at + 1
+    let from = c * 8;
+    let to = at * 2;
+    rows[to..to + 2].copy_from_slice(&words[from..from + 2]);
+    Some(at + 1)
 }
 
-// The first's checks become rows, and then those of the second that are none of the rows before. The number of rows, and 121 if there is no room.
-pub fn gather(words1: &[u64], m1: usize, words2: &[u64], m2: usize, rows: &mut [u64]) -> usize
+// The first's checks become rows, and then those of the second that are none of the rows before. The number of rows, if there is room for all.
+pub fn gather(
+    words1: &[u64],
+    m1: usize,
+    words2: &[u64],
+    m2: usize,
+    rows: &mut [u64],
+) -> Option<usize>
     requires { (length words1.now ≡ 4096) × (m1 ≤ 120) × (length words2.now ≡ 4096) × (m2 ≤ 120) × (length rows.old ≡ 240) }
     ensures { Gathered (joined 128 (lent 8 words1.now) m1 (lent 8 words2.now) m2) rows.new result }
 {
     copy_rows(words1, 8, 2, m1, rows);
     let mut at = m1;
     for c in 0..m2 {
-        at = add(words2, c, rows, at);
-        if 120 < at {
-            return at;
-        }
+        at = add(words2, c, rows, at)?;
     }
-    at
+    Some(at)
 }
 
 // The first `checks` rows become the checks of the matrix, and all its other words 0.
@@ -68,8 +64,10 @@ pub fn write(rows: &[u64], checks: usize, words: &mut [u64])
     requires { (length rows.now ≡ 240) × (checks ≤ 120) × (length words.old ≡ 4096) }
     ensures { Spread 2 8 rows.now checks words.new }
 {
-    clear(words, 4096);
+    words.fill(0);
     for c in 0..checks {
-        copy_words(rows, c * 2, words, c * 8, 2);
+        let from = c * 2;
+        let to = c * 8;
+        words[to..to + 2].copy_from_slice(&rows[from..from + 2]);
     }
 }

@@ -7,14 +7,25 @@ use native.Mathlib.Numerals.{add-one}
 use native.Mathlib.Omega.{arith}
 use native.Mathlib.Decide.{ℕ_discrete}
 use lib.Dec.{leb}
-use lib.ListN.{get_or}
+use lib.ListN.{get_or, get_or-map}
 use borrow.Author.Tests.{eq-eqb, ne_eqb, le-leb, lt-leb}
 use Rattle.parity.specs.Finite.{any}
 use Rattle.parity.specs.Matrix.{Matrix}
 use Rattle.parity.specs.Words.{inside, odd}
 use Rattle.parity.proofs.Finite.Firsts.{any_none}
 use Rattle.rows.proofs.Writing.{combined_at, combined_else}
-use Rattle.lanes.specs.Lanes.{lane, either, Solved, solved_by, ran, Ran, uneven, Checked, Tested, SumOf, Low}
+use Rattle.lanes.specs.declared.Step.{Step}
+use Rattle.lanes.specs.Lanes.{lane, either, Solved, solved_by, ran, Ran, uneven, Checked, Tested, SumOf, Low, checks_of, bits_of}
+
+-- a step's numbers among those of all
+abbrev pub no_step : Step
+no_step = record { check = 0; bit = 0 }
+
+pub check_at : (steps : List Step) (i : ℕ) → get_or (checks_of steps) i 0 ≡ (get_or steps i no_step).check
+check_at steps i = get_or-map (λ (s : Step). s.check) steps i no_step
+
+pub bit_at : (steps : List Step) (i : ℕ) → get_or (bits_of steps) i 0 ≡ (get_or steps i no_step).bit
+bit_at steps i = get_or-map (λ (s : Step). s.bit) steps i no_step
 
 pub ran_none : (h : Matrix) (B : ℕ) (cs bs : List ℕ) (x : Matrix) → Ran h B cs bs 0 x x
 unfolding ran

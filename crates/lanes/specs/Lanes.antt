@@ -1,10 +1,11 @@
 -- Rows of lanes: bit j of row b is bit b of lane j. Steps that are taken in all lanes at once, in the checks of a matrix h of B bits. Assumes nothing.
-use Rattle.std.specs.Prelude.{◌≡◌, Bool, false, not, ◌&&◌, ◌||◌, List, ℕ, zero, suc, ◌+◌, ◌*◌, ◌≤◌, ◌<◌, eqb, leb, get_or, length}
+use Rattle.std.specs.Prelude.{◌≡◌, Bool, false, not, ◌&&◌, ◌||◌, List, ℕ, zero, suc, ◌+◌, ◌*◌, ◌≤◌, ◌<◌, eqb, leb, get_or, length, map}
 use Rattle.std.specs.Bool.{xor}
 use Rattle.parity.specs.Finite.{count, any}
 use Rattle.parity.specs.Matrix.{Matrix, bit_of}
 use Rattle.parity.specs.Words.{inside, odd}
 use Rattle.rows.specs.Whole.{combined}
+use Rattle.lanes.specs.declared.Step.{Step}
 
 -- lane j of the rows x, as the set of its ones
 abbrev pub lane : Matrix → ℕ → ℕ → Bool
@@ -43,6 +44,13 @@ solved_by h B c b o a = o a || (eqb a b && odd (inside h B c o))
 unfoldable pub ran : Matrix → ℕ → List ℕ → List ℕ → ℕ → (ℕ → Bool) → ℕ → Bool
 ran h B cs bs zero o = o
 ran h B cs bs (suc s) o = solved_by h B (get_or cs s 0) (get_or bs s 0) (ran h B cs bs s o)
+
+-- the checks of steps, and their bits
+abbrev pub checks_of : List Step → List ℕ
+checks_of steps = map (λ s. s.check) steps
+
+abbrev pub bits_of : List Step → List ℕ
+bits_of steps = map (λ s. s.bit) steps
 
 -- the same in every lane
 pub record Ran (h : Matrix) (B : ℕ) (cs bs : List ℕ) (s : ℕ) (x x' : Matrix) : Type 0 where

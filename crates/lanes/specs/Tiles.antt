@@ -2,9 +2,10 @@
 -- lane i - 64 from of the tile. Assumes nothing.
 use Rattle.std.specs.Prelude.{◌≡◌, Bool, false, not, cond, ◌&&◌, ℕ, ◌+◌, ◌*◌, ◌≤◌, ◌<◌, List, get_or, length}
 use Rattle.parity.specs.Matrix.{Matrix, lent}
-use Rattle.lanes.specs.Lanes.{Lists, lists_of, mending, contradicted, Low}
+use Rattle.lanes.specs.Lanes.{Lists, lists_of, mending, contradicted, Low, checks_of, bits_of}
 use Rattle.lanes.specs.declared.Plan.{Plan}
 use Rattle.lanes.specs.declared.Part.{Part}
+use Rattle.lanes.specs.declared.Step.{Step}
 
 -- the ones of lane i of the packets x that arrived, those that are not lost
 unfoldable pub arrived : Matrix → (ℕ → Bool) → ℕ → ℕ → Bool
@@ -100,28 +101,23 @@ pub record TileMended (h k : Matrix) (B M : ℕ) (p : Lists) (lost left : ℕ �
   pub behind : (b i : ℕ) → (from + count) * 64 ≤ i → x' b i ≡ x b i
   pub flagged : (i : ℕ) → i < from * 64 → y' i ≡ y i
 
--- the lists of a plan, from its numbers and the machine's lists
-abbrev pub plan_lists : Plan → (ℕ → Bool) → List ℕ → List ℕ → List ℕ → List ℕ → Lists
-plan_lists p skip cs bs ds ps = lists_of cs bs p.steps skip p.first p.end ds ps p.more
+-- the lists of a plan, from its numbers, and its steps by checks and by rows
+abbrev pub plan_lists : Plan → (ℕ → Bool) → List Step → List Step → Lists
+plan_lists p skip steps more = lists_of (checks_of steps) (bits_of steps) (length steps) skip p.first p.end (checks_of more) (bits_of more) (length more)
 
--- the lists that a plan names have room for it: cs and bs the checks and the bits of its steps, rs the reduced rows, ds and ps the rows and the pivots of
--- the steps by them
-pub record Fitting (p : Plan) (ws ss cs bs rs ds ps : List ℕ) : Type 0 where
+-- the lists that a plan names have room for it: rs the reduced rows
+pub record Fitting (p : Plan) (ws ss rs : List ℕ) : Type 0 where
   pub words : length ws ≡ 4096
   pub used : p.used ≤ 8
   pub checks : p.checks ≤ 512
   pub skip : length ss ≡ 8
-  pub step_checks : p.steps ≤ length cs
-  pub step_bits : p.steps ≤ length bs
   pub rows : p.end * p.used ≤ length rs
   pub end : p.end ≤ 512
-  pub step_rows : p.more ≤ length ds
-  pub step_pivots : p.more ≤ length ps
 
 -- A plan that can be carried out: its lists fit, and are ready for its bits, which its words have room for.
-pub record Carried (p : Plan) (ws ss cs bs rs ds ps : List ℕ) : Type 0 where
-  pub fits : Fitting p ws ss cs bs rs ds ps
-  pub ready : Ready p.bits p.checks (plan_lists p (lent 8 ss 0) cs bs ds ps)
+pub record Carried (p : Plan) (ws ss : List ℕ) (steps : List Step) (rs : List ℕ) (more : List Step) : Type 0 where
+  pub fits : Fitting p ws ss rs
+  pub ready : Ready p.bits p.checks (plan_lists p (lent 8 ss 0) steps more)
   pub bits : p.bits ≤ p.used * 64
 
 -- the packets xs, with a word of ys for each of their words, and the sets es of the lost and ls of the left ones, for tiles of T words

@@ -6,22 +6,27 @@ pub mod run;
 pub mod sums;
 pub mod tiles;
 
-// The numbers of a plan, for `bits` bits, in `used` words, and `checks` checks: `steps` steps by checks, tests of the checks that are not skipped and of the rows from `first`
-// up to `end`, and then `more` steps by rows. It is carried out in tiles of `lanes` words of every packet.
-#[derive(Clone, Copy)]
+// A step of a plan: bit `bit` is solved by check `check`, or by that row of the reduced ones.
+#[derive(Clone, Copy, Debug, PartialEq, Eq)]
+pub struct Step {
+    pub check: u16,
+    pub bit: u16,
+}
+
+// The numbers of a plan, for `bits` bits, in `used` words, and `checks` checks: after its steps by checks, the checks that are not skipped and the rows from `first` up to `end` are
+// tested, and then come its steps by rows. It is carried out in tiles of `lanes` words of every packet.
+#[derive(Clone, Copy, Debug, PartialEq, Eq)]
 pub struct Plan {
     pub used: usize,
     pub bits: usize,
     pub checks: usize,
-    pub steps: usize,
     pub first: usize,
     pub end: usize,
-    pub more: usize,
     pub lanes: usize,
 }
 
 // Where a tile stands in packets of `len` words: it has their `count` words from `from` on, in rows of `lanes` words.
-#[derive(Clone, Copy)]
+#[derive(Clone, Copy, Debug, PartialEq, Eq)]
 pub struct Part {
     pub len: usize,
     pub from: usize,

@@ -1,18 +1,11 @@
 // The steps of a plan, in all lanes of a tile at once.
 ghost use Rattle.std.specs.Prelude.{◌≡◌, ◌+◌, ◌*◌, ◌≤◌, ◌<◌, length};
 ghost use Rattle.parity.specs.Matrix.{lent};
-ghost use Rattle.lanes.specs.Lanes.{Meets, either, Solved, Ran, Checked, Tested, Low};
+ghost use Rattle.lanes.specs.Lanes.{Meets, either, Solved, Ran, Checked, Tested, Low, checks_of, bits_of};
 
-use crate::Plan;
 use crate::sums::sum_of;
+use crate::{Plan, Step};
 use rows::contains;
-
-// A number of a check or of a bit, from a list.
-pub fn place(x: u16) -> usize
-    ensures { result ≡ x }
-{
-    x as usize
-}
 
 // The bits of a row enter row `c`.
 fn put_row(rows: &mut [u64], width: usize, c: usize, row: &[u64])
@@ -106,31 +99,15 @@ fn test(
     test_lanes(rows, width, used, c, tile, lanes, flags);
 }
 
-// Step by step, bit `bits[i]` is solved by check `checks[i]`, of `count` in rows of `width` words.
-pub fn solve_in(
-    rows: &[u64],
-    width: usize,
-    count: usize,
-    checks: &[u16],
-    bits: &[u16],
-    steps: usize,
-    p: Plan,
-    tile: &mut [u64],
-)
-    requires width_in_bounds { (count * width ≤ length rows.now) × (p.used ≤ width) × (width ≤ 8) × (p.used * 64 * p.lanes ≤ length tile.old) × (p.lanes ≤ 16) × (steps ≤ length checks.now) × (steps ≤ length bits.now) }
-    requires low { Low steps count checks.now × Low steps (p.used * 64) bits.now }
-    ensures { Ran (lent width rows.now) (p.used * 64) checks.now bits.now steps (lent p.lanes tile.old) (lent p.lanes tile.new) }
+// Step by step, a bit is solved by a check, of `count` in rows of `width` words.
+pub fn solve_in(rows: &[u64], width: usize, count: usize, steps: &[Step], p: Plan, tile: &mut [u64])
+    requires width_in_bounds { (count * width ≤ length rows.now) × (p.used ≤ width) × (width ≤ 8) × (p.used * 64 * p.lanes ≤ length tile.old) × (p.lanes ≤ 16) }
+    requires low { Low (length steps.now) count (checks_of steps.now) × Low (length steps.now) (p.used * 64) (bits_of steps.now) }
+    ensures { Ran (lent width rows.now) (p.used * 64) (checks_of steps.now) (bits_of steps.now) (length steps.now) (lent p.lanes tile.old) (lent p.lanes tile.new) }
 {
-    for s in 0..steps {
-        solve(
-            rows,
-            width,
-            p.used,
-            place(checks[s]),
-            tile,
-            p.lanes,
-            place(bits[s]),
-        );
+    for step in steps {
+        let (c, b) = (step.check as usize, step.bit as usize);
+        solve(rows, width, p.used, c, tile, p.lanes, b);
     }
 }
 

@@ -4,7 +4,6 @@ ghost use Rattle.parity.specs.Matrix.{lent};
 ghost use Rattle.lanes.specs.Lanes.{Meets, WordAdded, SumOf};
 
 use rows::whole::add_row;
-use rows::wide;
 
 // The rows of the tile at the ones of `x`, word `i` of a check, are added to `acc`.
 fn add_word(acc: &mut [u64], tile: &[u64], lanes: usize, i: usize, x: u64)
@@ -13,7 +12,7 @@ fn add_word(acc: &mut [u64], tile: &[u64], lanes: usize, i: usize, x: u64)
 {
     let mut rest = x;
     while rest != 0 {
-        let t = wide(u64::trailing_zeros(rest));
+        let t = rest.trailing_zeros() as usize;
         add_row(acc, lanes, 0, tile, i * 64 + t);
         rest = rest & (rest - 1);
     }

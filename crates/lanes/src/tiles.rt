@@ -5,7 +5,6 @@ ghost use Rattle.rows.specs.Whole.{word_from, Written};
 ghost use Rattle.lanes.specs.Tiles.{RowFits, TileFits, Eight, Taken, Blanked, Loaded, no_flag, Returned, Unflagged, Stored, Flagged};
 
 use crate::Part;
-use rows::whole::copy_words;
 use rows::{contains, touches};
 
 // The eight words of a list from `first` on.
@@ -14,11 +13,11 @@ fn eight_of(words: &[u64], first: usize) -> [u64; 8]
     ensures { Eight words.now first result }
 {
     let mut eight = [0u64; 8];
-    copy_words(words, first, &mut eight, 0, 8);
+    eight.copy_from_slice(&words[first..first + 8]);
     eight
 }
 
-// `copy_words` by eight words. All eight are read before the first is written: the compiler, which does not know that the tile is none of the packets, then moves several at once.
+// Words from place `a` on are copied to place `b`, by eight words. All eight are read before the first is written: the compiler, which does not know that the tile is none of the packets, then moves several at once.
 fn copy_eights(from: &[u64], a: usize, to: &mut [u64], b: usize, count: usize)
     requires { (a + count ≤ length from.now) × (b + count ≤ length to.old) }
     ensures { Written to.old to.new b (word_from from.now a) count }
@@ -26,10 +25,10 @@ fn copy_eights(from: &[u64], a: usize, to: &mut [u64], b: usize, count: usize)
     let mut done: usize = 0;
     while 8 <= count - done {
         let eight = eight_of(from, a + done);
-        copy_words(&eight, 0, to, b + done, 8);
+        to[b + done..b + done + 8].copy_from_slice(&eight);
         done += 8;
     }
-    copy_words(from, a + done, to, b + done, count - done);
+    to[b + done..b + count].copy_from_slice(&from[a + done..a + count]);
 }
 
 // The words of packet `b` become the first of row `b`.
@@ -46,9 +45,7 @@ fn blank_row(b: usize, tile: &mut [u64], lanes: usize)
     ensures { Blanked b (lent lanes tile.old) (lent lanes tile.new) }
 {
     let row = b * lanes;
-    for i in 0..lanes {
-        tile[row + i] = 0;
-    }
+    tile[row..row + lanes].fill(0);
 }
 
 // The same: where the number of words is known beforehand, they are written here, and by no other function.
@@ -138,5 +135,5 @@ pub fn put_flags(odd: &mut [u64], t: Part, flags: &[u64])
     requires { (t.from + t.count ≤ length odd.old) × (t.count ≤ t.lanes) × (t.lanes ≤ length flags.now) }
     ensures { Flagged t.from t.count (lent t.lanes flags.now 0) (lent (length odd.old) odd.old 0) (lent (length odd.old) odd.new 0) }
 {
-    copy_words(flags, 0, odd, t.from, t.count);
+    odd[t.from..t.from + t.count].copy_from_slice(&flags[..t.count]);
 }

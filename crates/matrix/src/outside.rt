@@ -34,7 +34,7 @@ fn or_row(all: &mut [u64], rows: &[u64], width: usize, c: usize)
     ensures { RowIn width width rows.now c all.old all.new }
 {
     for p in 0..width {
-        all[p] = all[p] | rows[c * width + p];
+        all[p] |= rows[c * width + p];
     }
 }
 

@@ -1,11 +1,11 @@
 // Rule A on the words, by columns of the given checks and a table of the pairs of lower bits.
-ghost use Rattle.std.specs.Prelude.{◌≡◌, true, ◌&&◌, ◌+◌, ◌*◌, ◌-◌, ◌≤◌, ◌<◌, leb, length, replicate};
+ghost use Rattle.std.specs.Prelude.{◌≡◌, true, ◌&&◌, ◌+◌, ◌*◌, ◌-◌, ◌≤◌, ◌<◌, leb, length};
 ghost use Rattle.parity.specs.Matrix.{lent, clean, rule_a};
 ghost use Rattle.columns.specs.Columns.{Columns};
 ghost use Rattle.matrix.specs.Three.{Three, row_of, place_of, paired, PairIn, Passing, Fresh, Judged};
 
+use columns::fill;
 use columns::three::apart;
-use columns::{fill, no_columns};
 use parity::{Bit, Check};
 use rows::bits::has;
 use rows::ones::{next_one, weight};
@@ -16,11 +16,7 @@ fn row_of(width: usize, b: usize) -> usize
     requires { (width ≤ 8) × (b < 64 * width) }
     ensures { (result ≡ row_of width b) × (result ≤ 32 * width) }
 {
-    let half = 32 * width;
-    if b < half {
-        return half - b;
-    }
-    b - half
+    b.abs_diff(32 * width)
 }
 
 // The place of bit `a` in the row of bit `b`.
@@ -29,9 +25,10 @@ fn place_of(width: usize, a: usize, b: usize) -> usize
     ensures { (result ≡ place_of width a b) × (result < width * 64) }
 {
     if b < 32 * width {
-        return 64 * width - 1 - a;
+        64 * width - 1 - a
+    } else {
+        a
     }
-    a
 }
 
 // Whether the table has the pair of bits `a` and `b`, of which `a` is the lower one.
@@ -55,10 +52,7 @@ fn in_own(words: &[u64], n: usize, m: usize, x: usize, y: usize) -> bool
     requires { (length words.now ≡ 4096) × (x < 512) × (m + (y - n) < 512) }
     ensures { result ≡ (leb n y && lent 8 words.now (m + (y - n)) x) }
 {
-    if y < n {
-        return false;
-    }
-    has(words, Check(m + (y - n)), Bit(x))
+    n <= y && has(words, Check(m + (y - n)), Bit(x))
 }
 
 // Whether no added check before `j` contains the lower bits `x` and `y` of check `j`: not as its own bit and a lower one, nor as its lower ones. Then they
@@ -77,10 +71,7 @@ fn fresh(
     requires three { Three (lent 8 words.now) (m + j) x y (n + j) × Passing width (lent 8 words.now) n m j pairs.old }
     ensures { Fresh width (lent 8 words.now) n m j x y pairs.new result }
 {
-    if in_own(words, n, m, x, y) {
-        return false;
-    }
-    if has_pair(pairs, width, x, y) {
+    if in_own(words, n, m, x, y) || has_pair(pairs, width, x, y) {
         return false;
     }
     put_pair(pairs, width, x, y);
@@ -144,20 +135,6 @@ fn all_rules(
     true
 }
 
-// An empty table of pairs of the first 256 bits.
-fn no_first_pairs() -> [u64; 516]
-    ensures { result ≡ replicate 516 0 }
-{
-    [0u64; 516]
-}
-
-// An empty table of pairs.
-fn no_pairs() -> [u64; 2056]
-    ensures { result ≡ replicate 2056 0 }
-{
-    [0u64; 2056]
-}
-
 // Rule A, for words with no one outside; columns are made only where there is an added check, and a table as large as the bits need.
 pub fn rule_a(words: &[u64], n: usize, m: usize, k: usize) -> bool
     requires { (length words.now ≡ 4096) × (n + k ≤ 512) × (m + k ≤ 512) × (m ≤ 120) × (clean 8 (n + k) (m + k) 0 words.now ≡ true) }
@@ -166,12 +143,12 @@ pub fn rule_a(words: &[u64], n: usize, m: usize, k: usize) -> bool
     if k == 0 {
         return true;
     }
-    let mut cols = no_columns();
+    let mut cols = [0u64; 1024];
     fill(words, &mut cols, 2, m);
     if n + k <= 256 {
-        let mut pairs = no_first_pairs();
+        let mut pairs = [0u64; 516];
         return all_rules(words, &cols, &mut pairs, 4, n, m, k);
     }
-    let mut pairs = no_pairs();
+    let mut pairs = [0u64; 2056];
     all_rules(words, &cols, &mut pairs, 8, n, m, k)
 }

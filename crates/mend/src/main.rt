@@ -1,17 +1,10 @@
 // Mends a word: reads a record and a word from standard input, and writes the report or the refusal to standard output.
 #![tactic(auto)]
 
-ghost use Rattle.std.specs.Prelude.{◌≡◌, ◌≤◌, length, IfOk};
+ghost use Rattle.std.specs.Prelude.{◌≤◌, length, IfOk};
 
 use std::io;
 use std::io::Read;
-
-// Room for the longest input that is not refused, and one byte more, to know that more came.
-fn input_room() -> [u8; 65537]
-    ensures { 65537 ≡ length result }
-{
-    [0u8; 65537]
-}
 
 // Reads until `room` is full or the input ends, and answers how many bytes came.
 fn read_full(input: &mut impl Read, room: &mut [u8]) -> io::Result<usize>
@@ -29,7 +22,8 @@ fn read_full(input: &mut impl Read, room: &mut [u8]) -> io::Result<usize>
 }
 
 fn main(rt: HostRuntime) -> io::Result<()> {
-    let mut input = input_room();
+    // room for the longest input that is not refused, and one byte more, to know that more came
+    let mut input = [0u8; 65537];
     let read = read_full(&mut rt.stdin(), &mut input)?;
     let mut output = receiver::no_text();
     let size = receiver::put_text(&mut output, &input[..read]);

@@ -5,7 +5,7 @@ use mathlib.Core.List.{List, []}
 use Prim.Native.Nat.{ℕ, ◌-◌, ◌≤◌, ◌<◌}
 use native.Mathlib.Omega.{arith}
 use lib.ListN.{get_or, length, take, replicate, get_or-replicate}
-use lib.Seq.{get_or-take}
+use lib.Seq.{get_or-take, length-take-le}
 use borrow.Author.Tests.{eq-eqb, ne_eqb, lt-ltb}
 use Rattle.parity.specs.Finite.{one, count, list_from}
 use Rattle.parity.specs.Matrix.{Matrix}
@@ -37,6 +37,35 @@ module _ (h g : Matrix) (n m r : ℕ) (at : List ℕ) (E : Echelon h g n m n r a
 
   pub rising : Rising n r at
   rising = record { low = R.low; rise = R.rise }
+
+  -- the list may be cut behind the pivots
+  pub front_length : m ≤ length at → length (take r at) ≡ r
+  front_length k = length-take-le r at (omega (arith, R.few))
+
+  at_front : (c : ℕ) → c < r → get_or (take r at) c 0 ≡ get_or at c 0
+  at_front c k = get_or-take r at c 0 k
+
+  pub front : Echelon h g n m n r (take r at)
+  front = record {
+    same = E.same;
+    own = λ c k. rw (at_front c k) (E.own c k);
+    first = λ c j k l. E.first c j k (rw (at_front c k) at l);
+    whole = E.whole;
+    reduction = record {
+      same = E.reduction.same;
+      form = record {
+        few = R.few;
+        low = λ c k. rw (at_front c k) (R.low c k);
+        among = λ c k. refl;
+        rise = λ c d k l. rw (at_front c (omega arith), at_front d l) (R.rise c d k l);
+        own = λ c k. rw (at_front c k) (R.own c k);
+        alone = λ c d k l z. rw (at_front c k) (R.alone c d k l z);
+        first = λ c j k l e. R.first c j k (rw (at_front c k) at l) e;
+        rest = R.rest;
+      };
+    };
+    rest = E.rest;
+  }
 
   module _ (message w : List ℕ) (W : w ≡ list_from 0 n (placed r at (byte_of message))) where
     word_at : (b : ℕ) → b < n → byte_of w b ≡ placed r at (byte_of message) b

@@ -4,20 +4,13 @@
 pub mod message;
 
 ghost use Rattle.std.specs.Prelude.{◌≡◌, ◌≤◌, length, replicate};
+ghost use Rattle.parity.specs.Causes.{result_reply, no_values};
 ghost use Rattle.parity.specs.MessageBits.{message_bits_outcome};
-ghost use Rattle.message_bits.specs.Answers.{marking_reply, marks};
+ghost use Rattle.message_bits.specs.Answers.{marks};
 
 use crate::message::place;
-use matrix::Accepting;
 use parity::Refusal;
 use rank::eliminate;
-
-// What the call that marks the message's bits answers.
-#[derive(Clone, Copy)]
-pub enum Marking {
-    Made,
-    Refused(Refusal),
-}
 
 // The longest message, all ones.
 fn all_ones() -> [u8; 120]
@@ -36,26 +29,27 @@ fn mark(words: &[u64], m: usize, set: &mut [u8])
     let n = set.len();
     let r = eliminate(words, n, m, &mut rows, &mut pivots);
     let message = all_ones();
-    place(&pivots, r, &message[..n - r], set);
+    place(&pivots[..r], &message[..n - r], set);
 }
 
 // Marks the bits that hold a message with 1, and the parity bits with 0.
-pub fn message_bits(words: &[u64], n: usize, m: usize, k: usize, set: &mut [u8]) -> Marking
-    ensures result_value { marking_reply result ≡ (message_bits_outcome words.now n m k set.old).reply }
+pub fn message_bits(
+    words: &[u64],
+    n: usize,
+    m: usize,
+    k: usize,
+    set: &mut [u8],
+) -> Result<(), Refusal>
+    ensures result_value { result_reply no_values result ≡ (message_bits_outcome words.now n m k set.old).reply }
     ensures set_after { set.new ≡ (message_bits_outcome words.now n m k set.old).after }
 {
-    let accepted = matrix::accept(words, n, m, k);
-    match accepted {
-        Accepting::Refused(r) => Marking::Refused(r),
-        Accepting::Accepted => {
-            if k != 0 {
-                return Marking::Refused(Refusal::AddedBits);
-            }
-            if set.len() != n {
-                return Marking::Refused(Refusal::WrongLength);
-            }
-            mark(words, m, set);
-            Marking::Made
-        }
+    matrix::accept(words, n, m, k)?;
+    if k != 0 {
+        return Err(Refusal::AddedBits);
     }
+    if set.len() != n {
+        return Err(Refusal::WrongLength);
+    }
+    mark(words, m, set);
+    Ok(())
 }

@@ -5,22 +5,21 @@ ghost use Rattle.parity.specs.Calls.{byte_of};
 ghost use Rattle.message_bits.specs.Placing.{Rising, placed};
 
 // Whether bit `b` is the pivot that stands at `p`.
-fn is_next(pivots: &[usize], r: usize, p: usize, b: usize) -> bool
-    requires { r ≤ length pivots.now }
-    ensures { result ≡ (ltb p r && eqb (get_or pivots.now p 0) b) }
+fn is_next(pivots: &[usize], p: usize, b: usize) -> bool
+    ensures { result ≡ (ltb p (length pivots.now) && eqb (get_or pivots.now p 0) b) }
 {
-    if p < r { pivots[p] == b } else { false }
+    pivots.get(p) == Some(&b)
 }
 
 // The message at the bits that are no pivots, rising, and 0 at the pivots.
-pub fn place(pivots: &[usize], r: usize, message: &[u8], word: &mut [u8])
-    requires { (r ≤ length pivots.now) × (length message.now + r ≡ length word.old) × Rising (length word.old) r pivots.now }
-    ensures { word.new ≡ list_from 0 (length word.old) (placed r pivots.now (byte_of message.now)) }
+pub fn place(pivots: &[usize], message: &[u8], word: &mut [u8])
+    requires { (length message.now + length pivots.now ≡ length word.old) × Rising (length word.old) (length pivots.now) pivots.now }
+    ensures { word.new ≡ list_from 0 (length word.old) (placed (length pivots.now) pivots.now (byte_of message.now)) }
 {
     let mut p: usize = 0;
     let mut q: usize = 0;
     for b in 0..word.len() {
-        if is_next(pivots, r, p, b) {
+        if is_next(pivots, p, b) {
             word[b] = 0;
             p += 1;
         } else {

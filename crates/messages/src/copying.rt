@@ -4,14 +4,12 @@ ghost use Rattle.std.specs.Int.Count.{count_trailing_zeros};
 ghost use Rattle.parity.specs.Soft.{message_at};
 ghost use Rattle.messages.specs.Memory.{Written};
 
-use rows::wide;
-
 // The number of the lowest one of `rest`, which is what is left of word `i` of a row.
 pub fn lowest(i: usize, rest: u64) -> usize
     requires { i < 8 }
     ensures { result ≡ i * 64 + count_trailing_zeros 64 rest }
 {
-    i * 64 + wide(u64::trailing_zeros(rest))
+    i * 64 + rest.trailing_zeros() as usize
 }
 
 // Message `i` is copied to place `j`.

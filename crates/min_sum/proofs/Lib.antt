@@ -1,4 +1,5 @@
 pub mod Course
 pub mod Fitting
-pub mod Cleared
+pub mod Judged
+pub mod Told
 pub mod Outcome

@@ -16,7 +16,7 @@ use Rattle.parity.specs.Soft.{message_at, result_after}
 use Rattle.parity.specs.SoftCall.{soft_reply, min_sum_reply, min_sum_outcome}
 use Rattle.parity.proofs.Soft.Cong.{result_same}
 use Rattle.min_sum.specs.Answers.{Results}
-use Rattle.min_sum.proofs.Cleared.{held_word, held_floats}
+use Rattle.min_sum.proofs.Told.{held_word, held_floats}
 
 module _ (ws : List ℕ) (n m k rounds : ℕ) (word : List ℕ) (floats : List Float) (tags : List ℕ) (values : List Float) where
   pub reply_after : accepting ws n m k (soft_reply (n + k) rounds word floats tags values) ≡ min_sum_reply ws n m k rounds word floats tags values

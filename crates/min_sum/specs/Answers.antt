@@ -1,15 +1,8 @@
--- What the call on soft bits answers, as document 02's number and values, and what the rounds leave. Assumes nothing.
-use Rattle.std.specs.Prelude.{ℕ, ◌≡◌, List, [], replicate, Float}
-use Rattle.parity.specs.Causes.{Reply, answer, refusal_of}
+-- What the rounds leave. Assumes nothing.
+use Rattle.std.specs.Prelude.{ℕ, ◌≡◌, List, replicate, Float}
 use Rattle.parity.specs.Floats.{positive_zero}
 use Rattle.parity.specs.declared.Channel.{Channel}
 use Rattle.soft.specs.Store.{Holding}
-use Rattle.min_sum.specs.declared.Decoding.{Decoding}
-use Rattle.min_sum.specs.declared.Decoding.TheVariants.{Made, Refused}
-
-abbrev pub decoding_reply : Decoding → Reply
-decoding_reply Made = answer []
-decoding_reply (Refused r) = refusal_of r
 
 -- word and floats hold the results, and the messages are zero
 pub record Results (N : ℕ) (result : ℕ → Channel) (word : List ℕ) (floats : List Float) (tags : List ℕ) (values : List Float) : Type 0 where

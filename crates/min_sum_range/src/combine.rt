@@ -42,10 +42,7 @@ fn combine_ends(a: Ends, b: Ends) -> Ends
     let s = pair(a.high, b.high);
     let low = lesser_of(lesser_of(p, q), lesser_of(r, s));
     let high = greater_of(greater_of(p, q), greater_of(r, s));
-    Ends {
-        low: low,
-        high: high,
-    }
+    Ends { low, high }
 }
 
 // The ranges of all values, combined one after the other.

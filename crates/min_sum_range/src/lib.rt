@@ -12,36 +12,23 @@ use crate::combine::range_of;
 use crate::judge::{first_crossed, first_unfit};
 use parity::{Ends, Refusal};
 
-// What the call answers: sure 0 with no other bits in the check, or the two ends of the range.
-#[derive(Clone, Copy)]
-pub enum Ranging {
-    SureZero,
-    Within(Ends),
-    Refused(Refusal),
-}
-
-// The range of one check's answer, over all choices inside the ranges of its other bits. That the ends given are this range is the theorem `RangeGiven`
-// (parity's specs/SoftRangePromises).
-pub fn range(lows: &[f32], highs: &[f32]) -> Ranging
+// The range of one check's answer, over all choices inside the ranges of its other bits: the two ends, or none with no other bits in the check, where the
+// answer is sure 0. That the ends given are this range is the theorem `RangeGiven` (parity's specs/SoftRangePromises).
+pub fn range(lows: &[f32], highs: &[f32]) -> Result<Option<Ends>, Refusal>
     ensures { ranging_outcome result ≡ min_sum_range_outcome lows.now highs.now }
 {
     let n = lows.len();
-    if n != highs.len() {
-        return Ranging::Refused(Refusal::WrongLength);
+    if n != highs.len() || 511 < n {
+        return Err(Refusal::WrongLength);
     }
-    if 511 < n {
-        return Ranging::Refused(Refusal::WrongLength);
+    if let Some(place) = first_unfit(lows, highs) {
+        return Err(Refusal::WrongFloat { place });
     }
-    let a = first_unfit(lows, highs);
-    if a < n {
-        return Ranging::Refused(Refusal::WrongFloat { place: a });
-    }
-    let b = first_crossed(lows, highs);
-    if b < n {
-        return Ranging::Refused(Refusal::LowAboveHigh { place: b });
+    if let Some(place) = first_crossed(lows, highs) {
+        return Err(Refusal::LowAboveHigh { place });
     }
     if n == 0 {
-        return Ranging::SureZero;
+        return Ok(None);
     }
-    Ranging::Within(range_of(lows, highs))
+    Ok(Some(range_of(lows, highs)))
 }

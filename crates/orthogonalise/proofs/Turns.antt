@@ -1,7 +1,7 @@
 -- The turns of orthogonalising on words, columns and row bounds. Assumes nothing.
-use mathlib.Core.Path.{◌≡◌, refl, sym, ◌∙◌}
-use mathlib.Core.Bool.{Bool, true, false, ◌&&◌, and-false, and-eq-true_iff, false≢true, true≢false}
-use mathlib.Core.List.{List, []}
+use mathlib.Core.Path.{◌≡◌, refl, sym, ap, ◌∙◌}
+use mathlib.Core.Bool.{true, false, and-false, and-eq-true_iff, false≢true, true≢false}
+use mathlib.Core.List.{List, [], ◌∷◌}
 use Prim.Native.Nat.{ℕ, zero, suc, ◌+◌, ◌*◌, ◌-◌, ◌/◌, ◌≤◌, ◌<◌}
 use native.Mathlib.Numerals.{add-one}
 use native.Mathlib.Omega.{arith}
@@ -9,7 +9,8 @@ use native.Mathlib.Decide.{dec_le, dec_lt}
 use borrow.Author.Tests.{lt-ltb, le-ltb, eq-eqb}
 use Rattle.parity.specs.Finite.{outermost}
 use Rattle.parity.specs.Matrix.{Matrix, lent}
-use Rattle.parity.specs.Cycles.{share, held_by, pairs, split_of, largest_share, lower_bit, higher_bit, orthogonal}
+use Rattle.parity.specs.Cycles.{share, held_by, pairs, split_of, largest_share, lower_bit, higher_bit, Orthogonalised, orthogonal}
+use Rattle.parity.specs.Causes.{answer, refusal}
 use Rattle.parity.specs.Calls.{orthogonalised_reply}
 use Rattle.parity.specs.CyclesPromises.{holding}
 use Rattle.parity.specs.Sound.{Clean, Sound}
@@ -29,7 +30,6 @@ use Rattle.columns.proofs.Splitting.{parted_columns}
 use Rattle.pairs.specs.Rows.{in_both}
 use Rattle.choice.specs.Bounds.{Bounded, Head, Picked, NoPair, Narrow, Weights}
 use Rattle.choice.proofs.RowBounds.{bounded_split, raised_head, weights_bound, weights_head}
-use Rattle.orthogonalise.specs.Answers.{course_reply}
 use Rattle.exchange.specs.Merge.{Apart, Both}
 use Rattle.orthogonalise.specs.Turns.{Ready, Turned, Ended}
 use Rattle.exchange.proofs.Common.{twice}
@@ -129,8 +129,11 @@ module _ (h₀ : Matrix) (n m k₀ : ℕ) (h g : Matrix) (bound : List ℕ) (k s
             absurd (omega (arith, P.few _ _ a b))
       ]
 
-  pub ends_finished : NoPair (together 2 g) (n + k) → Ended h₀ n m k₀ h true splits total k held
-  ends_finished P = record { same = S.same ∙ rw turns_left (finishes (392 - k) h n m k splits total held (none P)) }
+  pub ends_finished : NoPair (together 2 g) (n + k) → Ended h₀ n m k₀ h (answer (splits ∷ total ∷ k ∷ held))
+  unfolding orthogonalised_reply
+  ends_finished P =
+      let e : orthogonal (393 - k₀) h₀ n m k₀ 0 0 [] ≡ record { finished = true; splits = splits; sum = total; k = k; held = held; matrix = h } = S.same ∙ rw turns_left (finishes (392 - k) h n m k splits total held (none P)) in
+      record { told = sym (ap orthogonalised_reply e); matrix = sym (ap (λ (o : Orthogonalised). o.matrix) e) }
 
   module _ (u v s : ℕ) (P : Picked (together 2 g) (n + k) u v s) where
     here : share h (m + k) u v ≡ s
@@ -161,12 +164,12 @@ module _ (h₀ : Matrix) (n m k₀ : ℕ) (h g : Matrix) (bound : List ℕ) (k s
     chosen_is : (largest_share h (n + k) (m + k) ≡ share h (m + k) u v) × (lower_bit h (n + k) (m + k) ≡ u) × (higher_bit h (n + k) (m + k) ≡ v)
     chosen_is = chosen_only h (n + k) (m + k) u v is_chosen (omega (arith, here, P.two))
 
-    pub ends_full : k ≡ 392 → Ended h₀ n m k₀ h false splits total k held
-    ends_full q = record {
-      same =
-          let (t, a, b) = chosen_is in
-          S.same ∙ rw turns_left (stops_full (392 - k) h n m k splits total held (omega (arith, here, P.two)) q);
-    }
+    pub ends_full : k ≡ 392 → Ended h₀ n m k₀ h (refusal 9 (splits ∷ total ∷ k ∷ held))
+    unfolding orthogonalised_reply
+    ends_full q =
+        let (t, a, b) = chosen_is in
+        let e : orthogonal (393 - k₀) h₀ n m k₀ 0 0 [] ≡ record { finished = false; splits = splits; sum = total; k = k; held = held; matrix = h } = S.same ∙ rw turns_left (stops_full (392 - k) h n m k splits total held (omega (arith, here, P.two)) q) in
+        record { told = sym (ap orthogonalised_reply e); matrix = sym (ap (λ (o : Orthogonalised). o.matrix) e) }
 
     pub share_few : s ≤ 128
     share_few = omega (arith, together_top 2 g u v, P.here)
@@ -234,12 +237,3 @@ module _ (h₀ : Matrix) (n m k₀ : ℕ) (h g : Matrix) (bound : List ℕ) (k s
             few = omega (arith, S.few);
             same = S.same ∙ rw turns_left (repeats (392 - k) h n m k splits total held (omega arith) (λ q. omega arith) ∙ rw (x, y, t, at, e, left, add-one k, add-one splits, held_is));
           }
-
--- what the turns came to is the outcome
-module _ (h : Matrix) (n m k : ℕ) (h' : Matrix) (finished : Bool) (splits total k' : ℕ) (held : List ℕ) (E : Ended h n m k h' finished splits total k' held) where
-  pub ended_reply : course_reply finished splits total k' held ≡ orthogonalised_reply (orthogonal (393 - k) h n m k 0 0 [])
-  unfolding orthogonalised_reply
-  ended_reply = rw E.same
-
-  pub ended_matrix : h' ≡ (orthogonal (393 - k) h n m k 0 0 []).matrix
-  ended_matrix = rw E.same

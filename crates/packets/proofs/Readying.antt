@@ -5,7 +5,8 @@ use mathlib.Core.List.{List, []}
 use Prim.Native.Nat.{ℕ, ◌*◌, ◌≤◌, ◌<◌}
 use native.Mathlib.Omega.{arith}
 use native.Mathlib.Decide.{dec_lt}
-use lib.ListN.{get_or}
+use lib.ListN.{get_or, length, take}
+use Rattle.std.proofs.lemmas.List.{length-take-le}
 use Rattle.parity.specs.Finite.{count}
 use Rattle.parity.specs.Matrix.{Matrix, lent}
 use Rattle.parity.specs.Words.{inside}
@@ -14,11 +15,13 @@ use Rattle.sets.specs.Sets.{Short}
 use Rattle.elimination.specs.Reduction.{Reduction}
 use Rattle.residue.specs.Rows.{Gathered}
 use Rattle.residue.proofs.Gathering.{narrow}
-use Rattle.lanes.specs.Lanes.{Low, lists_of}
+use Rattle.lanes.specs.declared.Step.{Step}
+use Rattle.lanes.specs.Lanes.{Low, lists_of, checks_of, bits_of}
 use Rattle.lanes.specs.Tiles.{Ready}
-use Rattle.plan.specs.Order.{Peeled, Listed}
+use Rattle.plan.specs.Order.{Settling, Joined, Peeled, Listed}
 use Rattle.plan.specs.Plan.{Plans}
 use Rattle.plan.proofs.Planning.{plan_works}
+use Rattle.plan.proofs.Ordering.{settling_first}
 use Rattle.plan.proofs.Aloning.{listed_none}
 use Rattle.lanes.specs.Lanes.{mending, contradicted}
 
@@ -74,17 +77,22 @@ module _ (h : Matrix) (B M : ℕ) (few : B ≤ 512) (e : ℕ → Bool) (empty : 
   }
 
 module _ (h : Matrix) (N M W : ℕ) (few : N ≤ 512) (wide : W ≤ 8) (room : N ≤ W * 64) (e : ℕ → Bool) (short : Short N e) (es cs bs : List ℕ) (s : ℕ) (skip : ℕ → Bool) (P : Peeled h (W * 64) M e (lent 8 es 0) cs bs s skip)
-    (empty : count 512 (lent 8 es 0) ≡ 0) (k : Matrix) (first end more : ℕ) (f : first ≡ 0) (z : end ≡ 0) (m : more ≡ 0) (ds ps : List ℕ) where
-  pub ready_peeled : Ready N M (lists_of cs bs s skip first end ds ps more)
+    (empty : count 512 (lent 8 es 0) ≡ 0) (k : Matrix) where
+  pub ready_peeled : Ready N M (lists_of cs bs s skip 0 0 [] [] 0)
   ready_peeled =
-      rw (f, z, m) (ready_made h N M W few wide room e short es cs bs s skip P k k 0 0 [] (gathered_empty h (W * 64) M (omega arith) (lent 8 es 0) empty k (lent W es 0))
-      (reduction_empty h (W * 64) M (omega arith) (lent 8 es 0) empty k (lent W es 0) []) es refl (lent 8 es 0) ds ps 0 (listed_none k (W * 64) (lent W es 0) [] (lent 8 es 0) ds ps))
+      (ready_made h N M W few wide room e short es cs bs s skip P k k 0 0 [] (gathered_empty h (W * 64) M (omega arith) (lent 8 es 0) empty k (lent W es 0))
+      (reduction_empty h (W * 64) M (omega arith) (lent 8 es 0) empty k (lent W es 0) []) es refl (lent 8 es 0) [] [] 0 (listed_none k (W * 64) (lent W es 0) [] (lent 8 es 0) [] []))
 
-  pub plan_peeled : Plans h N M e (lent 8 es 0) (mending h k (W * 64) (lists_of cs bs s skip first end ds ps more)) (contradicted h k (W * 64) M (lists_of cs bs s skip first end ds ps more))
+  pub plan_peeled : Plans h N M e (lent 8 es 0) (mending h k (W * 64) (lists_of cs bs s skip 0 0 [] [] 0)) (contradicted h k (W * 64) M (lists_of cs bs s skip 0 0 [] [] 0))
   plan_peeled =
-      rw (f, z, m) (plan_made h N M W few wide room e short es cs bs s skip P k k 0 0 [] (gathered_empty h (W * 64) M (omega arith) (lent 8 es 0) empty k (lent W es 0))
-      (reduction_empty h (W * 64) M (omega arith) (lent 8 es 0) empty k (lent W es 0) []) es refl (lent 8 es 0) ds ps 0 (listed_none k (W * 64) (lent W es 0) [] (lent 8 es 0) ds ps))
+      (plan_made h N M W few wide room e short es cs bs s skip P k k 0 0 [] (gathered_empty h (W * 64) M (omega arith) (lent 8 es 0) empty k (lent W es 0))
+      (reduction_empty h (W * 64) M (omega arith) (lent 8 es 0) empty k (lent W es 0) []) es refl (lent 8 es 0) [] [] 0 (listed_none k (W * 64) (lent W es 0) [] (lent 8 es 0) [] []))
 
--- so many steps as there are lost bits at most
-pub few_steps : (h : Matrix) (B M : ℕ) (e e' : ℕ → Bool) (cs bs : List ℕ) (s : ℕ) (skip : ℕ → Bool) → B ≤ 512 → Peeled h B M e e' cs bs s skip → s ≤ 512
-few_steps h B M e e' cs bs s skip l P = omega (arith, P.settling.order.fewer, count_bound B e)
+-- no more steps are noted than there are bits
+module _ (h : Matrix) (B M : ℕ) (e e' : ℕ → Bool) (steps : List Step) (s : ℕ) (done : ℕ → Bool) (room : B ≤ length steps) (S : Settling h B M e e' (checks_of steps) (bits_of steps) s done) where
+  pub few_steps : s ≤ length steps
+  few_steps = omega (arith, S.order.fewer, count_bound B e)
+
+  -- they are a list of their own
+  pub peeled_first : (skip : ℕ → Bool) → Joined h B M e' done skip → Peeled h B M e e' (checks_of (take s steps)) (bits_of (take s steps)) (length (take s steps)) skip
+  peeled_first skip J = rw (length-take-le s steps few_steps) record { done = done; settling = settling_first h B M e e' steps s done S; joined = J }

@@ -17,7 +17,7 @@ pub record SetMended (h : Matrix) (N M to : ℕ) (e left : ℕ → Bool) (x x' :
   pub stays : (b i : ℕ) → b < N → i < to → left b ≡ true → x' b i ≡ x b i
 
 -- the lists that are lent have the lengths that a plan of peeling takes, and its tile has room
-pub record Rooms (p : Plan) (ws es rs ss cs bs xs ys : List ℕ) : Type 0 where
+pub record Rooms (p : Plan) (ws es rs ss xs ys : List ℕ) : Type 0 where
   pub words : length ws ≡ 4096
   pub used : p.used ≤ 8
   pub bits : p.bits ≤ p.used * 64
@@ -25,8 +25,6 @@ pub record Rooms (p : Plan) (ws es rs ss cs bs xs ys : List ℕ) : Type 0 where
   pub lost : length es ≡ 8
   pub left : length rs ≡ 8
   pub skip : length ss ≡ 8
-  pub step_checks : length cs ≡ 512
-  pub step_bits : length bs ≡ 512
   pub packets : length xs ≡ p.bits * length ys
   pub some : 0 < p.lanes
   pub most : p.lanes ≤ 16

@@ -2,13 +2,10 @@
 ghost use Rattle.std.specs.Prelude.{◌≡◌, [], ◌*◌, ◌^◌, ◌≤◌, ◌<◌, eqb, length};
 ghost use Rattle.parity.specs.Finite.{count};
 ghost use Rattle.parity.specs.Matrix.{lent};
-ghost use Rattle.parity.specs.Causes.{answer};
-ghost use Rattle.matrix.specs.Answers.{accepting_reply};
+ghost use Rattle.parity.specs.Causes.{answer, result_reply, no_values};
 ghost use Rattle.packets.specs.Answers.{lists_reply};
 
-use matrix::Accepting;
 use parity::Refusal;
-use rows::ones_of;
 use sets::bytes::first_above;
 
 // Whether `total` is `parts` times `len`, by a quotient: the product may be too large for a number of the machine.
@@ -16,31 +13,27 @@ fn is_product(total: usize, parts: usize, len: usize) -> bool
     requires { 0 < parts }
     ensures { result ≡ eqb total (parts * len) }
 {
-    if total / parts != len {
-        return false;
-    }
-    total % parts == 0
+    total / parts == len && total % parts == 0
 }
 
 // Takes the lists that are lent with a matrix of `bits` bits, or refuses them by cause 10 or 11.
-pub fn admit_lists(bits: usize, lost: &[u8], packets: &[u64], len: usize) -> Accepting
+pub fn admit_lists(bits: usize, lost: &[u8], packets: &[u64], len: usize) -> Result<(), Refusal>
     requires { 0 < bits }
-    ensures { accepting_reply result ≡ lists_reply bits lost.now packets.now len (answer []) }
+    ensures { result_reply no_values result ≡ lists_reply bits lost.now packets.now len (answer []) }
 {
     if lost.len() != bits {
-        return Accepting::Refused(Refusal::WrongLength);
+        return Err(Refusal::WrongLength);
     }
     if !is_product(packets.len(), bits, len) {
-        return Accepting::Refused(Refusal::WrongLength);
+        return Err(Refusal::WrongLength);
     }
     if 0x200_0000_0000_0000 < len {
-        return Accepting::Refused(Refusal::WrongLength);
+        return Err(Refusal::WrongLength);
     }
-    let place = first_above(lost, 1);
-    if place < lost.len() {
-        return Accepting::Refused(Refusal::WrongByte { place: place });
+    match first_above(lost, 1) {
+        Some(place) => Err(Refusal::WrongByte { place }),
+        None => Ok(()),
     }
-    Accepting::Accepted
 }
 
 // How many lanes are flagged.
@@ -49,10 +42,8 @@ pub fn count_lanes(odd: &[u64]) -> usize
     ensures { result ≡ count (length odd.now * 64) (lent (length odd.now) odd.now 0) }
 {
     let mut n: usize = 0;
-    let mut i: usize = 0;
-    while i < odd.len() {
-        n += ones_of(odd[i]);
-        i += 1;
+    for x in odd {
+        n += x.count_ones() as usize;
     }
     n
 }

@@ -8,11 +8,11 @@ ghost use Rattle.std.specs.Prelude.{◌≡◌, false, ◌+◌, ◌*◌, ◌^◌,
 ghost use Rattle.parity.specs.Matrix.{cause};
 ghost use Rattle.parity.specs.Calls.{wrong_byte};
 ghost use Rattle.parity.specs.Packets.{packets_outcome};
-ghost use Rattle.packets.specs.Answers.{mending_packets_reply};
+ghost use Rattle.parity.specs.Causes.{answer, result_reply};
+ghost use Rattle.packets.specs.Answers.{mended_packets_values};
 
 use crate::lengths::{admit_lists, count_lanes};
 use crate::lost::mend_set;
-use matrix::Accepting;
 use parity::{Losses, Refusal};
 use result::write;
 use sets::losses::losses_of;
@@ -20,10 +20,10 @@ use sets::set_of;
 
 // What mending packets answers: how many sent and how many added packets were recovered, how many of each are left, and how many lanes no codeword
 // agrees with.
-#[derive(Clone, Copy)]
-pub enum MendingPackets {
-    Made { losses: Losses, odd_lanes: u64 },
-    Refused(Refusal),
+#[derive(Clone, Copy, Debug, PartialEq, Eq)]
+pub struct MendedPackets {
+    pub losses: Losses,
+    pub odd_lanes: u64,
 }
 
 // Mends packets that no cause refuses.
@@ -35,9 +35,9 @@ fn mend_admitted(
     lost: &mut [u8],
     packets: &mut [u64],
     odd: &mut [u64],
-) -> MendingPackets
+) -> MendedPackets
     requires { (cause words.now n m k ≡ 0) × (length lost.old ≡ n + k) × (length packets.old ≡ (n + k) * length odd.old) × (length odd.old ≤ 2 ^ 57) × (wrong_byte 1 lost.old ≡ false) }
-    ensures result_value { mending_packets_reply result ≡ (packets_outcome words.now n m k lost.old packets.old odd.old).reply }
+    ensures result_value { answer (mended_packets_values result) ≡ (packets_outcome words.now n m k lost.old packets.old odd.old).reply }
     ensures lost_after { lost.new ≡ (packets_outcome words.now n m k lost.old packets.old odd.old).lost }
     ensures packets_after { packets.new ≡ (packets_outcome words.now n m k lost.old packets.old odd.old).packets }
     ensures odd_after { odd.new ≡ (packets_outcome words.now n m k lost.old packets.old odd.old).odd }
@@ -48,7 +48,7 @@ fn mend_admitted(
     write(lost, &gone, &left, &none, 8);
     let losses = losses_of(&gone, &left, n);
     let odd_lanes = count_lanes(odd) as u64;
-    MendingPackets::Made { losses, odd_lanes }
+    MendedPackets { losses, odd_lanes }
 }
 
 // Mends packets by a matrix that is accepted, or refuses them by cause 10 or 11.
@@ -60,18 +60,15 @@ fn mend_accepted(
     lost: &mut [u8],
     packets: &mut [u64],
     odd: &mut [u64],
-) -> MendingPackets
+) -> Result<MendedPackets, Refusal>
     requires { cause words.now n m k ≡ 0 }
-    ensures result_value { mending_packets_reply result ≡ (packets_outcome words.now n m k lost.old packets.old odd.old).reply }
+    ensures result_value { result_reply mended_packets_values result ≡ (packets_outcome words.now n m k lost.old packets.old odd.old).reply }
     ensures lost_after { lost.new ≡ (packets_outcome words.now n m k lost.old packets.old odd.old).lost }
     ensures packets_after { packets.new ≡ (packets_outcome words.now n m k lost.old packets.old odd.old).packets }
     ensures odd_after { odd.new ≡ (packets_outcome words.now n m k lost.old packets.old odd.old).odd }
 {
-    let admission = admit_lists(n + k, lost, packets, odd.len());
-    match admission {
-        Accepting::Refused(r) => MendingPackets::Refused(r),
-        Accepting::Accepted => mend_admitted(words, n, m, k, lost, packets, odd),
-    }
+    admit_lists(n + k, lost, packets, odd.len())?;
+    Ok(mend_admitted(words, n, m, k, lost, packets, odd))
 }
 
 // Mends packets: bit b of the code is packet b, of as many words as `odd` has, and bit i of every packet is lane i. Each lost packet that the checks determine
@@ -84,15 +81,12 @@ pub fn mend_packets(
     lost: &mut [u8],
     packets: &mut [u64],
     odd: &mut [u64],
-) -> MendingPackets
-    ensures result_value { mending_packets_reply result ≡ (packets_outcome words.now n m k lost.old packets.old odd.old).reply }
+) -> Result<MendedPackets, Refusal>
+    ensures result_value { result_reply mended_packets_values result ≡ (packets_outcome words.now n m k lost.old packets.old odd.old).reply }
     ensures lost_after { lost.new ≡ (packets_outcome words.now n m k lost.old packets.old odd.old).lost }
     ensures packets_after { packets.new ≡ (packets_outcome words.now n m k lost.old packets.old odd.old).packets }
     ensures odd_after { odd.new ≡ (packets_outcome words.now n m k lost.old packets.old odd.old).odd }
 {
-    let accepted = matrix::accept(words, n, m, k);
-    match accepted {
-        Accepting::Refused(r) => MendingPackets::Refused(r),
-        Accepting::Accepted => mend_accepted(words, n, m, k, lost, packets, odd),
-    }
+    matrix::accept(words, n, m, k)?;
+    mend_accepted(words, n, m, k, lost, packets, odd)
 }

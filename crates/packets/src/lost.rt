@@ -3,64 +3,21 @@ ghost use Rattle.std.specs.Prelude.{◌≡◌, ◌*◌, ◌≤◌, ◌<◌, leng
 ghost use Rattle.parity.specs.Finite.{count};
 ghost use Rattle.parity.specs.Matrix.{lent};
 ghost use Rattle.sets.specs.Sets.{Short};
+ghost use Rattle.lanes.specs.Lanes.{checks_of, bits_of};
 ghost use Rattle.plan.specs.Order.{Peeled};
 ghost use Rattle.packets.specs.Sets.{SetMended, Rooms};
 
 use elimination::reduce_in;
-use lanes::Plan;
 use lanes::mend::mend;
+use lanes::{Plan, Step};
 use plan::alone::list_alone;
 use plan::order::{join_touched, settle};
 use residue::gather::gather;
 use rows::words_of;
 use sets::size;
 
-// A plan that has no steps yet, in tiles of `lanes` words of every packet.
-fn no_steps(used: usize, bits: usize, checks: usize, lanes: usize) -> Plan
-    ensures { result ≡ record { used = used; bits = bits; checks = checks; steps = 0; first = 0; end = 0; more = 0; lanes = lanes } }
-{
-    Plan {
-        used,
-        bits,
-        checks,
-        steps: 0,
-        first: 0,
-        end: 0,
-        more: 0,
-        lanes,
-    }
-}
-
-// The same with steps by checks, and with tests of rows and steps by them.
-fn with_steps(p: Plan, steps: usize) -> Plan
-    ensures { result ≡ record { used = p.used; bits = p.bits; checks = p.checks; steps = steps; first = 0; end = 0; more = 0; lanes = p.lanes } }
-{
-    Plan {
-        used: p.used,
-        bits: p.bits,
-        checks: p.checks,
-        steps,
-        first: 0,
-        end: 0,
-        more: 0,
-        lanes: p.lanes,
-    }
-}
-
-fn with_rows(p: Plan, first: usize, end: usize, more: usize) -> Plan
-    ensures { result ≡ record { used = p.used; bits = p.bits; checks = p.checks; steps = p.steps; first = first; end = end; more = more; lanes = p.lanes } }
-{
-    Plan {
-        used: p.used,
-        bits: p.bits,
-        checks: p.checks,
-        steps: p.steps,
-        first,
-        end,
-        more,
-        lanes: p.lanes,
-    }
-}
+// What a list of steps has where no step is noted.
+const NO_STEP: Step = Step { check: 0, bit: 0 };
 
 // Peeling leaves nothing: its plan is carried out in every lane.
 fn finish_peeled(
@@ -69,49 +26,56 @@ fn finish_peeled(
     lost: &[u64],
     left: &[u64],
     skip: &[u64],
-    checks: &[u16],
-    bits: &[u16],
+    steps: &[Step],
     packets: &mut [u64],
     odd: &mut [u64],
 )
-    requires rooms { Rooms p words.now lost.now left.now skip.now checks.now bits.now packets.old odd.old × (count 512 (lent 8 left.now 0) ≡ 0) × (p.first ≡ 0) × (p.end ≡ 0) × (p.more ≡ 0) }
-    requires short { Short p.bits (lent 8 lost.now 0) × Peeled (lent 8 words.now) (p.used * 64) p.checks (lent 8 lost.now 0) (lent 8 left.now 0) checks.now bits.now p.steps (lent 8 skip.now 0) }
+    requires rooms { Rooms p words.now lost.now left.now skip.now packets.old odd.old × (count 512 (lent 8 left.now 0) ≡ 0) }
+    requires short { Short p.bits (lent 8 lost.now 0) × Peeled (lent 8 words.now) (p.used * 64) p.checks (lent 8 lost.now 0) (lent 8 left.now 0) (checks_of steps.now) (bits_of steps.now) (length steps.now) (lent 8 skip.now 0) }
     ensures { SetMended (lent 8 words.now) p.bits p.checks (length odd.old * 64) (lent 8 lost.now 0) (lent 8 left.now 0) (lent (length odd.old) packets.old) (lent (length odd.old) packets.new) (lent (length odd.old) odd.new 0) }
 {
-    let reduced = [0u64; 8];
-    let none = [0u16; 8];
-    mend(
-        words, skip, checks, bits, &reduced, &none, &none, p, lost, left, packets, odd,
-    );
+    let q = Plan {
+        first: 0,
+        end: 0,
+        ..p
+    };
+    mend(words, skip, steps, &[], &[], q, lost, left, packets, odd);
 }
 
-// What peeling leaves is reduced, and the whole plan is carried out in every lane: also the steps by the reduced rows of `by`, each of which determines its bit of `own`.
+// What peeling leaves is reduced, and the whole plan is carried out in every lane: also the steps by reduced rows.
 fn finish(
     words: &[u64],
     p: Plan,
     lost: &[u64],
     residue: &[u64],
     skip: &[u64],
-    checks: &[u16],
-    bits: &[u16],
+    steps: &[Step],
     left: &mut [u64],
     packets: &mut [u64],
     odd: &mut [u64],
 )
-    requires rooms { Rooms p words.now lost.now residue.now skip.now checks.now bits.now packets.old odd.old × (left.old ≡ residue.now) }
-    requires short { Short p.bits (lent 8 lost.now 0) × Peeled (lent 8 words.now) (p.used * 64) p.checks (lent 8 lost.now 0) (lent 8 residue.now 0) checks.now bits.now p.steps (lent 8 skip.now 0) }
+    requires rooms { Rooms p words.now lost.now residue.now skip.now packets.old odd.old × (left.old ≡ residue.now) }
+    requires short { Short p.bits (lent 8 lost.now 0) × Peeled (lent 8 words.now) (p.used * 64) p.checks (lent 8 lost.now 0) (lent 8 residue.now 0) (checks_of steps.now) (bits_of steps.now) (length steps.now) (lent 8 skip.now 0) }
     ensures { SetMended (lent 8 words.now) p.bits p.checks (length odd.old * 64) (lent 8 lost.now 0) (lent 8 left.new 0) (lent (length odd.old) packets.old) (lent (length odd.old) packets.new) (lent (length odd.old) odd.new 0) }
 {
     let mut rows = [0u64; 4096];
     let mut pivots = [0usize; 512];
-    let mut by = [0u16; 512];
-    let mut own = [0u16; 512];
+    let mut by_rows = [NO_STEP; 512];
     let end = gather(words, p.used, p.checks, residue, &mut rows);
     let r = reduce_in(&mut rows, p.used, end, residue, &mut pivots);
-    let more = list_alone(&rows, p.used, &pivots, r, residue, left, &mut by, &mut own);
-    let q = with_rows(p, r, end, more);
+    let more = list_alone(&rows, p.used, &pivots, r, residue, left, &mut by_rows);
+    let q = Plan { first: r, end, ..p };
     mend(
-        words, skip, checks, bits, &rows, &by, &own, q, lost, left, packets, odd,
+        words,
+        skip,
+        steps,
+        &rows,
+        &by_rows[..more],
+        q,
+        lost,
+        left,
+        packets,
+        odd,
     );
 }
 
@@ -130,20 +94,19 @@ fn mend_lost(
 {
     let mut left = lost;
     let mut skip = [0u64; 8];
-    let mut checks = [0u16; 512];
-    let mut bits = [0u16; 512];
+    let mut steps = [NO_STEP; 512];
     let used = p.used;
     let m = p.checks;
-    let steps = settle(words, used, m, &mut left, &mut skip, &mut checks, &mut bits);
+    let count = settle(words, used, m, &mut left, &mut skip, &mut steps);
     join_touched(words, used, m, &left, &mut skip);
-    let q = with_steps(p, steps);
+    let steps = &steps[..count];
     if size(&left) == 0 {
-        finish_peeled(words, q, &lost, &left, &skip, &checks, &bits, packets, odd);
+        finish_peeled(words, p, &lost, &left, &skip, steps, packets, odd);
         return left;
     }
     let residue = left;
     finish(
-        words, q, &lost, &residue, &skip, &checks, &bits, &mut left, packets, odd,
+        words, p, &lost, &residue, &skip, steps, &mut left, packets, odd,
     );
     left
 }
@@ -173,17 +136,19 @@ pub fn mend_set(
     ensures { (length result ≡ 8) × SetMended (lent 8 words.now) bits checks (length odd.old * 64) (lent 8 lost 0) (lent 8 result 0) (lent (length odd.old) packets.old) (lent (length odd.old) packets.new) (lent (length odd.old) odd.new 0) }
 {
     let used = words_of(bits);
+    let p = Plan {
+        used,
+        bits,
+        checks,
+        first: 0,
+        end: 0,
+        lanes: 16,
+    };
     if 2 < used {
         let lanes = fewer_lanes(used);
-        return mend_lost(
-            words,
-            no_steps(used, bits, checks, lanes),
-            lost,
-            packets,
-            odd,
-        );
+        return mend_lost(words, Plan { lanes, ..p }, lost, packets, odd);
     }
-    let after = mend_lost(words, no_steps(used, bits, checks, 16), lost, packets, odd);
+    let after = mend_lost(words, p, lost, packets, odd);
     if size(&after) == 0 {
         return [0u64; 8];
     }

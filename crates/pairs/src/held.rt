@@ -1,12 +1,11 @@
 // The lowest and the highest check that two columns have in common. A column is a row of `width` words.
 ghost use Rattle.std.specs.Prelude.{◌≡◌, ◌+◌, ◌*◌, ◌^◌, ◌≤◌, ◌<◌, length};
-ghost use Rattle.parity.specs.Finite.{least, greatest, outermost};
+ghost use Rattle.parity.specs.Finite.{first, outermost};
 ghost use Rattle.parity.specs.Causes.{held_values};
 ghost use Rattle.rows.specs.Zeros.{both};
-ghost use Rattle.pairs.specs.Rows.{in_both};
+ghost use Rattle.pairs.specs.Rows.{in_both, last};
 
 use parity::{Check, Holders};
-use rows::wide;
 
 // What word `p` of row `i` of `a` and word `p` of row `j` of `b` have in common.
 fn both_at(a: &[u64], i: usize, b: &[u64], j: usize, width: usize, p: usize) -> u64
@@ -16,46 +15,40 @@ fn both_at(a: &[u64], i: usize, b: &[u64], j: usize, width: usize, p: usize) -> 
     a[i * width + p] & b[j * width + p]
 }
 
-// The lowest bit that row `i` of `a` and row `j` of `b` have in common, and `width * 64` if there is none.
-fn lowest(a: &[u64], i: usize, b: &[u64], j: usize, width: usize) -> usize
+// The lowest bit that row `i` of `a` and row `j` of `b` have in common.
+fn lowest(a: &[u64], i: usize, b: &[u64], j: usize, width: usize) -> Option<usize>
     requires { (i * width + width ≤ length a.now) × (j * width + width ≤ length b.now) × (width ≤ 8) }
-    ensures { result ≡ least (width * 64) (in_both width a.now i b.now j) }
+    ensures { result ≡ first (width * 64) (in_both width a.now i b.now j) }
 {
     for p in 0..width {
         let x = both_at(a, i, b, j, width, p);
         if x != 0 {
-            return p * 64 + wide(u64::trailing_zeros(x));
+            return Some(p * 64 + x.trailing_zeros() as usize);
         }
     }
-    width * 64
+    None
 }
 
-// The highest bit that they have in common, and 0 if there is none.
-fn highest(a: &[u64], i: usize, b: &[u64], j: usize, width: usize) -> usize
-    requires { (i * width + width ≤ length a.now) × (j * width + width ≤ length b.now) × (0 < width) × (width ≤ 8) }
-    ensures { result ≡ greatest (width * 64) (in_both width a.now i b.now j) }
+// The highest bit that they have in common.
+fn highest(a: &[u64], i: usize, b: &[u64], j: usize, width: usize) -> Option<usize>
+    requires { (i * width + width ≤ length a.now) × (j * width + width ≤ length b.now) × (width ≤ 8) }
+    ensures { result ≡ last (width * 64) (in_both width a.now i b.now j) }
 {
-    let mut p = width;
-    while p > 0 {
-        let q = p - 1;
-        let x = both_at(a, i, b, j, width, q);
+    for p in (0..width).rev() {
+        let x = both_at(a, i, b, j, width, p);
         if x != 0 {
-            return q * 64 + 63 - wide(u64::leading_zeros(x));
+            return Some(p * 64 + 63 - x.leading_zeros() as usize);
         }
-        p = q;
     }
-    0
+    None
 }
 
 // The lowest and the highest check that they have in common, or none of either.
-pub fn holders(a: &[u64], i: usize, b: &[u64], j: usize, width: usize) -> Holders
+pub fn holders(a: &[u64], i: usize, b: &[u64], j: usize, width: usize) -> Option<Holders>
     requires { (i * width + width ≤ length a.now) × (j * width + width ≤ length b.now) × (0 < width) × (width ≤ 8) }
     ensures { held_values result ≡ outermost (width * 64) (in_both width a.now i b.now j) }
 {
-    let low = lowest(a, i, b, j, width);
-    let high = highest(a, i, b, j, width);
-    if low == width * 64 {
-        return Holders::None;
-    }
-    Holders::Both(Check(low), Check(high))
+    let low = Check(lowest(a, i, b, j, width)?);
+    let high = Check(highest(a, i, b, j, width)?);
+    Some(Holders { low, high })
 }

@@ -2,5 +2,6 @@
 pub mod Bools
 pub mod Sums
 pub mod Firsts
+pub mod Positions
 pub mod Outermost
 pub mod Lists

@@ -1,8 +1,8 @@
 -- Document 01, 'Causes and numbers': replies, and the number and values of each refusal, those that document 02 adds among them. Assumes nothing.
-use Rattle.std.specs.Prelude.{ℕ, Bool, cond, List, [], ◌∷◌, eqb}
+use Rattle.std.specs.Prelude.{ℕ, Bool, cond, List, [], ◌∷◌, eqb, ⊤, Option, Some, None, Result, Ok, Err}
+use Rattle.parity.specs.Finite.{one}
 use Rattle.parity.specs.Matrix.{cause}
 use Rattle.parity.specs.declared.Holders.{Holders}
-use Rattle.parity.specs.declared.Holders.TheVariants.{None, Both}
 use Rattle.parity.specs.declared.Losses.{Losses}
 use Rattle.parity.specs.declared.Numbered.{Numbered}
 use Rattle.parity.specs.declared.Numbered.TheVariants.{Alone, One, Two, Three, Four, Five}
@@ -21,9 +21,9 @@ abbrev pub refusal : ℕ → List ℕ → Reply
 refusal c vs = record { number = c; values = vs }
 
 -- the checks that hold a pair, as the values carried: none of either, or the lowest and the highest (M-106)
-abbrev pub held_values : Holders → List ℕ
+abbrev pub held_values : Option Holders → List ℕ
 held_values None = []
-held_values (Both lowest highest) = lowest.0 ∷ highest.0 ∷ []
+held_values (Some h) = h.low.0 ∷ h.high.0 ∷ []
 
 -- what was recovered and what is left, as the values carried (M-100)
 abbrev pub loss_values : Losses → List ℕ
@@ -56,6 +56,23 @@ refusal_of TooManyChecks = refusal 21 []
 refusal_of WrongRounds = refusal 22 []
 refusal_of (WrongFloat place) = refusal 23 (place ∷ [])
 refusal_of (LowAboveHigh place) = refusal 24 (place ∷ [])
+
+-- The answer of a call, with the values that it carries, or its refusal, as a reply.
+abbrev pub result_reply : {A : Type 0} → (A → List ℕ) → Result A Refusal → Reply
+result_reply values (Ok x) = answer (values x)
+result_reply values (Err r) = refusal_of r
+
+-- an answer that carries nothing
+abbrev pub no_values : ⊤ → List ℕ
+no_values _ = []
+
+-- an answer that is one number
+abbrev pub number_values : ℕ → List ℕ
+number_values x = x ∷ []
+
+-- yes is 1, no is 0
+abbrev pub yes_values : Bool → List ℕ
+yes_values is = one is ∷ []
 
 -- a reply as the calls for C pass it: its number with up to five values
 abbrev pub numbered_reply : Numbered → Reply

@@ -1,5 +1,5 @@
 -- The vocabulary of the definitions: sums, counts, tests and searches over the numbers below a bound. Assumes nothing.
-use Rattle.std.specs.Prelude.{ℕ, zero, suc, ◌+◌, max, Bool, true, false, cond, ◌&&◌, ◌||◌, List, [], ◌∷◌, eqb}
+use Rattle.std.specs.Prelude.{ℕ, zero, suc, ◌+◌, max, Bool, true, false, cond, ◌&&◌, ◌||◌, List, [], ◌∷◌, Option, Some, None, eqb}
 
 -- 1 for true, 0 for false
 abbrev pub one : Bool → ℕ
@@ -35,6 +35,10 @@ most (suc n) f = max (most n f) (f n)
 unfoldable pub least : ℕ → (ℕ → Bool) → ℕ
 least zero p = 0
 least (suc n) p = cond (any n p) (least n p) (cond (p n) n (suc n))
+
+-- the same, and nothing if none does
+abbrev pub first : ℕ → (ℕ → Bool) → Option ℕ
+first n p = cond (any n p) (Some (least n p)) None
 
 -- the largest of 0 .. n - 1 that passes the test, and 0 if none does
 unfoldable pub greatest : ℕ → (ℕ → Bool) → ℕ

@@ -1,24 +1,24 @@
-// The types that the calls share: the numbers of bits and of checks, the checks that hold a pair, the forms of a record, losses, channel values,
+// The types that the calls share: the numbers of bits and of checks, the outermost checks that hold a pair, the forms of a record, losses, channel values,
 // ranges, refusals, and numbers with their values.
 #![tactic(auto)]
 
 // A bit's number: sent bits first, then added ones.
-#[derive(Clone, Copy)]
+#[derive(Clone, Copy, Debug, PartialEq, Eq, PartialOrd, Ord)]
 pub struct Bit(pub usize);
 
 // A check's number: given checks first, then added ones.
-#[derive(Clone, Copy)]
+#[derive(Clone, Copy, Debug, PartialEq, Eq, PartialOrd, Ord)]
 pub struct Check(pub usize);
 
-// The checks that hold a pair: none of either, or the lowest and the highest.
-#[derive(Clone, Copy)]
-pub enum Holders {
-    None,
-    Both(Check, Check),
+// The lowest and the highest check that hold a pair.
+#[derive(Clone, Copy, Debug, PartialEq, Eq)]
+pub struct Holders {
+    pub low: Check,
+    pub high: Check,
 }
 
 // The form of a record: the second has the number of each check written out, and the third carries splits besides.
-#[derive(Clone, Copy)]
+#[derive(Clone, Copy, Debug, PartialEq, Eq)]
 pub enum Form {
     First,
     Second,
@@ -26,7 +26,7 @@ pub enum Form {
 }
 
 // What was recovered and what is left, counted in sent bits and in added bits (M-100).
-#[derive(Clone, Copy)]
+#[derive(Clone, Copy, Debug, PartialEq, Eq)]
 pub struct Losses {
     pub recovered_sent: u64,
     pub recovered_added: u64,
@@ -35,7 +35,7 @@ pub struct Losses {
 }
 
 // A channel value, a message or a result (M-112): a sure bit, a soft value whose sign favours 0 when positive, or erased.
-#[derive(Clone, Copy)]
+#[derive(Clone, Copy, Debug, PartialEq)]
 pub enum Channel {
     Sure(bool),
     Soft(f32),
@@ -43,14 +43,14 @@ pub enum Channel {
 }
 
 // A low and a high between which a soft value lies (M-113).
-#[derive(Clone, Copy)]
+#[derive(Clone, Copy, Debug, PartialEq)]
 pub struct Ends {
     pub low: f32,
     pub high: f32,
 }
 
 // Why a call is refused: document 01's causes, in its order, and those that document 02 adds, each with the values that it returns.
-#[derive(Clone, Copy)]
+#[derive(Clone, Copy, Debug, PartialEq, Eq)]
 pub enum Refusal {
     // 1: the matrix slice is not 4,096 words.
     MatrixLength,
@@ -81,7 +81,7 @@ pub enum Refusal {
         splits: u64,
         sum: u64,
         k: usize,
-        held: Holders,
+        held: Option<Holders>,
     },
     // 10: a word, message or set of wrong length.
     WrongLength,
@@ -124,7 +124,7 @@ pub enum Refusal {
 }
 
 // A number and the values that it carries.
-#[derive(Clone, Copy)]
+#[derive(Clone, Copy, Debug, PartialEq, Eq)]
 pub enum Numbered {
     Alone(u32),
     One(u32, u64),

@@ -1,28 +1,28 @@
--- Putting one value after another fills the front of a list. Assumes nothing.
-use mathlib.Core.Path.{◌≡◌, refl, sym, ap, ◌∙◌}
+-- Values at the front of a list, and replies passed. Assumes nothing.
+use mathlib.Core.Path.{◌≡◌, refl, sym}
 use mathlib.Core.List.{List, [], ◌∷◌, ◌++◌}
-use Prim.Native.Nat.{ℕ}
-use lib.ListN.{length, set}
+use Prim.Native.Nat.{ℕ, min}
+use native.Mathlib.Omega.{arith}
+use native.Mathlib.Decide.{dec_le}
+use lib.ListN.{length, take, drop}
+use lib.Seq.{take-length, drop-length}
+use Rattle.std.proofs.lemmas.List.{drop_all, take_all}
 use Rattle.parity.specs.Causes.{Reply, refusal}
-use lib.Ieee.{Float}
-use Rattle.passing.specs.Passed.{filled, ends_filled, Passed}
+use Rattle.passing.specs.Passed.{filled, Passed}
 
-pub fill_none : (old : List ℕ) → old ≡ filled [] old
+pub fill_none : {A : Type 0} (old : List A) → old ≡ filled [] old
 unfolding filled
 fill_none [] = refl
 fill_none (x ∷ xs) = refl
 
-pub fill_next : (vs : List ℕ) (a : ℕ) (old : List ℕ) → set (filled vs old) (length vs) a ≡ filled (vs ++ (a ∷ [])) old
+-- as many values as there are, or as the list reaches
+pub fill_front : {A : Type 0} (vs old : List A) → take (min (length old) (length vs)) vs ++ drop (min (length old) (length vs)) old ≡ filled vs old
 unfolding filled
-fill_next [] a [] = refl
-fill_next [] a (x ∷ xs) = ap (λ (t : List ℕ). a ∷ t) (fill_none xs)
-fill_next (v ∷ vs) a [] = refl
-fill_next (v ∷ vs) a (x ∷ xs) = ap (λ (t : List ℕ). v ∷ t) (fill_next vs a xs)
-
--- one value more is put behind those passed
-pub next : {vs old new last : List ℕ} {number r : ℕ} (a : ℕ)
-    → Passed (refusal number vs) old new r → last ≡ set new (length vs) a → Passed (refusal number (vs ++ (a ∷ []))) old last r
-next {vs} {old} {new} {last} a h e = record { number = h.number; values = (rw h.values at e) ∙ fill_next vs a old }
+fill_front vs old =
+    elim (dec_le (length old) (length vs)) [
+      | yes l ↦ let e : min (length old) (length vs) ≡ length old = omega arith in rw (e, drop_all (length vs) old l, drop-length old)
+      | no l ↦ let e : min (length old) (length vs) ≡ length vs = omega arith in rw (e, take-length vs, take_all (length old) vs (omega arith))
+    ]
 
 -- a reply with no values leaves the list
 pub bare : {p : Reply} (number : ℕ) (old : List ℕ) → refusal number [] ≡ p → Passed p old old number
@@ -35,15 +35,3 @@ same e h = rw (sym e) h
 -- values at the front are passed
 pub front : {vs old new : List ℕ} (number : ℕ) → new ≡ filled vs old → Passed (refusal number vs) old new number
 front number e = record { number = refl; values = e }
-
--- no ends, and two
-pub ends_none : (old : List Float) → old ≡ ends_filled [] old
-unfolding ends_filled
-ends_none [] = refl
-ends_none (x ∷ xs) = refl
-
-pub ends_two : (a b : Float) (old : List Float) → set (set old 0 a) 1 b ≡ ends_filled (a ∷ b ∷ []) old
-unfolding ends_filled
-ends_two a b [] = refl
-ends_two a b (x ∷ []) = refl
-ends_two a b (x ∷ y ∷ xs) = ap (λ (t : List Float). a ∷ b ∷ t) (ends_none xs)

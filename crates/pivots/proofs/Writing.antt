@@ -2,17 +2,19 @@
 use mathlib.Core.Path.{◌≡◌, refl, sym, ap, ◌∙◌}
 use mathlib.Core.Bool.{Bool, true, false, not, ◌&&◌, ◌||◌, and-true, and-false, or-true, or-false}
 use mathlib.Core.List.{List}
-use Prim.Native.Nat.{ℕ, ◌+◌}
+use Prim.Native.Nat.{ℕ, ◌+◌, ◌≤◌}
 use native.Mathlib.Numerals.{add-one}
 use native.Mathlib.Decide.{ℕ_discrete}
 use lib.Dec.{eqb}
-use lib.ListN.{get_or}
+use lib.ListN.{get_or, length, take}
+use lib.Seq.{length-take-le, get_or-take}
 use borrow.Author.Tests.{eq-eqb, ne_eqb}
 use Rattle.parity.specs.Finite.{count, any}
 use Rattle.parity.specs.Matrix.{Matrix, put}
 use Rattle.parity.specs.Words.{inside, odd}
+use Rattle.parity.proofs.Finite.Firsts.{any_cong}
 use Rattle.parity.proofs.Matrix.Lent.{put_here, put_place}
-use Rattle.pivots.specs.Pivots.{alone, alone_odd, PivotWritten, PivotsWritten}
+use Rattle.pivots.specs.Pivots.{alone, alone_odd, PivotWritten, PivotsWritten, Low}
 
 -- Row c and the set e have s bits in common.
 module _ (g : Matrix) (B : ℕ) (e o : ℕ → Bool) (c b s : ℕ) (common : s ≡ count B (λ t. g c t && e t)) (l v : Matrix) where
@@ -68,3 +70,16 @@ module _ (g : Matrix) (B : ℕ) (e o : ℕ → Bool) (at : List ℕ) (l v : ℕ 
       value : (x p q : Bool) → (x || p || q) ≡ (x || (p || q))
       value true p q = refl
       value false p q = refl
+
+-- the same of the first numbers of a list
+module _ (r : ℕ) (at : List ℕ) (k : r ≤ length at) where
+  pub low_front : (n : ℕ) → Low r n at → Low (length (take r at)) n (take r at)
+  low_front n L = rw (length-take-le r at k) record { low = λ c i. rw (get_or-take r at c 0 i) (L.low c i) }
+
+  pub pivots_front : (g : Matrix) (B : ℕ) (e o l v l' v' : ℕ → Bool) → PivotsWritten g B e o (take r at) (length (take r at)) l v l' v' → PivotsWritten g B e o at r l v l' v'
+  pivots_front g B e o l v l' v' P =
+      let Q = rw (length-take-le r at k) at P in
+      record {
+        left = λ a. Q.left a ∙ ap (λ x. l a && not x) (any_cong r _ (λ c. eqb (get_or at c 0) a && alone g B e c) (λ c i. rw (get_or-take r at c 0 i)));
+        value = λ a. Q.value a ∙ ap (λ x. v a || x) (any_cong r _ (λ c. eqb (get_or at c 0) a && alone_odd g B e o c) (λ c i. rw (get_or-take r at c 0 i)));
+      }

@@ -44,21 +44,20 @@ fn write_pivot(
     }
 }
 
-// The pivot of each of the first `r` rows leaves `left` if its row has no other bit of the residue, and then gets its value.
+// The pivot of each of the rows leaves `left` if its row has no other bit of the residue, and then gets its value.
 pub fn write_pivots(
     rows: &[u64],
     width: usize,
     pivots: &[usize],
-    r: usize,
     residue: &[u64],
     known: &[u64],
     left: &mut [u64],
     values: &mut [u64],
 )
-    requires { (r * width ≤ length rows.now) × (width ≤ 8) × (r ≤ length pivots.now) × (length residue.now ≡ 8) × (length known.now ≡ 8) × (length left.old ≡ 8) × (length values.old ≡ 8) × Low r 512 pivots.now }
-    ensures { PivotsWritten (lent width rows.now) (width * 64) (lent width residue.now 0) (lent width known.now 0) pivots.now r (lent 8 left.old 0) (lent 8 values.old 0) (lent 8 left.new 0) (lent 8 values.new 0) }
+    requires { (length pivots.now * width ≤ length rows.now) × (width ≤ 8) × (length residue.now ≡ 8) × (length known.now ≡ 8) × (length left.old ≡ 8) × (length values.old ≡ 8) × Low (length pivots.now) 512 pivots.now }
+    ensures { PivotsWritten (lent width rows.now) (width * 64) (lent width residue.now 0) (lent width known.now 0) pivots.now (length pivots.now) (lent 8 left.old 0) (lent 8 values.old 0) (lent 8 left.new 0) (lent 8 values.new 0) }
 {
-    for c in 0..r {
-        write_pivot(rows, width, c, pivots[c], residue, known, left, values);
+    for (c, b) in pivots.iter().enumerate() {
+        write_pivot(rows, width, c, *b, residue, known, left, values);
     }
 }

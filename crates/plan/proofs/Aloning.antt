@@ -2,14 +2,14 @@
 use mathlib.Core.Path.{◌≡◌, refl, sym, ap, ◌∙◌}
 use mathlib.Core.Bool.{Bool, true, false, not, ◌&&◌, ◌||◌, and-true, and-false, or-false, true≢false}
 use mathlib.Core.List.{List}
-use Prim.Native.Nat.{ℕ, suc, ◌+◌, ◌<◌}
+use Prim.Native.Nat.{ℕ, suc, ◌+◌, ◌≤◌, ◌<◌}
 use native.Mathlib.Numerals.{add-one}
 use native.Mathlib.Omega.{arith}
 use native.Mathlib.Decide.{ℕ_discrete}
 use lib.Dec.{eqb}
-use lib.ListN.{get_or, length, set}
-use lib.Seq.{get_or-set_same, get_or-set_other}
+use lib.ListN.{get_or, length, take}
 use borrow.Author.Tests.{eq-eqb, ne_eqb}
+use Rattle.std.proofs.lemmas.List.{length-take-le}
 use Rattle.parity.specs.Finite.{count, any}
 use Rattle.parity.specs.Matrix.{Matrix, put}
 use Rattle.parity.specs.Words.{inside}
@@ -18,9 +18,10 @@ use Rattle.parity.proofs.Matrix.Lent.{put_here, put_place}
 use Rattle.pivots.specs.Pivots.{alone, alone_odd}
 use Rattle.residue.proofs.Reading.{inside_in}
 use Rattle.pivots.proofs.Writing.{pivot_stays, pivots_none, pivots_more}
-use Rattle.lanes.specs.Lanes.{ran, solved_by}
-use Rattle.plan.specs.Order.{Own, Listed}
-use Rattle.plan.proofs.Ordering.{ran_same}
+use Rattle.lanes.specs.declared.Step.{Step}
+use Rattle.lanes.specs.Lanes.{ran, solved_by, checks_of, bits_of}
+use Rattle.plan.specs.Order.{Noted, Own, Listed}
+use Rattle.plan.proofs.Ordering.{ran_same, first_checks, first_bits, noted_check, noted_bit, other_checks, other_bits}
 
 pub listed_none : (g : Matrix) (B : ℕ) (e : ℕ → Bool) (pivots : List ℕ) (l : ℕ → Bool) (cs bs : List ℕ) → Listed g B e pivots 0 l l cs bs 0
 unfolding ran
@@ -29,6 +30,16 @@ listed_none g B e pivots l cs bs = record {
   rows = record { low = λ i k. absurd (omega arith) };
   bits = λ n P. record { low = λ i k. absurd (omega arith) };
   written = λ o. pivots_none g B e o pivots l o;
+}
+
+-- the first s steps are listed as they are among all
+pub listed_first : (g : Matrix) (B : ℕ) (e : ℕ → Bool) (pivots : List ℕ) (r : ℕ) (l l' : ℕ → Bool) (steps : List Step) (s : ℕ) → s ≤ length steps → Listed g B e pivots r l l' (checks_of steps) (bits_of steps) s
+    → Listed g B e pivots r l l' (checks_of (take s steps)) (bits_of (take s steps)) (length (take s steps))
+listed_first g B e pivots r l l' steps s k L = rw (length-take-le s steps k) record {
+  few = L.few;
+  rows = record { low = λ i k. rw (first_checks steps s i k) (L.rows.low i k) };
+  bits = λ n P. record { low = λ i k. rw (first_bits steps s i k) ((L.bits n P).low i k) };
+  written = λ o. rw (ran_same g B (checks_of steps) (bits_of steps) (checks_of (take s steps)) (bits_of (take s steps)) s o (first_checks steps s) (first_bits steps s)) (L.written o);
 }
 
 eqb_turn : (a b : ℕ) → eqb a b ≡ eqb b a
@@ -85,10 +96,10 @@ module _ (g : Matrix) (B : ℕ) (e : ℕ → Bool) (pivots : List ℕ) (c r : �
     }
 
 -- a step that is noted
-pub listed_noted : (g : Matrix) (B : ℕ) (e : ℕ → Bool) (pivots : List ℕ) (c r : ℕ) → c < r → Own g r pivots → (l : ℕ → Bool) (L₁ L₂ : Matrix) (cs bs cs' bs' : List ℕ) (s : ℕ)
-    → Listed g B e pivots c l (L₁ 0) cs bs s → (n : ℕ) → n ≡ count B (λ t. g c t && e t) → n ≡ 1 → L₂ ≡ put 0 (get_or pivots c 0) false L₁
-    → cs' ≡ set cs s c → bs' ≡ set bs s (get_or pivots c 0) → s < length cs → s < length bs → Listed g B e pivots (c + 1) l (L₂ 0) cs' bs' (s + 1)
-listed_noted g B e pivots c r k O l L₁ L₂ cs bs cs' bs' s L n q t z u v i j =
-    listed_next g B e pivots c r k O l (L₁ 0) cs bs s L n q t L₁ L₂ refl z cs' bs'
-    (rw u (get_or-set_same cs s c 0 i)) (rw v (get_or-set_same bs s (get_or pivots c 0) 0 j))
-    (λ x m. rw u (get_or-set_other cs s x c 0 (λ e. omega arith))) (λ x m. rw v (get_or-set_other bs s x (get_or pivots c 0) 0 (λ e. omega arith)))
+pub listed_noted : (g : Matrix) (B : ℕ) (e : ℕ → Bool) (pivots : List ℕ) (c r : ℕ) → c < r → Own g r pivots → (l : ℕ → Bool) (L₁ L₂ : Matrix) (steps steps' : List Step) (s : ℕ)
+    → Listed g B e pivots c l (L₁ 0) (checks_of steps) (bits_of steps) s → (n : ℕ) → n ≡ count B (λ t. g c t && e t) → n ≡ 1 → L₂ ≡ put 0 (get_or pivots c 0) false L₁
+    → Noted steps steps' s c (get_or pivots c 0) → s < length steps → Listed g B e pivots (c + 1) l (L₂ 0) (checks_of steps') (bits_of steps') (s + 1)
+listed_noted g B e pivots c r k O l L₁ L₂ steps steps' s L n q t z N i =
+    let b = get_or pivots c 0 in
+    listed_next g B e pivots c r k O l (L₁ 0) (checks_of steps) (bits_of steps) s L n q t L₁ L₂ refl z (checks_of steps') (bits_of steps')
+    (noted_check steps steps' s c b N i) (noted_bit steps steps' s c b N i) (other_checks steps steps' s c b N) (other_bits steps steps' s c b N)

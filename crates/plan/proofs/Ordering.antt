@@ -7,7 +7,7 @@ use native.Mathlib.Numerals.{add-one}
 use native.Mathlib.Omega.{arith}
 use native.Mathlib.Decide.{ℕ_discrete, dec_lt}
 use lib.Dec.{eqb}
-use lib.ListN.{get_or, length, set}
+use lib.ListN.{get_or, length, take}
 use lib.Seq.{get_or-set_same, get_or-set_other}
 use borrow.Author.Tests.{eq-eqb, ne_eqb, lt-ltb, le-ltb}
 use Rattle.parity.specs.Finite.{one, count}
@@ -25,8 +25,25 @@ use Rattle.steps.specs.Steps.{Solved, start, next}
 use Rattle.steps.proofs.Held.{fewer}
 use Rattle.steps.proofs.Listing.{live_solved}
 use Rattle.rows.specs.Rows.{Empty}
-use Rattle.lanes.specs.Lanes.{ran, solved_by}
-use Rattle.plan.specs.Order.{Free, Even, Ordered, Joined}
+use Rattle.std.proofs.lemmas.List.{length-map, get_or-take}
+use Rattle.lanes.proofs.Running.{no_step, check_at, bit_at}
+use Rattle.lanes.specs.declared.Step.{Step}
+use Rattle.lanes.specs.Lanes.{ran, solved_by, checks_of, bits_of}
+use Rattle.plan.specs.Order.{Noted, Free, Even, Ordered, Settling, Joined}
+
+-- what is noted of a step, and of the others
+module _ (steps steps' : List Step) (s c b : ℕ) (N : Noted steps steps' s c b) where
+  pub noted_check : s < length steps → get_or (checks_of steps') s 0 ≡ c
+  noted_check k = rw N.0 (get_or-set_same (checks_of steps) s c 0 (rw (length-map steps (λ (t : Step). t.check)) k))
+
+  pub noted_bit : s < length steps → get_or (bits_of steps') s 0 ≡ b
+  noted_bit k = rw N.1 (get_or-set_same (bits_of steps) s b 0 (rw (length-map steps (λ (t : Step). t.bit)) k))
+
+  pub other_checks : (i : ℕ) → i < s → get_or (checks_of steps') i 0 ≡ get_or (checks_of steps) i 0
+  other_checks i k = rw N.0 (get_or-set_other (checks_of steps) s i c 0 (λ e. omega arith))
+
+  pub other_bits : (i : ℕ) → i < s → get_or (bits_of steps') i 0 ≡ get_or (bits_of steps) i 0
+  other_bits i k = rw N.1 (get_or-set_other (bits_of steps) s i b 0 (λ e. omega arith))
 
 -- only the first s numbers of the lists count
 pub ran_same : (h : Matrix) (B : ℕ) (cs bs cs' bs' : List ℕ) (s : ℕ) (o : ℕ → Bool) → ((i : ℕ) → i < s → get_or cs' i 0 ≡ get_or cs i 0)
@@ -35,6 +52,34 @@ unfolding ran
 ran_same h B cs bs cs' bs' zero o f g = refl
 ran_same h B cs bs cs' bs' (suc s) o f g =
     rw (f s (omega arith), g s (omega arith), ran_same h B cs bs cs' bs' s o (λ i l. f i (omega arith)) (λ i l. g i (omega arith)))
+
+-- the first n steps
+module _ (steps : List Step) (n : ℕ) where
+  pub first_checks : (i : ℕ) → i < n → get_or (checks_of (take n steps)) i 0 ≡ get_or (checks_of steps) i 0
+  first_checks i k = check_at (take n steps) i ∙ rw (get_or-take n steps i no_step k) (sym (check_at steps i))
+
+  pub first_bits : (i : ℕ) → i < n → get_or (bits_of (take n steps)) i 0 ≡ get_or (bits_of steps) i 0
+  first_bits i k = bit_at (take n steps) i ∙ rw (get_or-take n steps i no_step k) (sym (bit_at steps i))
+
+-- are an order as they are among all
+pub settling_first : (h : Matrix) (B M : ℕ) (e e' : ℕ → Bool) (steps : List Step) (s : ℕ) (done : ℕ → Bool) → Settling h B M e e' (checks_of steps) (bits_of steps) s done
+    → Settling h B M e e' (checks_of (take s steps)) (bits_of (take s steps)) s done
+settling_first h B M e e' steps s done S =
+    let O = S.order in
+    let same : (o : ℕ → Bool) → ran h B (checks_of (take s steps)) (bits_of (take s steps)) s o ≡ ran h B (checks_of steps) (bits_of steps) s o =
+    λ o. ran_same h B (checks_of steps) (bits_of steps) (checks_of (take s steps)) (bits_of (take s steps)) s o (first_checks steps s) (first_bits steps s) in record {
+      order = record {
+        checks = record { low = λ i l. rw (first_checks steps s i l) (O.checks.low i l) };
+        bits = record { low = λ i l. rw (first_bits steps s i l) (O.bits.low i l) };
+        fewer = O.fewer;
+        within = O.within;
+        lost = λ i l. rw (first_bits steps s i l) (O.lost i l);
+        reached = λ o. rw (same o) (O.reached o);
+        free = λ o F. rw (same o) (O.free o F);
+        even = λ d q. record { gone = (O.even d q).gone; even = λ o F. rw (same o) ((O.even d q).even o F) };
+      };
+      over = S.over;
+    }
 
 -- a set that gains bit b at most, which was not in it
 inside_gain : (h : Matrix) (B c b : ℕ) (o : ℕ → Bool) (x : Bool) → b < B → h c b ≡ true → o b ≡ false → inside h B c (λ a. o a || (eqb a b && x)) ≡ inside h B c o + one x
@@ -131,12 +176,11 @@ put_out b E E' p a = ap (λ (g : Matrix). g 0 a) p ∙ (elim (ℕ_discrete a b) 
 ])
 
 -- a step that is noted
-pub ordered_noted : (h : Matrix) (B M : ℕ) (e : ℕ → Bool) (E E' D D' : Matrix) (cs bs cs' bs' : List ℕ) (s c b : ℕ) → Ordered h B M e (E 0) cs bs s (D 0) → Lone h B M (E 0) c b
-    → E' ≡ put 0 b false E → D' ≡ put 0 c true D → cs' ≡ set cs s c → bs' ≡ set bs s b → s < length cs → s < length bs → Ordered h B M e (E' 0) cs' bs' (s + 1) (D' 0)
-ordered_noted h B M e E E' D D' cs bs cs' bs' s c b O L p q u v k l =
-    ordered_next h B M e (E 0) cs bs s (D 0) O c b L (E' 0) (put_out b E E' p) cs' bs'
-    (rw u (get_or-set_same cs s c 0 k)) (rw v (get_or-set_same bs s b 0 l))
-    (λ i m. rw u (get_or-set_other cs s i c 0 (λ e. omega arith))) (λ i m. rw v (get_or-set_other bs s i b 0 (λ e. omega arith)))
+pub ordered_noted : (h : Matrix) (B M : ℕ) (e : ℕ → Bool) (E E' D D' : Matrix) (steps steps' : List Step) (s c b : ℕ) → Ordered h B M e (E 0) (checks_of steps) (bits_of steps) s (D 0) → Lone h B M (E 0) c b
+    → E' ≡ put 0 b false E → D' ≡ put 0 c true D → Noted steps steps' s c b → s < length steps → Ordered h B M e (E' 0) (checks_of steps') (bits_of steps') (s + 1) (D' 0)
+ordered_noted h B M e E E' D D' steps steps' s c b O L p q N k =
+    ordered_next h B M e (E 0) (checks_of steps) (bits_of steps) s (D 0) O c b L (E' 0) (put_out b E E' p) (checks_of steps') (bits_of steps')
+    (noted_check steps steps' s c b N k) (noted_bit steps steps' s c b N k) (other_checks steps steps' s c b N) (other_bits steps steps' s c b N)
     (D' 0) (λ d n. ap (λ (g : Matrix). g 0 d) q ∙ put_place 0 c true D 0 d n)
 
 -- and leaves less to do

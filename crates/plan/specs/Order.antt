@@ -1,12 +1,17 @@
 -- The order in which peeling solves checks: it depends on the lost bits alone, and is the same for every set of ones. Assumes nothing.
-use Rattle.std.specs.Prelude.{◌≡◌, Bool, true, false, not, ◌&&◌, ◌||◌, List, ℕ, ◌+◌, ◌≤◌, ◌<◌, eqb, ltb, get_or}
+use Rattle.std.specs.Prelude.{◌≡◌, Bool, true, false, not, ◌&&◌, ◌||◌, List, ℕ, ◌+◌, ◌≤◌, ◌<◌, eqb, ltb, get_or, set}
 use Rattle.parity.specs.Finite.{count}
 use Rattle.parity.specs.Matrix.{Matrix}
 use Rattle.parity.specs.Words.{inside, odd}
 use Rattle.search.specs.Next.{NoSingle}
 use Rattle.steps.specs.Steps.{Reached}
-use Rattle.lanes.specs.Lanes.{ran, Low}
+use Rattle.lanes.specs.declared.Step.{Step}
+use Rattle.lanes.specs.Lanes.{ran, Low, checks_of, bits_of}
 use Rattle.pivots.specs.Pivots.{PivotsWritten}
+
+-- step s is noted, by which check c solves bit b
+abbrev pub Noted : List Step → List Step → ℕ → ℕ → ℕ → Type 0
+Noted steps steps' s c b = (checks_of steps' ≡ set (checks_of steps) s c) × (bits_of steps' ≡ set (bits_of steps) s b)
 
 -- no bit is in both sets
 pub record Free (e o : ℕ → Bool) : Type 0 where

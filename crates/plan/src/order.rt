@@ -4,12 +4,14 @@ ghost use Rattle.parity.specs.Matrix.{lent};
 ghost use Rattle.rows.specs.Rows.{Empty};
 ghost use Rattle.search.specs.Live.{Listed};
 ghost use Rattle.sets.specs.Sets.{Short};
+ghost use Rattle.lanes.specs.Lanes.{checks_of, bits_of};
 ghost use Rattle.plan.specs.Order.{Settling, Joined};
 
 use crate::note;
+use lanes::Step;
 use parity::Check;
 use rows::raise;
-use search::{Alone, list, next_in};
+use search::{list, next_in};
 use sets::touches;
 
 // Notes steps as long as one of the checks listed, the first `checks`, has exactly one erased bit, in the first `used` words. The answer is their number; `done` gets the checks
@@ -21,32 +23,31 @@ fn settle_listed(
     live: &mut [u16],
     erased: &mut [u64],
     done: &mut [u64],
-    step_checks: &mut [u16],
-    step_bits: &mut [u16],
+    steps: &mut [Step],
 ) -> usize
-    requires words_len { (length words.now ≡ 4096) × (checks ≤ 512) × (length erased.old ≡ 8) × (length done.old ≡ 8) × (used ≤ 8) × (length step_checks.old ≡ 512) × (length step_bits.old ≡ 512) × Short (used * 64) (lent 8 erased.old 0) }
+    requires words_len { (length words.now ≡ 4096) × (checks ≤ 512) × (length erased.old ≡ 8) × (length done.old ≡ 8) × (used ≤ 8) × (length steps.old ≡ 512) × Short (used * 64) (lent 8 erased.old 0) }
     requires empty { Empty (lent 8 done.old) × (length live.old ≡ 512) × Listed checks live.old }
-    ensures { Settling (lent 8 words.now) (used * 64) checks (lent 8 erased.old 0) (lent 8 erased.new 0) step_checks.new step_bits.new result (lent 8 done.new 0) }
+    ensures { Settling (lent 8 words.now) (used * 64) checks (lent 8 erased.old 0) (lent 8 erased.new 0) (checks_of steps.new) (bits_of steps.new) result (lent 8 done.new 0) }
 {
     let mut s: usize = 0;
     let mut count = checks;
     let mut from: usize = 0;
     let mut kept: usize = 0;
     loop {
-        let alone = next_in(words, used, checks, live, count, from, kept, erased);
-        match alone {
-            Alone::Found(c, b, at, k) => {
-                note(erased, step_checks, step_bits, s, c.0, b.0);
-                raise(done, 8, 0, c.0);
+        let next = next_in(words, used, checks, live, count, from, kept, erased);
+        match next.alone {
+            Some(alone) => {
+                note(erased, steps, s, alone.check.0, alone.bit.0);
+                raise(done, 8, 0, alone.check.0);
                 s += 1;
-                from = at + 1;
-                kept = k;
+                from = alone.place + 1;
+                kept = next.kept;
             }
-            Alone::Nothing(k) => {
+            None => {
                 if from == 0 {
                     break;
                 }
-                count = k;
+                count = next.kept;
                 from = 0;
                 kept = 0;
             }
@@ -62,25 +63,15 @@ pub fn settle(
     checks: usize,
     erased: &mut [u64],
     done: &mut [u64],
-    step_checks: &mut [u16],
-    step_bits: &mut [u16],
+    steps: &mut [Step],
 ) -> usize
-    requires words_len { (length words.now ≡ 4096) × (checks ≤ 512) × (length erased.old ≡ 8) × (length done.old ≡ 8) × (used ≤ 8) × (length step_checks.old ≡ 512) × (length step_bits.old ≡ 512) × Short (used * 64) (lent 8 erased.old 0) }
+    requires words_len { (length words.now ≡ 4096) × (checks ≤ 512) × (length erased.old ≡ 8) × (length done.old ≡ 8) × (used ≤ 8) × (length steps.old ≡ 512) × Short (used * 64) (lent 8 erased.old 0) }
     requires empty { Empty (lent 8 done.old) }
-    ensures { Settling (lent 8 words.now) (used * 64) checks (lent 8 erased.old 0) (lent 8 erased.new 0) step_checks.new step_bits.new result (lent 8 done.new 0) }
+    ensures { Settling (lent 8 words.now) (used * 64) checks (lent 8 erased.old 0) (lent 8 erased.new 0) (checks_of steps.new) (bits_of steps.new) result (lent 8 done.new 0) }
 {
     let mut live = [0u16; 512];
     list(checks, &mut live);
-    settle_listed(
-        words,
-        used,
-        checks,
-        &mut live,
-        erased,
-        done,
-        step_checks,
-        step_bits,
-    )
+    settle_listed(words, used, checks, &mut live, erased, done, steps)
 }
 
 // The checks that have an erased bit join `done`.

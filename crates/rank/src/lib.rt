@@ -4,21 +4,13 @@
 ghost use Rattle.std.specs.Prelude.{◌≡◌, ◌≤◌, length};
 ghost use Rattle.parity.specs.Matrix.{lent};
 ghost use Rattle.parity.specs.Encoding.{rank_of};
+ghost use Rattle.parity.specs.Causes.{result_reply, number_values};
 ghost use Rattle.parity.specs.Calls.{rank_reply};
 ghost use Rattle.elimination.specs.Reduction.{Echelon};
-ghost use Rattle.rank.specs.Answers.{ranking_reply};
 
 use elimination::to_echelon;
-use matrix::Accepting;
 use parity::Refusal;
 use rows::whole::copy_rows;
-
-// What the rank call answers.
-#[derive(Clone, Copy)]
-pub enum Ranking {
-    Rank { rank: u64 },
-    Refused(Refusal),
-}
 
 // The given checks become rows of two words, in echelon form. The answer is the number of pivots, which stand in `pivots`.
 pub fn eliminate(words: &[u64], n: usize, m: usize, rows: &mut [u64], pivots: &mut [usize]) -> usize
@@ -41,18 +33,12 @@ fn rank_of(words: &[u64], n: usize, m: usize) -> u64
 }
 
 // Answers the rank: the number of parity bits.
-pub fn rank(words: &[u64], n: usize, m: usize, k: usize) -> Ranking
-    ensures { ranking_reply result ≡ rank_reply words.now n m k }
+pub fn rank(words: &[u64], n: usize, m: usize, k: usize) -> Result<u64, Refusal>
+    ensures { result_reply number_values result ≡ rank_reply words.now n m k }
 {
-    let accepted = matrix::accept(words, n, m, k);
-    match accepted {
-        Accepting::Refused(r) => Ranking::Refused(r),
-        Accepting::Accepted => {
-            if k != 0 {
-                return Ranking::Refused(Refusal::AddedBits);
-            }
-            let rank = rank_of(words, n, m);
-            Ranking::Rank { rank }
-        }
+    matrix::accept(words, n, m, k)?;
+    if k != 0 {
+        return Err(Refusal::AddedBits);
     }
+    Ok(rank_of(words, n, m))
 }

@@ -1,15 +1,15 @@
 -- Words of kind 3 that rise, the last of them a bit below n, are rising bits below n. Assumes nothing.
 use mathlib.Core.Path.{◌≡◌}
-use mathlib.Core.Bool.{false, false≢true}
 use mathlib.Core.List.{List}
 use Prim.Native.Nat.{ℕ, zero, suc, ◌+◌, ◌-◌, ◌/◌, ◌^◌, ◌≤◌, ◌<◌}
 use native.Mathlib.Numerals.{add-one}
-use native.Mathlib.Decide.{dec_lt}
 use native.Mathlib.Omega.{arith}
+use lib.Dec.{leb}
+use borrow.Author.Tests.{leb-false}
 use lib.ListN.{get_or, length}
 use Rattle.parity.specs.Record.{kind_of, payload}
 use Rattle.parity.proofs.Record.Reading.{bit_yes}
-use Rattle.reading.specs.Read.{Rising, BitsRead, Fault, Rises, AllBits}
+use Rattle.reading.specs.Read.{Rising, BitsRead, Fault}
 use Rattle.reading.proofs.Read.{rising_none, rising_next}
 
 -- a word of kind 3
@@ -17,35 +17,9 @@ kind_three : (w : ℕ) → kind_of w ≡ 3 → payload w + 805306368 ≡ w
 unfolding kind_of payload
 kind_three w e = omega arith
 
-pub fault_yes : (before w : ℕ) → Fault before w 1
-fault_yes before w = record { few = omega arith; kind = λ e. absurd (omega arith); above = λ e. absurd (omega arith) }
-
-pub fault_no : (before w : ℕ) → w / 2 ^ 28 ≡ 3 → before < w → Fault before w 0
+pub fault_in : (before w : ℕ) → w / 2 ^ 28 ≡ 3 → Fault before w (leb w before)
 unfolding kind_of
-fault_no before w e k = record { few = omega arith; kind = λ q. e; above = λ q. k }
-
-pub faults_none : (source : List ℕ) (from : ℕ) → Rises source from 0 0
-faults_none source from = record { kinds = λ e i k. absurd (omega arith); rises = λ e i k. absurd (omega arith) }
-
--- the next word
-pub faults_next : (source : List ℕ) (from i r f : ℕ) → Rises source from i r → Fault (get_or source (from + i - 1) 0) (get_or source (from + i) 0) f
-    → Rises source from (i + 1) (r + f)
-faults_next source from i r f R F = record {
-  kinds = λ e j l. elim (dec_lt j i) [
-    | yes q ↦ R.kinds (omega arith) j q
-    | no q ↦ let a : j ≡ i = omega arith in rw a (F.kind (omega arith))
-  ];
-  rises = λ e j l. elim (dec_lt (j + 1) i) [
-    | yes q ↦ R.rises (omega arith) j q
-    | no q ↦ let a : from + i - 1 ≡ from + j = omega arith in let b : from + i ≡ from + (j + 1) = omega arith in rw (a, b) at (F.above (omega arith))
-  ];
-}
-
-pub faults_all : (source : List ℕ) (from i count r : ℕ) → Rises source from i r → count ≤ i → Rises source from count r
-faults_all source from i count r R k = record { kinds = λ e j l. R.kinds e j (omega arith); rises = λ e j l. R.rises e j (omega arith) }
-
-pub not_all : (n : ℕ) (source : List ℕ) (from count : ℕ) → AllBits n source from count false
-not_all n source from count = record { all = λ t. absurd (false≢true t) }
+fault_in before w e = record { kind = λ q. e; above = λ q. leb-false w before q }
 
 module _ (n : ℕ) (source : List ℕ) (from count : ℕ) (room : from + count ≤ length source)
     (kinds : (i : ℕ) → i < count → kind_of (get_or source (from + i) 0) ≡ 3)

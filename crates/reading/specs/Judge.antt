@@ -1,16 +1,11 @@
 -- What judging a record answers, of its first word, of a check, of all checks and of the end. Assumes nothing.
-use Rattle.std.specs.Prelude.{◌≡◌, true, false, List, ℕ, suc, ◌/◌, ◌%◌, ◌≤◌, ◌<◌, get_or, length, drop}
+use Rattle.std.specs.Prelude.{◌≡◌, ⊤, true, false, List, Option, Some, None, Result, Ok, Err, ℕ, suc, ◌/◌, ◌%◌, ◌≤◌, ◌<◌, get_or, length, drop}
 use Rattle.parity.specs.Matrix.{Matrix}
 use Rattle.parity.specs.Record.{payload, form_of, head_word, split_word, stopped, checked, reading, faulty, loaded, performing, behind, loading}
 use Rattle.parity.specs.declared.Form.{Form}
 use Rattle.reading.specs.declared.judge.Head.{Head}
-use Rattle.reading.specs.declared.judge.Head.TheVariants.{Sizes, Faulty}
-use Rattle.reading.specs.declared.judge.Step.{Step}
-use Rattle.reading.specs.declared.judge.Step.TheVariants.{Next, Stop}
 use Rattle.reading.specs.declared.judge.Judged.{Judged}
-use Rattle.reading.specs.declared.judge.Judged.TheVariants.{Right, Stopped}
-use Rattle.reading.specs.declared.judge.Ending.{Ending}
-use Rattle.reading.specs.declared.judge.Ending.TheVariants.{Complete as Ended, Broken}
+use Rattle.reading.specs.declared.judge.Faulty.{Faulty}
 
 -- The first word gives the form, n and m.
 pub record Gives (w : ℕ) (f : Form) (n m : ℕ) : Type 0 where
@@ -19,9 +14,9 @@ pub record Gives (w : ℕ) (f : Form) (n m : ℕ) : Type 0 where
   pub bits : payload w % 256 ≡ n
   pub checks : payload w / 256 ≡ m
 
-abbrev pub HeadRead : ℕ → Head → Type 0
-HeadRead w (Sizes f n m) = Gives w f n m
-HeadRead w Faulty = head_word (form_of w) w ≡ false
+abbrev pub HeadRead : ℕ → Option Head → Type 0
+HeadRead w (Some h) = Gives w h.form h.n h.m
+HeadRead w None = head_word (form_of w) w ≡ false
 
 -- Reading, at place p with check c to open, comes to place q with that check complete.
 pub record Complete (f : Form) (n c : ℕ) (source : List ℕ) (p q : ℕ) : Type 0 where
@@ -35,9 +30,9 @@ pub record Complete (f : Form) (n c : ℕ) (source : List ℕ) (p q : ℕ) : Typ
 pub record Stops (f : Form) (n c : ℕ) (source : List ℕ) (p q : ℕ) : Type 0 where
   pub stops : (m below : ℕ) (h : Matrix) → c < m → reading f n m (drop p source) p c 0 below h ≡ stopped q
 
-abbrev pub CheckRead : Form → ℕ → ℕ → List ℕ → ℕ → Step → Type 0
-CheckRead f n c source p (Next q) = Complete f n c source p q
-CheckRead f n c source p (Stop q) = Stops f n c source p q
+abbrev pub CheckRead : Form → ℕ → ℕ → List ℕ → ℕ → Result ℕ Faulty → Type 0
+CheckRead f n c source p (Ok q) = Complete f n c source p q
+CheckRead f n c source p (Err e) = Stops f n c source p e.place
 
 -- Reading the record, of the form f, came to place p with c complete checks.
 pub record Reached (f : Form) (n m : ℕ) (source : List ℕ) (p c : ℕ) : Type 0 where
@@ -64,9 +59,9 @@ pub record ChecksRight (f : Form) (n m : ℕ) (source : List ℕ) (p : ℕ) : Ty
   pub reads : reading f n m (drop 1 source) 1 0 0 0 (λ c b. false) ≡ checked (drop p source) p matrix
   pub loads : loading source ≡ performing f n m (drop p source) p 0 matrix
 
-abbrev pub Judges : List ℕ → Judged → Type 0
-Judges source (Right f n m place) = ChecksRight f n m source place
-Judges source (Stopped place) = loading source ≡ faulty place
+abbrev pub Judges : List ℕ → Result Judged Faulty → Type 0
+Judges source (Ok j) = ChecksRight j.head.form j.head.n j.head.m source j.place
+Judges source (Err e) = loading source ≡ faulty e.place
 
 -- The record ends at place p, or is faulty at place q, where no split is to be performed at place p.
 pub record Ends (source : List ℕ) (p : ℕ) : Type 0 where
@@ -77,6 +72,6 @@ pub record Breaks (source : List ℕ) (p q : ℕ) : Type 0 where
   pub breaks : (f : Form) (n m k : ℕ) (h : Matrix) → (p < length source → split_word f h n m k (get_or source p 0) ≡ false)
       → performing f n m (drop p source) p k h ≡ faulty q
 
-abbrev pub EndRead : List ℕ → ℕ → Ending → Type 0
-EndRead source p Ended = Ends source p
-EndRead source p (Broken q) = Breaks source p q
+abbrev pub EndRead : List ℕ → ℕ → Result ⊤ Faulty → Type 0
+EndRead source p (Ok _) = Ends source p
+EndRead source p (Err e) = Breaks source p e.place

@@ -49,11 +49,10 @@ pub record BitsRead (n : ℕ) (source : List ℕ) (from count j : ℕ) : Type 0 
   pub rising : Rising n source from j low
   pub next : j < count → bit_word n low (get_or source (from + j) 0) ≡ false
 
--- If r is 0, the word is a bit, and above the one before.
-pub record Fault (before w r : ℕ) : Type 0 where
-  pub few : r ≤ 1
-  pub kind : r ≡ 0 → kind_of w ≡ 3
-  pub above : r ≡ 0 → before < w
+-- If r is false, the word is a bit, and above the one before.
+pub record Fault (before w : ℕ) (r : Bool) : Type 0 where
+  pub kind : r ≡ false → kind_of w ≡ 3
+  pub above : r ≡ false → before < w
 
 -- If r is 0, each of `count` words from place `from` on is a bit, and above the one before.
 pub record Rises (source : List ℕ) (from count r : ℕ) : Type 0 where

@@ -1,55 +1,50 @@
-// Judging a record: its form, n, m and the place behind its checks, or the place of a faulty word; and its end.
-ghost use Rattle.std.specs.Prelude.{◌+◌, ◌≤◌, ◌<◌, length};
+// Judging a record: what its first word gives and the place behind its checks, or the place of a faulty word; and its end.
+ghost use Rattle.std.specs.Prelude.{◌≡◌, ◌+◌, ◌≤◌, ◌<◌, length};
+ghost use Rattle.parity.specs.declared.Refusal.TheVariants.{FaultyWord};
 ghost use Rattle.reading.specs.Read.{Run, BitsRead, Fault, Rises, AllBits};
 ghost use Rattle.reading.specs.Judge.{HeadRead, CheckRead, Reached, Judges, EndRead};
 
 use crate::words::{Word, number_in, payload, read};
-use parity::{Check, Form};
+use parity::{Check, Form, Refusal};
 
-// What comes of judging the first word and the checks of a record: `place` is the one behind them, or that of a faulty word.
-#[derive(Clone, Copy)]
-pub enum Judged {
-    Right {
-        form: Form,
-        n: usize,
-        m: usize,
-        place: usize,
-    },
-    Stopped {
-        place: usize,
-    },
+// What the first word gives.
+#[derive(Clone, Copy, Debug, PartialEq, Eq)]
+pub struct Head {
+    pub form: Form,
+    pub n: usize,
+    pub m: usize,
 }
 
-// What comes of judging the end of a record.
-#[derive(Clone, Copy)]
-pub enum Ending {
-    Complete,
-    Broken { place: usize },
+// A record whose first word and checks are right, and the place behind its checks.
+#[derive(Clone, Copy, Debug, PartialEq, Eq)]
+pub struct Judged {
+    pub head: Head,
+    pub place: usize,
 }
 
-// What comes of judging the first word.
-#[derive(Clone, Copy)]
-pub enum Head {
-    Sizes { form: Form, n: usize, m: usize },
-    Faulty,
+// The place of the faulty word.
+#[derive(Clone, Copy, Debug, PartialEq, Eq)]
+pub struct Faulty {
+    pub place: usize,
 }
 
-// What comes of judging a check: the place behind it, or of its faulty word.
-#[derive(Clone, Copy)]
-pub enum Step {
-    Next(usize),
-    Stop(usize),
+impl From<Faulty> for Refusal {
+    ghost from_gives = { λ f r. r ≡ FaultyWord f.place };
+
+    fn from(f: Faulty) -> Refusal {
+        Refusal::FaultyWord { place: f.place }
+    }
 }
 
-// Decides a word by its kind: 0 where it is a bit above the word before, and 1 where it is not, or of another kind.
-fn fault(before: u32, w: u32) -> u32
+// Decides a word by its kind: whether it is no bit, or not above the word before.
+fn fault(before: u32, w: u32) -> bool
     ensures { Fault before w result }
 {
     match w >> 28 {
-        0..=2 => 1,
-        3 => { if before < w { 0 } else { 1 } }
-        4..=15 => 1,
-        16..=0xffff_ffff => 1,
+        0..=2 => true,
+        3 => w <= before,
+        4..=15 => true,
+        16..=0xffff_ffff => true,
     }
 }
 
@@ -61,7 +56,7 @@ fn faults(source: &[u32], from: usize, count: usize) -> u32
 {
     let mut wrong: u32 = 0;
     for i in 0..count {
-        wrong += fault(source[from + i - 1], source[from + i]);
+        wrong += fault(source[from + i - 1], source[from + i]) as u32;
     }
     wrong
 }
@@ -115,109 +110,99 @@ fn bits(source: &[u32], n: usize, from: usize, count: usize) -> usize
     bits_singly(source, n, from, count)
 }
 
-// Judges check `c`, whose kind 2 word is at place `p`.
-fn check(source: &[u32], form: Form, n: usize, c: Check, p: usize) -> Step
+// Judges check `c`, whose kind 2 word is at place `p`, and answers the place behind it.
+fn check(source: &[u32], head: Head, c: Check, p: usize) -> Result<usize, Faulty>
     requires { p ≤ length source.now }
-    ensures { CheckRead form n c.0 source.now p result }
+    ensures { CheckRead head.form head.n c.0 source.now p result }
 {
     if p == source.len() {
-        return Step::Stop(p);
+        return Err(Faulty { place: p });
     }
     let Word::Open(x) = read(source[p]) else {
-        return Step::Stop(p);
+        return Err(Faulty { place: p });
     };
     let number = x / 256;
-    let due_number = number_in(form, c);
+    let due_number = number_in(head.form, c);
     if number != due_number {
-        return Step::Stop(p);
+        return Err(Faulty { place: p });
     }
     let count = x % 256;
-    if n < count {
-        return Step::Stop(p);
+    if head.n < count {
+        return Err(Faulty { place: p });
     }
     let left = source.len() - p - 1;
-    let due = if count < left { count } else { left };
-    let right = bits(source, n, p + 1, due);
+    let due = count.min(left);
+    let right = bits(source, head.n, p + 1, due);
     if right < count {
-        return Step::Stop(p + 1 + right);
+        return Err(Faulty {
+            place: p + 1 + right,
+        });
     }
-    Step::Next(p + 1 + right)
+    Ok(p + 1 + right)
 }
 
 // Judges what is left at place `p`, behind the checks and the splits: the end word, and nothing else.
-pub fn end(source: &[u32], p: usize) -> Ending
+pub fn end(source: &[u32], p: usize) -> Result<(), Faulty>
     requires { p ≤ length source.now }
     ensures { EndRead source.now p result }
 {
     if p == source.len() {
-        return Ending::Broken { place: p };
+        return Err(Faulty { place: p });
     }
     let Word::End(x) = read(source[p]) else {
-        return Ending::Broken { place: p };
+        return Err(Faulty { place: p });
     };
     if x != 0 {
-        return Ending::Broken { place: p };
+        return Err(Faulty { place: p });
     }
     if p + 1 < source.len() {
-        return Ending::Broken { place: p + 1 };
+        return Err(Faulty { place: p + 1 });
     }
-    Ending::Complete
+    Ok(())
 }
 
 // Judges the checks.
-fn checks(source: &[u32], form: Form, n: usize, m: usize) -> Judged
-    requires { Reached form n m source.now 1 0 }
+fn checks(source: &[u32], head: Head) -> Result<Judged, Faulty>
+    requires { Reached head.form head.n head.m source.now 1 0 }
     ensures { Judges source.now result }
 {
-    let mut p = 1;
-    for c in 0..m {
-        match check(source, form, n, Check(c), p) {
-            Step::Next(q) => {
-                p = q;
-            }
-            Step::Stop(q) => {
-                return Judged::Stopped { place: q };
-            }
-        }
+    let mut place = 1;
+    for c in 0..head.m {
+        place = check(source, head, Check(c), place)?;
     }
-    Judged::Right {
-        form,
-        n,
-        m,
-        place: p,
-    }
+    Ok(Judged { head, place })
 }
 
 // Judges the first word.
-fn first_word(w: u32) -> Head
+fn first_word(w: u32) -> Option<Head>
     ensures { HeadRead w result }
 {
     let Word::Head(form, x) = read(w) else {
-        return Head::Faulty;
+        return None;
     };
     let n = x % 256;
     let m = x / 256;
     if n < 1 {
-        return Head::Faulty;
+        return None;
     }
     if 120 < n {
-        return Head::Faulty;
+        return None;
     }
     if 120 < m {
-        return Head::Faulty;
+        return None;
     }
-    Head::Sizes { form, n, m }
+    Some(Head { form, n, m })
 }
 
 // Judges a record, of any form, up to its last check.
-pub fn judge(source: &[u32]) -> Judged
+pub fn judge(source: &[u32]) -> Result<Judged, Faulty>
     ensures { Judges source.now result }
 {
     if source.len() == 0 {
-        return Judged::Stopped { place: 0 };
+        return Err(Faulty { place: 0 });
     }
-    let Head::Sizes { form, n, m } = first_word(source[0]) else {
-        return Judged::Stopped { place: 0 };
-    };
-    checks(source, form, n, m)
+    match first_word(source[0]) {
+        Some(head) => checks(source, head),
+        None => Err(Faulty { place: 0 }),
+    }
 }

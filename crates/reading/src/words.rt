@@ -6,7 +6,7 @@ ghost use Rattle.reading.specs.Read.{Reads};
 use parity::{Check, Form};
 
 // A record word by its kind, with the bits below the kind. The first word's kind is that of the record's form.
-#[derive(Clone, Copy)]
+#[derive(Clone, Copy, Debug, PartialEq, Eq)]
 pub enum Word {
     Head(Form, usize),
     Open(usize),
@@ -48,8 +48,7 @@ pub fn number_in(form: Form, c: Check) -> usize
 {
     match form {
         Form::First => 0,
-        Form::Second => c.0,
-        Form::Third => c.0,
+        Form::Second | Form::Third => c.0,
     }
 }
 

@@ -1,6 +1,6 @@
 -- Laws of the whole: an input that is refused or not, and a text copied to an output. Assumes nothing.
 use Prim.Native.Nat.{ℕ, ◌+◌, ◌*◌, ◌-◌, ◌≤◌, ◌<◌}
-use mathlib.Core.Path.{◌≡◌, ◌∙◌, refl}
+use mathlib.Core.Path.{◌≡◌, refl}
 use mathlib.Core.Bool.{true, false, ◌||◌}
 use mathlib.Core.List.{List, [], ◌∷◌, ◌++◌}
 use native.Mathlib.Omega.{arith}
@@ -12,7 +12,8 @@ use Rattle.parity.specs.Mend.{word_at, wrong_input, record_in, word_in, refused_
 use Rattle.parity.proofs.Finite.Bools.{or_false_both}
 use Rattle.parity.proofs.Finite.Lists.{list_from_more}
 use Rattle.lines.specs.Placed.{placed, Placed}
-use Rattle.receiver.specs.declared.Mending.TheVariants.{Written, TooShort}
+use Rattle.receiver.specs.declared.TooShort.{TooShort}
+use Rattle.std.specs.Prelude.{Result, Ok, Err}
 use Rattle.receiver.specs.Answers.{mending_answer, mending_output}
 use Rattle.receiver.specs.Stages.{words_in, Size, peel_text, orthogonalise_text, load_into, load_text}
 
@@ -54,13 +55,10 @@ first {old} {text} {new} {r} f = rw f.made (take_at text (drop (0 + length text)
 
 -- an output without room is left, and one with room begins with the text
 module _ (text out : List ℕ) (r : ℕ) (e : r ≡ length text) where
-  pub no_room : length out < r → (TooShort r ≡ mending_answer text out) × (out ≡ mending_output text out)
+  pub no_room : length out < r → (◌≡◌ {A = Result ℕ TooShort} (Err (record { needed = r })) (mending_answer text out)) × (out ≡ mending_output text out)
   unfolding mending_answer mending_output
   no_room h = let l = lt-ltb (length out) (length text) (omega arith) in (rw (l, e), rw l)
 
-  pub room : r ≤ length out → (s new : List ℕ) (q : ℕ) → s ≡ text → Placed out 0 s new q → (Written r ≡ mending_answer text out) × (new ≡ mending_output text out)
-  unfolding mending_answer mending_output placed
-  room h s new q p f =
-      let l = le-ltb (length out) (length text) (omega arith) in
-      let z : 0 + length text ≡ length text = omega arith in
-      (rw (l, e), rw l (f.made ∙ rw (p, z)))
+  pub room : r ≤ length out → (s : List ℕ) → s ≡ text → (Ok r ≡ mending_answer text out) × (s ++ drop r out ≡ mending_output text out)
+  unfolding mending_answer mending_output
+  room h s p = let l = le-ltb (length out) (length text) (omega arith) in (rw (l, e), rw (l, p, e))

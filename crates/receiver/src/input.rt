@@ -5,21 +5,12 @@ ghost use Rattle.receiver.specs.Stages.{words_in, Size};
 
 const LONGEST: usize = 65536;
 
-fn wide(x: u8) -> u32
-    ensures { (result ≡ x) × (result < 256) }
-{
-    x as u32
-}
-
 // The number in the four bytes from place p on, highest byte first.
 pub fn number_at(input: &[u8], p: usize) -> u32
     requires { p + 4 ≤ length input.now }
     ensures { result ≡ word_at input.now p }
 {
-    let mut number = wide(input[p]);
-    number = number * 256 + wide(input[p + 1]);
-    number = number * 256 + wide(input[p + 2]);
-    number * 256 + wide(input[p + 3])
+    u32::from_be_bytes([input[p], input[p + 1], input[p + 2], input[p + 3]])
 }
 
 // Whether the input is refused: fewer bytes than 4 or than the record words take, or too many.

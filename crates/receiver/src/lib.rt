@@ -12,21 +12,12 @@ ghost use Rattle.receiver.specs.Answers.{mending_answer, mending_output};
 use crate::input::{is_wrong, read_words, size};
 use crate::stages::load;
 use lines::put_refused;
-use lines::text::put_bytes;
 use parity::Refusal;
 
-// How many bytes of the output are written, or how many it would need.
-#[derive(Clone, Copy)]
-pub enum Mending {
-    Written(usize),
-    TooShort { needed: usize },
-}
-
-// Room for the record words of every input: at most 16,383.
-fn no_words() -> [u32; 16384]
-    ensures { length result ≡ 16384 }
-{
-    [0u32; 16384]
+// The output is too short for the text, which needs so many bytes.
+#[derive(Clone, Copy, Debug, PartialEq, Eq)]
+pub struct TooShort {
+    pub needed: usize,
 }
 
 // Room for every text, as `mend_fits` of proofs/Fits says.
@@ -46,21 +37,22 @@ pub fn put_text(out: &mut [u8; 4096], input: &[u8]) -> usize
     }
     let w = size(input);
     let start = 4 + 4 * w;
-    let mut words = no_words();
+    // the record words of every input that is not refused: at most 16,383
+    let mut words = [0u32; 16384];
     read_words(input, w, &mut words);
     load(out, &words[..w], &input[start..])
 }
 
-// The same for an output of any length: the text is written at its start if it has room, and else it is left as it was.
-pub fn mend(input: &[u8], output: &mut [u8]) -> Mending
+// The same for an output of any length: the text is written at its start if it has room, and else it is left as it was. Answers how many bytes are written.
+pub fn mend(input: &[u8], output: &mut [u8]) -> Result<usize, TooShort>
     ensures value { result ≡ mending_answer (mendText input.now) output.old }
     ensures output_after { output.new ≡ mending_output (mendText input.now) output.old }
 {
     let mut text = no_text();
     let needed = put_text(&mut text, input);
     if output.len() < needed {
-        return Mending::TooShort { needed };
+        return Err(TooShort { needed });
     }
-    put_bytes(output, 0, &text[..needed]);
-    Mending::Written(needed)
+    output[..needed].copy_from_slice(&text[..needed]);
+    Ok(needed)
 }

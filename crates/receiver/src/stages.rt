@@ -5,18 +5,9 @@ ghost use Rattle.lines.specs.Placed.{Placed};
 ghost use Rattle.receiver.specs.Stages.{peel_text, orthogonalise_text, load_text};
 
 use lines::{put_refused, put_report};
-use orthogonalise::Orthogonalising;
 use parity::Refusal;
-use peel::{Peeling, peel_admitted};
-use record::Loading;
+use peel::peel_admitted;
 use sets::bytes::{erased_behind, first_above};
-
-// Words of an empty matrix.
-fn empty_words() -> [u64; 4096]
-    ensures { result ≡ replicate 4096 0 }
-{
-    [0u64; 4096]
-}
 
 // Peels a word of n + k bytes, if each is up to 2.
 fn peel_word(
@@ -33,13 +24,12 @@ fn peel_word(
     requires k_value { (cause words.now n m k ≡ 0) × (length word.old ≡ n + k) }
     ensures { Placed out.old 0 (peel_text words.now n m k splits sum word.old) out.new result }
 {
-    let place = first_above(word, 2);
-    if place < word.len() {
-        return put_refused(out, Refusal::WrongByte { place });
-    }
-    match peel_admitted(words, n, m, k, word) {
-        Peeling::Refused(r) => put_refused(out, r),
-        Peeling::Made(_) => put_report(out, splits, sum, word, n),
+    match first_above(word, 2) {
+        Some(place) => put_refused(out, Refusal::WrongByte { place }),
+        None => match peel_admitted(words, n, m, k, word) {
+            Err(why) => put_refused(out, why),
+            Ok(_) => put_report(out, splits, sum, word, n),
+        },
     }
 }
 
@@ -79,13 +69,8 @@ fn orthogonalise(
     ensures { Placed out.old 0 (orthogonalise_text words.old n m j sent.now) out.new result }
 {
     match orthogonalise::orthogonalise_accepted(words, n, m, j) {
-        Orthogonalising::Refused(r) => put_refused(out, r),
-        Orthogonalising::Finished {
-            splits,
-            sum,
-            k,
-            held: _,
-        } => peel_sent(out, words, n, m, k, splits, sum, sent),
+        Err(why) => put_refused(out, why),
+        Ok(o) => peel_sent(out, words, n, m, o.k, o.splits, o.sum, sent),
     }
 }
 
@@ -94,9 +79,9 @@ pub fn load(out: &mut [u8], source: &[u32], sent: &[u8]) -> usize
     requires { length (load_text source.now sent.now) ≤ length out.old }
     ensures { Placed out.old 0 (load_text source.now sent.now) out.new result }
 {
-    let mut words = empty_words();
+    let mut words = [0u64; 4096];
     match record::load(source, &mut words) {
-        Loading::Refused(r) => put_refused(out, r),
-        Loading::Loaded { n, m, k } => orthogonalise(out, &mut words, n, m, k, sent),
+        Err(why) => put_refused(out, why),
+        Ok(loaded) => orthogonalise(out, &mut words, loaded.n, loaded.m, loaded.k, sent),
     }
 }

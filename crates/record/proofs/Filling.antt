@@ -1,68 +1,82 @@
 -- Filling the matrix's words: no ones, the bits of a row, and the checks one after another. Assumes nothing.
-use mathlib.Core.Path.{◌≡◌, sym, ◌∙◌, fun_ext}
+use mathlib.Core.Path.{◌≡◌, refl, sym, ap, ◌∙◌, fun_ext}
 use mathlib.Core.Bool.{true, false}
 use mathlib.Core.List.{List}
 use Prim.Native.Nat.{ℕ, zero, suc, ◌+◌, ◌*◌, ◌-◌, ◌/◌, ◌%◌, ◌^◌, ◌≤◌, ◌<◌}
 use native.Mathlib.Nat.{add-zero, add-suc, zero-add}
 use native.Mathlib.Numerals.{add-one}
-use native.Mathlib.Decide.{ℕ_discrete, dec_lt}
+use native.Mathlib.Decide.{ℕ_discrete}
 use native.Mathlib.Omega.{arith}
 use lib.Bits.{bit_or}
-use lib.ListN.{get_or, length, set, length-set, drop, get_or-eq_default}
+use lib.Dec.{ltb}
+use lib.ListN.{get_or, length, set, length-set, take, drop}
+use borrow.Author.Tests.{lt-ltb, ltb-true, ltb-false}
+use borrow.Author.Tests.{lt-ltb, ltb-true, ltb-false}
 use lib.Seq.{get_or-set_same, set-get_or, set-set}
 use Rattle.parity.specs.Matrix.{Matrix, lent, put}
 use Rattle.parity.specs.Record.{payload, form_of, open_word, checked}
 use Rattle.parity.specs.declared.Form.{Form}
-use Rattle.parity.proofs.Matrix.Digits.{bit_zero, one_shl}
-use Rattle.parity.proofs.Matrix.Lent.{lent_in, lent_out, raised_put}
+use Rattle.parity.proofs.Matrix.Digits.{one_shl}
+use Rattle.parity.proofs.Matrix.Lent.{raised_put}
 use Rattle.parity.proofs.Record.Reading.{reading_at, bits, opens, read_open, read_bit, right_more, right_open, right_more_bit, right_bit, right_done}
 use Rattle.reading.specs.Read.{puts}
-use Rattle.rows.specs.Zeros.{Zeroed}
-use Rattle.record.specs.Fill.{Payloads, InWord, Parted, gathered, Checks, Filled}
+use Rattle.rows.specs.Rows.{Empty}
+use Rattle.std.specs.List.{between}
+use Rattle.std.specs.List.Sorted.{IsPartitionedBy, IsPartitionPoint}
+use Rattle.std.proofs.lemmas.List.{get_or_default, get_or-take, get_or-drop, length-take-le, length-drop}
+use Rattle.std.proofs.lemmas.List.Edits.{length-between, get_or-between}
+use Rattle.record.specs.Fill.{Payloads, InWord, gathered, Checks, Filled}
 
 abbrev none : Matrix
 none c b = false
 
--- words that are all 0
-pub zeroed_none : (W : ℕ) (ws : List ℕ) → Zeroed ws (length ws) → lent W ws ≡ none
-zeroed_none W ws Z = fun_ext (λ c. fun_ext (λ b. at c b))
-  where
-    word : (i : ℕ) → get_or ws i 0 ≡ 0
-    word i = elim (dec_lt i (length ws)) [ yes k ↦ Z.none i k | no k ↦ get_or-eq_default ws 0 {n = i} (omega arith) ]
+pub none_in : (h : Matrix) → Empty h → h ≡ none
+none_in h E = fun_ext (λ c. fun_ext (λ b. E.at c b))
 
-    at : (c b : ℕ) → lent W ws c b ≡ false
-    at c b =
-        elim (dec_lt b (W * 64)) [
-          | yes k ↦ lent_in W ws c b k ∙ rw (word (c * W + b / 64)) (bit_zero (b % 64))
-          | no k ↦ lent_out W ws c b (omega arith)
-        ]
-
-pub gathered_next : (source : List ℕ) (from i x y b : ℕ) → y ≡ gathered source from i x → b ≡ payload (get_or source (from + i) 0)
-    → bit_or y (1 * 2 ^ (b % 64) % 2 ^ 64) ≡ gathered source from (i + 1) x
+pub gathered_next : (ones : List ℕ) (i x y b : ℕ) → y ≡ gathered ones i x → b ≡ payload (get_or ones i 0)
+    → bit_or y (1 * 2 ^ (b % 64) % 2 ^ 64) ≡ gathered ones (i + 1) x
 unfolding gathered
-gathered_next source from i x y b e q = rw (add-one i, q, e, one_shl (payload (get_or source (from + i) 0) % 64) (omega arith))
+gathered_next ones i x y b e q = rw (add-one i, q, e, one_shl (payload (get_or ones i 0) % 64) (omega arith))
 
 -- the bits of words that all are in one word of a row
-pub word_puts : (W : ℕ) (source : List ℕ) (from count i j c : ℕ) (ws : List ℕ) → InWord source from count i → j ≤ count → i < W → c * W + W ≤ length ws
-    → lent W (set ws (c * W + i) (gathered source from j (get_or ws (c * W + i) 0))) ≡ puts source c from j (lent W ws)
+pub word_puts : (W : ℕ) (ones : List ℕ) (i j c : ℕ) (ws : List ℕ) → InWord ones i → j ≤ length ones → i < W → c * W + W ≤ length ws
+    → lent W (set ws (c * W + i) (gathered ones j (get_or ws (c * W + i) 0))) ≡ puts ones c 0 j (lent W ws)
 unfolding puts gathered
-word_puts W source from count i zero c ws B l k room = rw (set-get_or ws (c * W + i) 0)
-word_puts W source from count i (suc j) c ws B l k room =
+word_puts W ones i zero c ws B l k room = rw (set-get_or ws (c * W + i) 0)
+word_puts W ones i (suc j) c ws B l k room =
     let at : ℕ = c * W + i in
-    let y : ℕ = gathered source from j (get_or ws at 0) in
-    let b : ℕ = payload (get_or source (from + j) 0) in
+    let y : ℕ = gathered ones j (get_or ws at 0) in
+    let b : ℕ = payload (get_or ones j 0) in
     let q : b / 64 ≡ i = B.word j (omega arith) in
     let e : c * W + b / 64 ≡ at = rw q in
     let s = length-set ws at y in
     let few : b < W * 64 = omega arith in
-    rw (← word_puts W source from count i j c ws B (omega arith) k room)
+    rw (← word_puts W ones i j c ws B (omega arith) k room, zero-add j)
     (rw (e, get_or-set_same ws at y 0 (omega arith), set-set ws at y (bit_or y (2 ^ (b % 64)))) at (raised_put W (set ws at y) c b (rw e (omega arith)) few))
 
--- the bit of one word more
-pub puts_next : (source : List ℕ) (c from i : ℕ) (h g k : Matrix) (b : ℕ) → g ≡ puts source c from i h → b ≡ payload (get_or source (from + i) 0) → k ≡ put c b true g
-    → k ≡ puts source c from (i + 1) h
+-- words that are the same in two lists
+puts_same : (a b : List ℕ) (c f g k : ℕ) (h : Matrix) → ((j : ℕ) → j < k → get_or a (f + j) 0 ≡ get_or b (g + j) 0) → puts a c f k h ≡ puts b c g k h
 unfolding puts
-puts_next source c from i h g k b e q t = rw (add-one i, t, q, e)
+puts_same a b c f g zero h e = refl
+puts_same a b c f g (suc k) h e = rw (puts_same a b c f g k h (λ j l. e j (omega arith)), e k (omega arith))
+
+-- a part of a record
+module _ (source : List ℕ) (p count : ℕ) (k : p + count ≤ length source) where
+  abbrev pub part : List ℕ
+  part = between p (p + count) source
+
+  pub part_length : length part ≡ count
+  part_length = length-between source p (p + count) k ∙ omega arith
+
+  pub puts_part : (c : ℕ) (h : Matrix) → puts part c 0 (length part) h ≡ puts source c p count h
+  puts_part c h =
+      ap (λ (n : ℕ). puts part c 0 n h) part_length ∙ puts_same part source c 0 p count h (λ j l. rw (zero-add j) (get_or-between source p (p + count) j 0 (omega arith)))
+
+-- the bit of one word more
+pub puts_next : (ones : List ℕ) (c i : ℕ) (h g k : Matrix) (b : ℕ) → g ≡ puts ones c 0 i h → b ≡ payload (get_or ones i 0) → k ≡ put c b true g
+    → k ≡ puts ones c 0 (i + 1) h
+unfolding puts
+puts_next ones c i h g k b e q t = rw (add-one i, zero-add i, t, q, e)
 
 -- the bits of i words, and then those of j more
 pub puts_more : (source : List ℕ) (c from i j : ℕ) (h : Matrix) → puts source c (from + i) j (puts source c from i h) ≡ puts source c from (i + j) h
@@ -70,36 +84,43 @@ unfolding puts
 puts_more source c from i zero h = rw (add-zero i)
 puts_more source c from i (suc j) h = let e : from + i + j ≡ from + (i + j) = omega arith in rw (add-suc i j, e, puts_more source c from i j h)
 
--- counting the words whose bits are below 64, of those of which the bits rise
-pub part_none : (source : List ℕ) (from : ℕ) → Parted source from 0 0
-part_none source from = record { top = omega arith; low = λ j k. absurd (omega arith); high = λ j k l. absurd (omega arith) }
+-- rising bits, those below 64 and the others
+module _ (ones : List ℕ) (P : Payloads ones 128) where
+  pub parted : IsPartitionedBy (λ w. ltb (payload w) 64) ones
+  parted i j d l k e =
+      elim (ℕ_discrete i j) [
+        | yes q ↦ rw q e
+        | no q ↦ lt-ltb (payload (get_or ones i d)) 64 (omega (arith, ltb-true (payload (get_or ones j d)) 64 e, rw (same i d (omega arith), same j d k) at (P.rising i j (omega arith) k)))
+      ]
+    where
+      same : (i d : ℕ) → i < length ones → get_or ones i 0 ≡ get_or ones i d
+      same i d l = get_or_default ones i 0 d l
 
-module _ (source : List ℕ) (from count N i r : ℕ) (P : Payloads source from count N) (k : i < count) (C : Parted source from i r) where
-  pub part_low : payload (get_or source (from + i) 0) < 64 → Parted source from (i + 1) (r + 1)
-  part_low b = record {
-    top = omega (arith, C.top);
-    low = λ j l. elim (ℕ_discrete j i) [ yes q ↦ rw q b | no d ↦ omega (arith, P.rising j i (omega (arith, C.top)) k) ];
-    high = λ j l m. elim (dec_lt r i) [ yes q ↦ absurd (omega (arith, C.high r (omega arith) q, P.rising r i q k)) | no q ↦ absurd (omega arith) ];
-  }
+  module _ (r : ℕ) (l : r ≤ length ones) (C : IsPartitionPoint (λ w. ltb (payload w) 64 ≡ true) (λ w. ltb (payload w) 64 ≡ false) ones r) where
+    pub low_word : InWord (take r ones) 0
+    low_word = record {
+      word = λ j k.
+          let t : j < r = omega (arith, length-take-le r ones l) in
+          rw (get_or-take r ones j 0 t) (omega (arith, ltb-true (payload (get_or ones j 0)) 64 (C.0 j 0 (omega arith) t)));
+    }
 
-  pub part_high : 64 ≤ payload (get_or source (from + i) 0) → Parted source from (i + 1) r
-  part_high b = record {
-    top = omega (arith, C.top);
-    low = C.low;
-    high = λ j l m. elim (ℕ_discrete j i) [ yes q ↦ rw q b | no d ↦ C.high j l (omega arith) ];
-  }
+    pub high_word : InWord (drop r ones) 1
+    high_word = record {
+      word = λ j k.
+          let t : r + j < length ones = omega (arith, length-drop r ones) in
+          rw (get_or-drop r ones j 0) (omega (arith, ltb-false (payload (get_or ones (r + j) 0)) 64 (C.1 (r + j) 0 (omega arith) t), P.below (r + j) t));
+    }
 
-module _ (source : List ℕ) (from count r : ℕ) (P : Payloads source from count 128) (C : Parted source from count r) where
-  pub low_word : InWord source from r 0
-  low_word = record { inside = omega (arith, P.inside, C.top); word = λ j k. omega (arith, C.low j k) }
-
-  pub high_word : InWord source (from + r) (count - r) 1
-  high_word = record {
-    inside = omega (arith, P.inside, C.top);
-    word = λ j k.
-        let e : from + r + j ≡ from + (r + j) = omega arith in
-        rw e (omega (arith, C.high (r + j) (omega arith) (omega arith), P.below (r + j) (omega arith)));
-  }
+    pub both_words : (c : ℕ) (h : Matrix) → puts (drop r ones) c 0 (length (drop r ones)) (puts (take r ones) c 0 (length (take r ones)) h) ≡ puts ones c 0 (length ones) h
+    both_words c h =
+        let e : r + (length ones - r) ≡ length ones = omega arith in
+        let n = length ones - r in
+        let front = ap (λ (k : ℕ). puts (take r ones) c 0 k h) (length-take-le r ones l) ∙ puts_same (take r ones) ones c 0 0 r h (λ j k. rw (zero-add j) (get_or-take r ones j 0 k)) in
+        ap (λ (g : Matrix). puts (drop r ones) c 0 (length (drop r ones)) g) front
+        ∙ ap (λ (k : ℕ). puts (drop r ones) c 0 k (puts ones c 0 r h)) (length-drop r ones)
+        ∙ puts_same (drop r ones) ones c 0 (0 + r) n (puts ones c 0 r h) (λ j k. rw (zero-add j, zero-add r) (get_or-drop r ones j 0))
+        ∙ puts_more ones c 0 r n h
+        ∙ ap (λ (k : ℕ). puts ones c 0 k h) e
 
 -- the ones of a check of a record whose checks are right, j of them read
 pub record BitsIn (f : Form) (n m : ℕ) (source : List ℕ) (from c j d : ℕ) (g : Matrix) (ws : List ℕ) (q : ℕ) (h : Matrix) : Type 0 where
@@ -178,19 +199,29 @@ module _ (m : ℕ) (source : List ℕ) (p c : ℕ) (h : Matrix) (F : Filling m s
   opened : open_word f n c (get_or source p 0) ≡ true
   opened = right_open f n m source p c F.low h F.behind F.place F.matrix l F.rest
 
-  pub filling_count : payload (get_or source p 0) % 256 ≤ 120
-  filling_count = omega (arith, (opens f n c (get_or source p 0) opened).2, F.few)
-
   all_in : BitsIn f n m source (p + 1) (suc c) (payload (get_or source p 0) % 256) 0 h F.behind F.place F.matrix
   all_in =
       bits_in f n m source (p + 1) (suc c) (payload (get_or source p 0) % 256) 0 0 h F.behind F.place F.matrix (omega (arith, filling_more))
       (rw (add-zero (payload (get_or source p 0) % 256), add-one p) (sym (read_open f n m source p c F.low h filling_more l opened) ∙ F.rest))
 
-  pub filling_payloads : Payloads source (p + 1) (payload (get_or source p 0) % 256) 128
-  filling_payloads = record { inside = omega (arith, all_in.inside); below = λ j k. omega (arith, all_in.below j k, F.few); rising = all_in.rising }
+  pub filling_inside : p + 1 + payload (get_or source p 0) % 256 ≤ length source
+  filling_inside = all_in.inside
 
-  pub filling_next : (new : Matrix) → new ≡ puts source c (p + 1) (payload (get_or source p 0) % 256) h
-      → Filling m source (p + 1 + payload (get_or source p 0) % 256) (c + 1) new
+  abbrev pub here : List ℕ
+  here = between (p + 1) (p + 1 + payload (get_or source p 0) % 256) source
+
+  pub filling_payloads : Payloads here 128
+  filling_payloads =
+      let n : ℕ = payload (get_or source p 0) % 256 in
+      let e = part_length source (p + 1) n filling_inside in
+      let at : (j : ℕ) → j < n → get_or here j 0 ≡ get_or source (p + 1 + j) 0 = λ j k. get_or-between source (p + 1) (p + 1 + n) j 0 (omega arith) in
+      record {
+        below = λ j k. rw (at j (omega arith)) (omega (arith, all_in.below j (omega arith), F.few));
+        rising = λ i j k t. rw (at i (omega arith), at j (omega arith)) (all_in.rising i j k (omega arith));
+      }
+
+  pub filling_next : (new : Matrix) → new ≡ puts here c 0 (length here) h
+      → Filling m source (p + (1 + payload (get_or source p 0) % 256)) (c + 1) new
   filling_next new s = record {
     few = F.few;
     checks = F.checks;
@@ -199,7 +230,11 @@ module _ (m : ℕ) (source : List ℕ) (p c : ℕ) (h : Matrix) (F : Filling m s
     matrix = F.matrix;
     reads = F.reads;
     low = all_in.low;
-    rest = let t : suc c - 1 ≡ c = omega arith in rw (s, add-one c) (rw t at all_in.rest);
+    rest =
+        let t : suc c - 1 ≡ c = omega arith in
+        let u : p + (1 + payload (get_or source p 0) % 256) ≡ p + 1 + payload (get_or source p 0) % 256 = omega arith in
+        let v = s ∙ puts_part source (p + 1) (payload (get_or source p 0) % 256) filling_inside c h in
+        rw (u, v, add-one c) (rw t at all_in.rest);
   }
 
 pub filling_end : (m : ℕ) (source : List ℕ) (p : ℕ) (ws : List ℕ) → Filling m source p m (lent 8 ws) → Filled m source ws

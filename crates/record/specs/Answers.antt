@@ -1,9 +1,6 @@
--- What loading answers, as document 01's numbers and values. Assumes nothing.
-use Rattle.std.specs.Prelude.{[], ◌∷◌}
-use Rattle.parity.specs.Causes.{Reply, answer, refusal_of}
-use Rattle.record.specs.declared.Loading.{Loading}
-use Rattle.record.specs.declared.Loading.TheVariants as L
+-- The values that loading answers. Assumes nothing.
+use Rattle.std.specs.Prelude.{ℕ, List, [], ◌∷◌}
+use Rattle.record.specs.declared.Sizes.{Sizes}
 
-abbrev pub loading_reply : Loading → Reply
-loading_reply (L.Loaded n m k) = answer (n ∷ m ∷ k ∷ [])
-loading_reply (L.Refused r) = refusal_of r
+abbrev pub sizes_values : Sizes → List ℕ
+sizes_values s = s.n ∷ s.m ∷ s.k ∷ []

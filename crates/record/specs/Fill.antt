@@ -1,32 +1,24 @@
 -- What filling the matrix's words from a record answers. Assumes nothing.
-use Rattle.std.specs.Prelude.{◌≡◌, false, List, ℕ, zero, suc, ◌+◌, ◌/◌, ◌%◌, ◌^◌, ◌≤◌, ◌<◌, get_or, length, drop}
+use Rattle.std.specs.Prelude.{◌≡◌, false, List, ℕ, zero, suc, ◌/◌, ◌%◌, ◌^◌, ◌<◌, get_or, length, drop}
 use Rattle.std.specs.Int.Bits.{bit_or}
 use Rattle.parity.specs.Matrix.{Matrix, lent}
 use Rattle.parity.specs.Record.{payload, form_of, checked, reading}
 use Rattle.parity.specs.declared.Form.{Form}
 use Rattle.reading.specs.Judge.{ChecksRight}
 
--- the payloads of `count` words from place `from` on rise, and are below N
-pub record Payloads (source : List ℕ) (from count N : ℕ) : Type 0 where
-  pub inside : from + count ≤ length source
-  pub below : (j : ℕ) → j < count → payload (get_or source (from + j) 0) < N
-  pub rising : (i j : ℕ) → i < j → j < count → payload (get_or source (from + i) 0) < payload (get_or source (from + j) 0)
+-- the payloads of record words rise, and are below N
+pub record Payloads (ones : List ℕ) (N : ℕ) : Type 0 where
+  pub below : (j : ℕ) → j < length ones → payload (get_or ones j 0) < N
+  pub rising : (i j : ℕ) → i < j → j < length ones → payload (get_or ones i 0) < payload (get_or ones j 0)
 
 -- they all are in word i of a row
-pub record InWord (source : List ℕ) (from count i : ℕ) : Type 0 where
-  pub inside : from + count ≤ length source
-  pub word : (j : ℕ) → j < count → payload (get_or source (from + j) 0) / 64 ≡ i
+pub record InWord (ones : List ℕ) (i : ℕ) : Type 0 where
+  pub word : (j : ℕ) → j < length ones → payload (get_or ones j 0) / 64 ≡ i
 
--- the first r of them are below 64, and the others are not
-pub record Parted (source : List ℕ) (from count r : ℕ) : Type 0 where
-  pub top : r ≤ count
-  pub low : (j : ℕ) → j < r → payload (get_or source (from + j) 0) < 64
-  pub high : (j : ℕ) → r ≤ j → j < count → 64 ≤ payload (get_or source (from + j) 0)
-
--- the word x with the bits, modulo 64, of j words from place `from` on
-unfoldable pub gathered : List ℕ → ℕ → ℕ → ℕ → ℕ
-gathered source from zero x = x
-gathered source from (suc j) x = bit_or (gathered source from j x) (2 ^ (payload (get_or source (from + j) 0) % 64))
+-- the word x with the bits, modulo 64, of the first j of them
+unfoldable pub gathered : List ℕ → ℕ → ℕ → ℕ
+gathered ones zero x = x
+gathered ones (suc j) x = bit_or (gathered ones j x) (2 ^ (payload (get_or ones j 0) % 64))
 
 -- a record of m checks that are right
 pub record Checks (m : ℕ) (source : List ℕ) : Type 0 where

@@ -7,22 +7,22 @@ ghost use Rattle.parity.specs.Causes.{refusal, held_values, refusal_of, numbered
 use parity::{Holders, Numbered, Refusal};
 
 // A number with one value and the checks that hold a pair.
-pub fn one_held(number: u32, first: u64, held: Holders) -> Numbered
+pub fn one_held(number: u32, first: u64, held: Option<Holders>) -> Numbered
     ensures { numbered_reply result ≡ refusal number (first ∷ held_values held) }
 {
     match held {
-        Holders::None => Numbered::One(number, first),
-        Holders::Both(low, high) => Numbered::Three(number, first, low.0 as u64, high.0 as u64),
+        None => Numbered::One(number, first),
+        Some(Holders { low, high }) => Numbered::Three(number, first, low.0 as u64, high.0 as u64),
     }
 }
 
 // A number with two values and the checks that hold a pair.
-pub fn two_held(number: u32, first: u64, second: u64, held: Holders) -> Numbered
+pub fn two_held(number: u32, first: u64, second: u64, held: Option<Holders>) -> Numbered
     ensures { numbered_reply result ≡ refusal number (first ∷ second ∷ held_values held) }
 {
     match held {
-        Holders::None => Numbered::Two(number, first, second),
-        Holders::Both(low, high) => Numbered::Four(
+        None => Numbered::Two(number, first, second),
+        Some(Holders { low, high }) => Numbered::Four(
             number,
             first,
             second,
@@ -33,12 +33,18 @@ pub fn two_held(number: u32, first: u64, second: u64, held: Holders) -> Numbered
 }
 
 // A number with three values and the checks that hold a pair.
-pub fn three_held(number: u32, first: u64, second: u64, third: u64, held: Holders) -> Numbered
+pub fn three_held(
+    number: u32,
+    first: u64,
+    second: u64,
+    third: u64,
+    held: Option<Holders>,
+) -> Numbered
     ensures { numbered_reply result ≡ refusal number (first ∷ second ∷ third ∷ held_values held) }
 {
     match held {
-        Holders::None => Numbered::Three(number, first, second, third),
-        Holders::Both(low, high) => {
+        None => Numbered::Three(number, first, second, third),
+        Some(Holders { low, high }) => {
             Numbered::Five(number, first, second, third, low.0 as u64, high.0 as u64)
         }
     }

@@ -28,12 +28,12 @@ fn eliminate_in(
     if !even_from(rows, width, r, count, known) {
         return false;
     }
-    write_pivots(rows, width, pivots, r, residue, known, left, values);
+    write_pivots(rows, width, &pivots[..r], residue, known, left, values);
     true
 }
 
-// The same, with the room of a matrix of few checks of one word.
-fn eliminate_small(
+// The same, with room for rows of `ROOM` words in all, and for `CHECKS` pivots.
+fn eliminate_with<const ROOM: usize, const CHECKS: usize>(
     words: &[u64],
     width: usize,
     bits: usize,
@@ -43,11 +43,11 @@ fn eliminate_small(
     left: &mut [u64],
     values: &mut [u64],
 ) -> bool
-    requires { Posed width words.now bits checks residue.now known.now left.old values.old × (checks ≤ 64) × (checks * width ≤ 64) }
+    requires { Posed width words.now bits checks residue.now known.now left.old values.old × (checks ≤ CHECKS) × (checks * width ≤ ROOM) × (CHECKS ≤ 512) × (ROOM ≤ 4096) }
     ensures { Eliminated words.now bits checks residue.now known.now result left.new values.new }
 {
-    let mut rows = [0u64; 64];
-    let mut pivots = [0usize; 64];
+    let mut rows = [0u64; ROOM];
+    let mut pivots = [0usize; CHECKS];
     eliminate_in(
         words,
         width,
@@ -62,67 +62,8 @@ fn eliminate_small(
     )
 }
 
-// The same, with the room of a matrix of two or three words.
-fn eliminate_medium(
-    words: &[u64],
-    width: usize,
-    bits: usize,
-    checks: usize,
-    residue: &[u64],
-    known: &[u64],
-    left: &mut [u64],
-    values: &mut [u64],
-) -> bool
-    requires { Posed width words.now bits checks residue.now known.now left.old values.old × (checks ≤ 128) × (checks * width ≤ 512) }
-    ensures { Eliminated words.now bits checks residue.now known.now result left.new values.new }
-{
-    let mut rows = [0u64; 512];
-    let mut pivots = [0usize; 128];
-    eliminate_in(
-        words,
-        width,
-        bits,
-        checks,
-        residue,
-        known,
-        left,
-        values,
-        &mut rows,
-        &mut pivots,
-    )
-}
-
-// The same, with the room of any matrix.
-fn eliminate_large(
-    words: &[u64],
-    width: usize,
-    bits: usize,
-    checks: usize,
-    residue: &[u64],
-    known: &[u64],
-    left: &mut [u64],
-    values: &mut [u64],
-) -> bool
-    requires { Posed width words.now bits checks residue.now known.now left.old values.old }
-    ensures { Eliminated words.now bits checks residue.now known.now result left.new values.new }
-{
-    let mut rows = [0u64; 4096];
-    let mut pivots = [0usize; 512];
-    eliminate_in(
-        words,
-        width,
-        bits,
-        checks,
-        residue,
-        known,
-        left,
-        values,
-        &mut rows,
-        &mut pivots,
-    )
-}
-
-// The same: to clear the room of any matrix takes longer than the elimination of few checks.
+// The same: to clear the room of any matrix takes longer than the elimination of few checks, so a matrix of few checks of one word and one of two or three
+// words have less.
 pub fn eliminate(
     words: &[u64],
     width: usize,
@@ -136,15 +77,11 @@ pub fn eliminate(
     requires { Posed width words.now bits checks residue.now known.now left.old values.old }
     ensures { Eliminated words.now bits checks residue.now known.now result left.new values.new }
 {
-    if checks <= 64 {
-        if checks * width <= 64 {
-            return eliminate_small(words, width, bits, checks, residue, known, left, values);
-        }
+    if checks <= 64 && checks * width <= 64 {
+        return eliminate_with::<64, 64>(words, width, bits, checks, residue, known, left, values);
     }
-    if checks <= 128 {
-        if checks * width <= 512 {
-            return eliminate_medium(words, width, bits, checks, residue, known, left, values);
-        }
+    if checks <= 128 && checks * width <= 512 {
+        return eliminate_with::<512, 128>(words, width, bits, checks, residue, known, left, values);
     }
-    eliminate_large(words, width, bits, checks, residue, known, left, values)
+    eliminate_with::<4096, 512>(words, width, bits, checks, residue, known, left, values)
 }

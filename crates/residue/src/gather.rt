@@ -27,17 +27,11 @@ pub fn gather(words: &[u64], width: usize, checks: usize, set: &[u64], rows: &mu
     requires { (length words.now ≡ 4096) × (checks ≤ 512) × (length set.now ≡ 8) × (width ≤ 8) × (checks * width ≤ length rows.old) }
     ensures { Gathered (lent 8 words.now) (lent width rows.new) (width * 64) checks (lent 8 set.now 0) result }
 {
-    if width == 1 {
-        return gather_in(words, 1, checks, set, rows);
+    match width {
+        1 => gather_in(words, 1, checks, set, rows),
+        2 => gather_in(words, 2, checks, set, rows),
+        3 => gather_in(words, 3, checks, set, rows),
+        4 => gather_in(words, 4, checks, set, rows),
+        _ => gather_in(words, width, checks, set, rows),
     }
-    if width == 2 {
-        return gather_in(words, 2, checks, set, rows);
-    }
-    if width == 3 {
-        return gather_in(words, 3, checks, set, rows);
-    }
-    if width == 4 {
-        return gather_in(words, 4, checks, set, rows);
-    }
-    gather_in(words, width, checks, set, rows)
 }

@@ -9,7 +9,7 @@ ghost use Rattle.sets.specs.Sets.{Short};
 ghost use Rattle.result.specs.Result.{BothShort, WithSets, agreeing, filled, Reaching, WordWritten, Finished};
 
 use parity::Check;
-use rows::{contains, wide};
+use rows::contains;
 use sets::{is_odd, touches};
 
 // Whether each of the first `checks` checks without an erased bit is even, by their first `used` words. Where nothing is erased, no check is odd but for a
@@ -43,43 +43,29 @@ fn agree_left(words: &[u64], used: usize, checks: usize, erased: &[u64], ones: &
     true
 }
 
-// The same of sets whose bits are in the first `used` words, where a bit is erased. Where these are one, two or all, their number is known beforehand.
-fn agree_beside(words: &[u64], used: usize, checks: usize, erased: &[u64], ones: &[u64]) -> bool
-    requires with_sets { WithSets words.now checks erased.now ones.now used }
-    requires both_short { BothShort used erased.now ones.now }
-    ensures { result ≡ agreeing (lent 8 words.now) 512 checks (lent 8 erased.now 0) (lent 8 ones.now 0) }
+// What `asks` answers for the first `used` words. Where these are one, two or all, their number is known beforehand.
+fn in_words<F: Fn(usize) -> bool>(used: usize, asks: F) -> bool
+    requires { F.pre asks used }
+    ensures { F.post asks used result }
 {
-    if used == 1 {
-        return agree_left(words, 1, checks, erased, ones);
+    match used {
+        1 => asks(1),
+        2 => asks(2),
+        8 => asks(8),
+        _ => asks(used),
     }
-    if used == 2 {
-        return agree_left(words, 2, checks, erased, ones);
-    }
-    if used == 8 {
-        return agree_left(words, 8, checks, erased, ones);
-    }
-    agree_left(words, used, checks, erased, ones)
 }
 
-// The same, whether a bit is erased or none. Where the words are one, two or all, their number is known beforehand.
+// The same of sets whose bits are in the first `used` words, whether a bit is erased or none.
 pub fn agree(words: &[u64], used: usize, checks: usize, erased: &[u64], ones: &[u64]) -> bool
     requires with_sets { WithSets words.now checks erased.now ones.now used }
     requires both_short { BothShort used erased.now ones.now }
     ensures { result ≡ agreeing (lent 8 words.now) 512 checks (lent 8 erased.now 0) (lent 8 ones.now 0) }
 {
     if rows::touches(erased, 0, erased, 0, 8, 8) {
-        return agree_beside(words, used, checks, erased, ones);
+        return in_words(used, |u| agree_left(words, u, checks, erased, ones));
     }
-    if used == 1 {
-        return agree_in(words, 1, checks, erased, ones);
-    }
-    if used == 2 {
-        return agree_in(words, 2, checks, erased, ones);
-    }
-    if used == 8 {
-        return agree_in(words, 8, checks, erased, ones);
-    }
-    agree_in(words, used, checks, erased, ones)
+    in_words(used, |u| agree_in(words, u, checks, erased, ones))
 }
 
 // The byte of bit `b`, which is not erased.
@@ -87,10 +73,7 @@ fn byte_at(ones: &[u64], width: usize, b: usize) -> u8
     requires { (width ≤ length ones.now) × (b < width * 64) }
     ensures { result ≡ one (lent width ones.now 0 b) }
 {
-    if contains(ones, width, 0, b) {
-        return 1;
-    }
-    0
+    contains(ones, width, 0, b) as u8
 }
 
 // Each bit that is a one of `x`, word `i` of a set, gets its byte.
@@ -100,7 +83,7 @@ fn write_ones(word: &mut [u8], i: usize, x: u64, ones: &[u64], width: usize)
 {
     let mut rest = x;
     while rest != 0 {
-        let b = i * 64 + wide(u64::trailing_zeros(rest));
+        let b = i * 64 + rest.trailing_zeros() as usize;
         word[b] = byte_at(ones, width, b);
         rest = rest & (rest - 1);
     }

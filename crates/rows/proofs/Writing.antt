@@ -1,17 +1,19 @@
 -- Words that are written one after the other, over their number, and what the bits of the rows are then. Assumes nothing.
 use mathlib.Core.Path.{◌≡◌, refl, sym, ap, ◌∙◌, fun_ext}
 use mathlib.Core.Bool.{Bool, false}
-use mathlib.Core.List.{List}
-use Prim.Native.Nat.{ℕ, ◌+◌, ◌*◌, ◌/◌, ◌%◌, ◌≤◌, ◌<◌}
+use mathlib.Core.List.{List, ◌++◌}
+use Prim.Native.Nat.{ℕ, ◌+◌, ◌*◌, ◌/◌, ◌%◌, ◌-◌, ◌≤◌, ◌<◌}
 use native.Mathlib.Nat.{div-lt_iff_lt-mul}
 use native.Mathlib.Omega.{arith}
 use native.Mathlib.Decide.{ℕ_discrete, dec_lt}
-use lib.ListN.{get_or, length, set, length-set}
+use lib.ListN.{get_or, length, set, take, drop, length-set, length-drop, get_or-append}
 use lib.Seq.{get_or-set_same, get_or-set_other}
 use lib.Arith.{digits_div}
 use borrow.Author.Tests.{eq-eqb, ne_eqb}
 use Rattle.parity.specs.Matrix.{Matrix, bit_of, lent}
 use Rattle.parity.proofs.Matrix.Lent.{lent_in, lent_out}
+use borrow.Rule.Slice.PartMut.{put_mid, same_len_mid}
+use Rattle.std.proofs.lemmas.List.{get_or-append_right, get_or-take, get_or-drop, length-take-le}
 use Rattle.rows.specs.Whole.{Written, word_from, RowsCopied, combined}
 
 -- words of different rows stand at different places
@@ -33,6 +35,33 @@ written_more w u base f i v A fit e = record {
   ];
   else = λ a g. get_or-set_other u (base + i) a v 0 (g i (omega arith)) ∙ A.else a (λ j l. g j (omega arith));
 }
+
+-- a part that becomes a list, as `w[b..b + k].copy_from_slice(..)` and `w[b..b + k].fill(..)` leave it
+module _ (w ys : List ℕ) (b k : ℕ) (f : ℕ → ℕ) (room : b + k ≤ length w) (long : length ys ≡ k) (is : (j : ℕ) → j < k → get_or ys j 0 ≡ f j) where
+  front : length (take b w) ≡ b
+  front = length-take-le b w (omega arith)
+
+  pub written_part : Written w (put_mid b k w ys) b f k
+  written_part = record {
+    long = same_len_mid b k w ys (long ∙ sym (length-take-le k (drop b w) (omega (arith, length-drop b w))));
+    done = λ a l.
+        let e : b + a - b ≡ a = omega arith in
+        get_or-append_right (take b w) (ys ++ drop k (drop b w)) b (b + a) 0 front (omega arith) ∙ rw e (get_or-append ys (drop k (drop b w)) 0 a (omega arith) ∙ is a l);
+    else = λ a g. elim (dec_lt a b) [
+      | yes l ↦ get_or-append (take b w) (ys ++ drop k (drop b w)) 0 a (omega (arith, front)) ∙ get_or-take b w a 0 l
+      | no l ↦ elim (dec_lt a (b + k)) [
+        | yes m ↦ absurd (g (a - b) (omega arith) (omega arith))
+        | no m ↦
+            let e : b + (k + (a - b - k)) ≡ a = omega arith in
+            get_or-append_right (take b w) (ys ++ drop k (drop b w)) b a 0 front (omega arith) ∙ get_or-append_right ys (drop k (drop b w)) k (a - b) 0 long (omega arith)
+            ∙ get_or-drop k (drop b w) (a - b - k) 0 ∙ get_or-drop b w (k + (a - b - k)) 0 ∙ ap (λ i. get_or w i 0) e
+      ]
+    ];
+  }
+
+pub written_copy : (w ws ys : List ℕ) (b a k i j : ℕ) → b + k ≤ length w → a + k ≤ length ws → i ≡ k → j ≡ k → ys ≡ take i (drop a ws) → Written w (put_mid b j w ys) b (word_from ws a) k
+written_copy w ws ys b a k i j r s p q e = rw (e, p, q) (written_part w (take k (drop a ws)) b k (word_from ws a) r (length-take-le k (drop a ws) (omega (arith, length-drop a ws)))
+    (λ t l. get_or-take k (drop a ws) t 0 l ∙ get_or-drop a ws t 0))
 
 -- each word becomes one of itself and of another
 abbrev pub onto : (ℕ → ℕ → ℕ) → List ℕ → ℕ → (ℕ → ℕ) → ℕ → ℕ

@@ -3,7 +3,6 @@ use mathlib.Core.Path.{◌≡◌, refl, sym, ap, ◌∙◌}
 use mathlib.Core.Logic.{◌↔◌}
 use mathlib.Core.List.{List}
 use Prim.Native.Nat.{ℕ, ◌+◌, ◌≤◌}
-use native.Mathlib.Nat.{zero-add}
 use native.Mathlib.Omega.{arith}
 use native.Mathlib.Decide.{dec_lt}
 use lib.Bits.{bit_or, or_add_and, and_le_l, and_le_r}
@@ -11,8 +10,7 @@ use lib.ListN.{replicate}
 use Rattle.parity.specs.Matrix.{lent}
 use Rattle.parity.proofs.Matrix.Lent.{lent_empty}
 use Rattle.rows.specs.Rows.{Empty}
-use Rattle.rows.specs.Zeros.{Zeros, Zeroed}
-use Rattle.rows.specs.Whole.{Written}
+use Rattle.rows.specs.Zeros.{Zeros}
 
 -- an or is zero exactly if both its parts are
 pub or_zero : (a b : ℕ) → (bit_or a b ≡ 0) ↔ ((a ≡ 0) × (b ≡ 0))
@@ -40,10 +38,6 @@ zeros_join a b d f x y p q X Y = record {
 
 pub zeros_more : (a b : ℕ) (f : ℕ → ℕ) (x y : ℕ) → a ≤ b → Zeros a b f x → y ≡ f b → Zeros a (b + 1) f (bit_or x y)
 zeros_more a b f x y p X e = zeros_join a b (b + 1) f x y p (omega arith) X (zeros_one b f y e)
-
--- words that are made 0 from the first on
-pub zeroed_all : (w u : List ℕ) (i : ℕ) → Written w u 0 (λ a. 0) i → Zeroed u i
-zeroed_all w u i A = record { none = λ j k. rw (zero-add j) at (A.done j k) }
 
 -- words that are 0 are rows without a bit
 pub empty : (W n : ℕ) (r : List ℕ) → r ≡ replicate n 0 → Empty (lent W r)

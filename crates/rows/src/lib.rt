@@ -13,23 +13,6 @@ ghost use Rattle.parity.specs.Words.{inside, odd};
 ghost use Rattle.rows.specs.Rows.{HasBit, NextOne};
 ghost use Rattle.rows.specs.Zeros.{Zeros, both, Zeroed};
 
-// A count of bits, as a number of a bit.
-pub fn wide(x: u32) -> usize
-    ensures { result ≡ x }
-{
-    x as usize
-}
-
-// The first `count` words become 0.
-pub fn clear(words: &mut [u64], count: usize)
-    requires { count ≤ length words.old }
-    ensures { Zeroed words.new count }
-{
-    for i in 0..count {
-        words[i] = 0;
-    }
-}
-
 // How many words of a row the first `bits` bits take.
 pub fn words_of(bits: usize) -> usize
     requires { bits ≤ 512 }
@@ -42,11 +25,24 @@ pub fn words_of(bits: usize) -> usize
     used
 }
 
+// What `f` makes of a number of words. Where it is one, two or eight, it is a constant for the compiler.
+pub fn with_known<R, F: FnOnce(usize) -> R>(used: usize, f: F) -> R
+    requires { F.pre f used }
+    ensures { F.post f used result }
+{
+    match used {
+        1 => f(1),
+        2 => f(2),
+        8 => f(8),
+        _ => f(used),
+    }
+}
+
 // How many ones a word has.
 pub fn ones_of(x: u64) -> usize
     ensures { (result ≡ onesOf x) × (result ≤ 64) }
 {
-    wide(u64::count_ones(x))
+    u64::count_ones(x) as usize
 }
 
 // Whether row `c` contains bit `b`.
@@ -63,7 +59,7 @@ pub fn raise(rows: &mut [u64], width: usize, c: usize, b: usize)
     ensures { lent width rows.new ≡ put c b true (lent width rows.old) }
 {
     let i = c * width + b / 64;
-    rows[i] = rows[i] | (1 << (b % 64));
+    rows[i] |= 1 << (b % 64);
 }
 
 // Bit `b` is taken out of row `c`.
@@ -72,7 +68,7 @@ pub fn lower(rows: &mut [u64], width: usize, c: usize, b: usize)
     ensures { lent width rows.new ≡ put c b false (lent width rows.old) }
 {
     let i = c * width + b / 64;
-    rows[i] = rows[i] & !(1 << (b % 64));
+    rows[i] &= !(1 << (b % 64));
 }
 
 // How many bits row `c` contains.
@@ -116,7 +112,7 @@ pub fn is_odd(rows: &[u64], width: usize, used: usize, c: usize, set: &[u64]) ->
 {
     let mut acc: u64 = 0;
     for i in 0..used {
-        acc = acc ^ (rows[c * width + i] & set[i]);
+        acc ^= rows[c * width + i] & set[i];
     }
     u64::count_ones(acc) & 1 == 1
 }
@@ -128,7 +124,7 @@ pub fn meet(a: &[u64], i: usize, b: &[u64], j: usize, width: usize, used: usize)
 {
     let mut acc: u64 = 0;
     for p in 0..used {
-        acc = acc | (a[i * width + p] & b[j * width + p]);
+        acc |= a[i * width + p] & b[j * width + p];
     }
     acc
 }
@@ -146,13 +142,11 @@ fn next_in_words(rows: &[u64], width: usize, c: usize, from: usize) -> usize
     requires { (c * width + width ≤ length rows.now) × (width * 64 < 2 ^ 64) × (from ≤ width) }
     ensures { NextOne (width * 64) (lent width rows.now c) (from * 64) result }
 {
-    let mut i = from;
-    while i < width {
+    for i in from..width {
         let x = rows[c * width + i];
         if x != 0 {
-            return i * 64 + wide(u64::trailing_zeros(x));
+            return i * 64 + u64::trailing_zeros(x) as usize;
         }
-        i += 1;
     }
     width * 64
 }
@@ -168,7 +162,7 @@ pub fn next_one(rows: &[u64], width: usize, c: usize, from: usize) -> usize
     }
     let x = rows[c * width + i] & !((1 << (from % 64)) - 1);
     if x != 0 {
-        return i * 64 + wide(u64::trailing_zeros(x));
+        return i * 64 + u64::trailing_zeros(x) as usize;
     }
     next_in_words(rows, width, c, i + 1)
 }

@@ -8,9 +8,7 @@ pub fn copy_words(from: &[u64], a: usize, to: &mut [u64], b: usize, count: usize
     requires { (a + count ≤ length from.now) × (b + count ≤ length to.old) }
     ensures { Written to.old to.new b (word_from from.now a) count }
 {
-    for i in 0..count {
-        to[b + i] = from[a + i];
-    }
+    to[b..b + count].copy_from_slice(&from[a..a + count]);
 }
 
 // The first `width` of the `wide` words of each of the first `checks` rows become its row.
@@ -19,7 +17,9 @@ pub fn copy_rows(from: &[u64], wide: usize, width: usize, checks: usize, rows: &
     ensures { RowsCopied wide width from.now rows.new checks }
 {
     for c in 0..checks {
-        copy_words(from, c * wide, rows, c * width, width);
+        let i = c * wide;
+        let j = c * width;
+        rows[j..j + width].copy_from_slice(&from[i..i + width]);
     }
 }
 
@@ -29,6 +29,6 @@ pub fn add_row(rows: &mut [u64], width: usize, c: usize, row: &[u64], q: usize)
     ensures { lent width rows.new ≡ plus c (lent width row.now q) (lent width rows.old) }
 {
     for i in 0..width {
-        rows[c * width + i] = rows[c * width + i] ^ row[q * width + i];
+        rows[c * width + i] ^= row[q * width + i];
     }
 }

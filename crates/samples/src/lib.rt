@@ -1,4 +1,4 @@
-// What the programs that run the calls share: answers as text, matrices of document 01's cases, and words compared.
+// What the programs that run the calls share: answers as text, matrices of document 01's cases, and words of ones.
 #![tactic(auto)]
 
 pub mod cases;

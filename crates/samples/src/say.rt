@@ -1,68 +1,79 @@
-// Answers as text on standard output, which the handle `rt` stands for.
+// Answers as text.
 use parity::{Losses, Refusal};
-use std::io;
+use std::fmt;
 
-pub fn end_line(rt: &impl Print) -> io::Result<()> {
-    rt.write_all(b"\n")
-}
+// A refusal: its number, and its place or the length needed.
+#[derive(Clone, Copy)]
+pub struct Why(pub Refusal);
 
-// A head and a number.
-pub fn field(rt: &impl Print, head: &[u8], x: u64) -> io::Result<()> {
-    rt.write_all(head)?;
-    print!(rt; "{x}")
-}
-
-// The number of a refusal, and its place or the length needed.
-pub fn refused(rt: &impl Print, head: &[u8], r: Refusal) -> io::Result<()> {
-    field(rt, head, refusals::number(r))?;
-    match r {
-        Refusal::FaultyWord { place } => field(rt, b" at ", place as u64),
-        Refusal::RecordTooShort { needed } => field(rt, b", needs ", needed as u64),
-        Refusal::WrongByte { place } => field(rt, b" at ", place as u64),
-        Refusal::SetsTooShort { needed } => field(rt, b", needs ", needed as u64),
-        Refusal::WrongFloat { place } => field(rt, b" at ", place as u64),
-        Refusal::LowAboveHigh { place } => field(rt, b" at ", place as u64),
-        _ => Ok(()),
+impl fmt::Display for Why {
+    fn fmt<W: fmt::Write>(&self, f: &mut fmt::Formatter<W>) -> fmt::Result {
+        write!(f, "{}", refusals::number(self.0))?;
+        match self.0 {
+            Refusal::FaultyWord { place }
+            | Refusal::WrongByte { place }
+            | Refusal::WrongFloat { place }
+            | Refusal::LowAboveHigh { place } => write!(f, " at {place}"),
+            Refusal::RecordTooShort { needed } | Refusal::SetsTooShort { needed } => {
+                write!(f, ", needs {needed}")
+            }
+            _ => Ok(()),
+        }
     }
 }
 
 // Of the bits recovered and left, how many are sent bits and how many added.
-pub fn recovered_and_left(rt: &impl Print, l: Losses) -> io::Result<()> {
-    field(rt, b"recovered ", l.recovered_sent)?;
-    field(rt, b" ", l.recovered_added)?;
-    field(rt, b" left ", l.left_sent)?;
-    field(rt, b" ", l.left_added)
-}
+#[derive(Clone, Copy)]
+pub struct Counted(pub Losses);
 
-// The symbol of a byte: ? for erased, x for a byte above 2.
-fn symbol(x: u8) -> u8 {
-    match x {
-        0 => b'0',
-        1 => b'1',
-        2 => b'?',
-        _ => b'x',
+impl fmt::Display for Counted {
+    fn fmt<W: fmt::Write>(&self, f: &mut fmt::Formatter<W>) -> fmt::Result {
+        let Losses {
+            recovered_sent,
+            recovered_added,
+            left_sent,
+            left_added,
+        } = self.0;
+        write!(
+            f,
+            "recovered {recovered_sent} {recovered_added} left {left_sent} {left_added}"
+        )
     }
 }
 
-// A space, and a word as symbols.
-pub fn show_word(rt: &impl Print, word: &[u8]) -> io::Result<()> {
-    rt.write_all(b" ")?;
-    for i in 0..word.len() {
-        let one = [symbol(word[i])];
-        rt.write_all(&one)?;
+// A word, with ? for erased, and x for a byte above 2.
+#[derive(Clone, Copy)]
+pub struct Symbols<'a>(pub &'a [u8]);
+
+impl<'a> fmt::Display for Symbols<'a> {
+    fn fmt<W: fmt::Write>(&self, f: &mut fmt::Formatter<W>) -> fmt::Result {
+        for byte in self.0 {
+            write!(f, "{}", symbol(*byte))?;
+        }
+        Ok(())
     }
-    Ok(())
 }
 
-// The bits of a float, and of one that is not a number those of the quiet NaN.
-fn bits_of(x: f32) -> u32 {
-    if x == x {
-        return f32::to_bits(x);
+fn symbol(byte: u8) -> char {
+    match byte {
+        0 => '0',
+        1 => '1',
+        2 => '?',
+        _ => 'x',
     }
-    0x7fc0_0000
 }
 
-// The eight hexadecimal digits of a float.
-pub fn show_float(rt: &impl Print, x: f32) -> io::Result<()> {
-    print!(rt; "{:08x}", bits_of(x))
+// The eight hexadecimal digits of a float, and of one that is not a number those of the quiet NaN.
+#[derive(Clone, Copy)]
+pub struct Digits(pub f32);
+
+impl fmt::Display for Digits {
+    fn fmt<W: fmt::Write>(&self, f: &mut fmt::Formatter<W>) -> fmt::Result {
+        let bits = if self.0.is_nan() {
+            0x7fc0_0000
+        } else {
+            self.0.to_bits()
+        };
+        write!(f, "{bits:08x}")
+    }
 }

@@ -11,7 +11,7 @@ use lib.Dec.{eqb}
 use lib.ListN.{get_or}
 use borrow.Author.Tests.{eq-eqb, ne_eqb}
 use Rattle.parity.specs.Finite.{one, count}
-use Rattle.parity.specs.Matrix.{Matrix, bit_of, lent}
+use Rattle.parity.specs.Matrix.{bit_of, lent}
 use Rattle.parity.specs.Words.{inside}
 use Rattle.parity.proofs.Finite.Sums.{sum_cong, sum_zero, sum_at, count_two}
 use Rattle.parity.proofs.Matrix.Digits.{bit_zero}

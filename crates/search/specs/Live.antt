@@ -1,9 +1,9 @@
 -- A list of checks that may still have an erased bit, of N bits and M checks: its first k, and those from place a on, of n. Assumes nothing.
-use Rattle.std.specs.Prelude.{◌≡◌, Bool, true, ◌&&◌, List, ◌⊎◌, ℕ, ◌+◌, ◌*◌, ◌^◌, ◌≤◌, ◌<◌, get_or}
+use Rattle.std.specs.Prelude.{◌≡◌, Bool, true, ◌&&◌, List, ◌⊎◌, ℕ, ◌+◌, ◌*◌, ◌^◌, ◌≤◌, ◌<◌, get_or, Option, Some, None}
 use Rattle.parity.specs.Matrix.{Matrix, bit_of, lent}
 use Rattle.parity.specs.Words.{inside}
 use Rattle.search.specs.declared.Alone.{Alone}
-use Rattle.search.specs.declared.Alone.TheVariants.{Found, Nothing}
+use Rattle.search.specs.declared.Next.{Next}
 use Rattle.search.specs.Next.{Lone}
 
 -- check c has an erased bit at offset j of one of its first U words, where a row has W
@@ -47,7 +47,10 @@ pub record NoneAlone (h : Matrix) (N M : ℕ) (e : ℕ → Bool) (n k₀ : ℕ) 
   pub few : k ≤ n
   pub none : (i : ℕ) → k₀ ≤ i → i < k → inside h N (get_or l i 0) e ≡ 1 → ⊥
 
+abbrev pub AloneOrNone : Matrix → ℕ → ℕ → (ℕ → Bool) → ℕ → ℕ → List ℕ → ℕ → Option Alone → Type 0
+AloneOrNone h N M e n k₀ l k None = NoneAlone h N M e n k₀ l k
+AloneOrNone h N M e n k₀ l k (Some a) = AloneAt h N M e n l a.check.0 a.bit.0 a.place k
+
 -- the answer names a check with exactly one erased bit, or says that there is none
-abbrev pub NextAlone : Matrix → ℕ → ℕ → (ℕ → Bool) → ℕ → ℕ → List ℕ → Alone → Type 0
-NextAlone h N M e n k₀ l (Nothing k) = NoneAlone h N M e n k₀ l k
-NextAlone h N M e n k₀ l (Found c b a k) = AloneAt h N M e n l c.0 b.0 a k
+abbrev pub NextAlone : Matrix → ℕ → ℕ → (ℕ → Bool) → ℕ → ℕ → List ℕ → Next → Type 0
+NextAlone h N M e n k₀ l next = AloneOrNone h N M e n k₀ l next.kept next.alone

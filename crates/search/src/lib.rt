@@ -8,20 +8,20 @@ ghost use Rattle.sets.specs.Sets.{Short};
 ghost use Rattle.search.specs.Live.{Live, NextAlone, Listed, Offsets};
 
 use parity::{Bit, Check};
-use rows::wide;
 
-// A check with exactly one erased bit, that bit, the check's place in the list, and how many checks before it are kept; or how many are kept of all.
-#[derive(Clone, Copy)]
-pub enum Alone {
-    Found(Check, Bit, usize, usize),
-    Nothing(usize),
+// A check with exactly one erased bit, that bit, and the check's place in the list.
+#[derive(Clone, Copy, Debug, PartialEq, Eq)]
+pub struct Alone {
+    pub check: Check,
+    pub bit: Bit,
+    pub place: usize,
 }
 
-// A check of the list, as a number.
-fn number(x: u16) -> usize
-    ensures { result ≡ x }
-{
-    x as usize
+// What a search comes to: the check that it finds, and how many checks before it are kept; or, where it finds none, how many are kept of all.
+#[derive(Clone, Copy, Debug, PartialEq, Eq)]
+pub struct Next {
+    pub alone: Option<Alone>,
+    pub kept: usize,
 }
 
 // The first `checks` checks are listed.
@@ -58,7 +58,7 @@ fn next_alone(
     from: usize,
     kept: usize,
     erased: &[u64],
-) -> Alone
+) -> Next
     requires { (length words.now ≡ 4096) × (checks ≤ 512) × (length live.old ≡ 512) × (count ≤ 512) × (length erased.now ≡ 8) × (used ≤ 8) × (kept ≤ from) × (from ≤ count) × Short (used * 64) (lent 8 erased.now 0) × Live (lent 8 words.now) 512 checks (lent 8 erased.now 0) live.old kept from count }
     ensures { NextAlone (lent 8 words.now) 512 checks (lent 8 erased.now 0) count kept live.new result }
 {
@@ -66,9 +66,12 @@ fn next_alone(
     let mut k = kept;
     'scan: loop {
         if count <= at {
-            break 'scan Alone::Nothing(k);
+            break 'scan Next {
+                alone: None,
+                kept: k,
+            };
         }
-        let c = number(live[at]);
+        let c = live[at] as usize;
         let mut y = offsets(words, used, c, erased);
         let mut seen = false;
         'offsets: while y != 0 {
@@ -91,12 +94,20 @@ fn next_alone(
                     at += 1;
                     continue 'scan;
                 }
-                b = i * 64 + wide(u64::trailing_zeros(x));
+                b = i * 64 + x.trailing_zeros() as usize;
                 x = x & (x - 1);
             }
         }
         if b < used * 64 {
-            break 'scan Alone::Found(Check(c), Bit(b), at, k);
+            let alone = Alone {
+                check: Check(c),
+                bit: Bit(b),
+                place: at,
+            };
+            break 'scan Next {
+                alone: Some(alone),
+                kept: k,
+            };
         }
         at += 1;
     }
@@ -112,7 +123,7 @@ pub fn next_in(
     from: usize,
     kept: usize,
     erased: &[u64],
-) -> Alone
+) -> Next
     requires words_len { (length words.now ≡ 4096) × (checks ≤ 512) × (length live.old ≡ 512) × (count ≤ 512) × (length erased.now ≡ 8) × (used ≤ 8) × (kept ≤ from) × (from ≤ count) }
     requires short { Short (used * 64) (lent 8 erased.now 0) × Live (lent 8 words.now) 512 checks (lent 8 erased.now 0) live.old kept from count }
     ensures { NextAlone (lent 8 words.now) 512 checks (lent 8 erased.now 0) count kept live.new result }

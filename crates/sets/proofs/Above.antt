@@ -1,47 +1,35 @@
--- The search for the lowest byte above a value. Assumes nothing.
-use mathlib.Core.Path.{◌≡◌, sym}
+-- The lowest byte above a value: whether there is one, and where. Assumes nothing.
+use mathlib.Core.Path.{◌≡◌}
 use mathlib.Core.Bool.{true, false}
 use mathlib.Core.List.{List}
-use Prim.Native.Nat.{ℕ, ◌+◌, ◌≤◌, ◌<◌}
-use native.Mathlib.Omega.{arith}
-use native.Mathlib.Decide.{ℕ_discrete}
+use Prim.Native.Nat.{ℕ}
 use lib.Dec.{ltb}
 use lib.ListN.{length}
-use borrow.Author.Tests.{lt-ltb, le-ltb}
+use Rattle.std.specs.Prelude.{Some, None, is_some, position}
 use Rattle.parity.specs.Calls.{byte_of, wrong_byte, wrong_place}
-use Rattle.parity.proofs.Finite.Firsts.{any_none, least_none, least_is, least_in, least_out}
+use Rattle.parity.proofs.Finite.Positions.{first_some, first_none, is_some_first, position_first}
+use Rattle.sets.specs.Above.{first_wrong}
 
--- no byte below place i is above top
-pub record Passed (w : List ℕ) (top i : ℕ) : Type 0 where
-  pub none : (b : ℕ) → b < i → byte_of w b ≤ top
+module _ (top : ℕ) (w : List ℕ) where
+  -- what the search finds
+  pub position_wrong : position (λ b. ltb top b) w ≡ first_wrong top w
+  unfolding first_wrong
+  position_wrong = position_first (λ b. ltb top b) w 0
 
-pub passed_none : (w : List ℕ) (top : ℕ) → Passed w top 0
-passed_none w top = record { none = λ b k. absurd (omega arith) }
+  -- a place found is the place of the refusal
+  pub wrong_some : (p : ℕ) → Some p ≡ first_wrong top w → (wrong_byte top w ≡ true) × (p ≡ wrong_place top w)
+  unfolding first_wrong wrong_byte wrong_place
+  wrong_some p e = first_some (length w) (λ b. ltb top (byte_of w b)) p e
 
-module _ (w : List ℕ) (top i : ℕ) (P : Passed w top i) where
-  pub passed_more : byte_of w i ≤ top → Passed w top (i + 1)
-  passed_more k = record { none = λ b l. elim (ℕ_discrete b i) [ yes q ↦ rw q k | no d ↦ P.none b (omega arith) ] }
+  -- where none is found, no byte is above the value
+  pub wrong_none : None ≡ first_wrong top w → wrong_byte top w ≡ false
+  unfolding first_wrong wrong_byte
+  wrong_none e = first_none (length w) (λ b. ltb top (byte_of w b)) e
 
-  pub place_here : i < length w → top < byte_of w i → i ≡ wrong_place top w
-  unfolding wrong_place
-  place_here k l =
-      sym (least_is (length w) (λ b. ltb top (byte_of w b)) i k (lt-ltb top (byte_of w i) l) (λ j m. le-ltb top (byte_of w j) (P.none j m)))
+  pub is_some_wrong : is_some (first_wrong top w) ≡ wrong_byte top w
+  unfolding first_wrong wrong_byte
+  is_some_wrong = is_some_first (length w) (λ b. ltb top (byte_of w b))
 
-  pub place_none : i ≡ length w → i ≡ wrong_place top w
-  unfolding wrong_place
-  place_none e =
-      rw e (sym (least_none (length w) (λ b. ltb top (byte_of w b)) (any_none (length w) (λ b. ltb top (byte_of w b)) (λ j m. le-ltb top (byte_of w j) (P.none j (omega arith))))))
-
--- no byte is
-pub place_right : (w : List ℕ) (top : ℕ) → wrong_byte top w ≡ false → length w ≡ wrong_place top w
-unfolding wrong_place wrong_byte
-place_right w top e = sym (least_none (length w) (λ b. ltb top (byte_of w b)) e)
-
-module _ (w : List ℕ) (top place : ℕ) (e : place ≡ wrong_place top w) where
-  pub byte_wrong : place < length w → wrong_byte top w ≡ true
-  unfolding wrong_place wrong_byte
-  byte_wrong k = least_in (length w) (λ b. ltb top (byte_of w b)) (rw (← e) k)
-
-  pub byte_right : (place < length w → ⊥) → wrong_byte top w ≡ false
-  unfolding wrong_place wrong_byte
-  byte_right k = least_out (length w) (λ b. ltb top (byte_of w b)) (rw (← e) k)
+  pub none_wrong : wrong_byte top w ≡ false → None ≡ first_wrong top w
+  unfolding first_wrong wrong_byte
+  none_wrong e = rw e

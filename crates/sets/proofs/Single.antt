@@ -8,7 +8,7 @@ use native.Mathlib.Decide.{ℕ_discrete}
 use lib.Bits.{bit_and, bit_or, bit_xor, and_le_l, and_le_r, or_lt, xor_lt, or_add_and, or_disjoint, xor_disjoint}
 use lib.Count.{ones as onesOf, count_trailing_zeros}
 use lib.Dec.{eqb, lit<}
-use borrow.Author.Tests.{eq-eqb, ne_eqb, eqb-true}
+use borrow.Author.Tests.{eqb-true}
 use Rattle.parity.specs.Finite.{one, count}
 use Rattle.parity.specs.Matrix.{bit_of}
 use Rattle.parity.specs.Words.{inside}
@@ -82,20 +82,3 @@ seen_more s taken twice x l S = record {
     | no p ↦ omega (arith, S.more p)
   ];
 }
-
--- whether they have one bit
-module _ (s taken twice : ℕ) (S : Seen s taken twice) where
-  pub seen_twice : (twice ≡ 0 → ⊥) → false ≡ eqb s 1
-  seen_twice n = sym (ne_eqb s 1 (λ e. omega (arith, S.more n)))
-
-  pub seen_nothing : twice ≡ 0 → taken ≡ 0 → false ≡ eqb s 1
-  seen_nothing p q = sym (ne_eqb s 1 (λ e. omega (arith, S.same p, no_ones taken q)))
-
-  pub seen_rest : twice ≡ 0 → (taken ≡ 0 → ⊥) → eqb (bit_and taken (taken - 1)) 0 ≡ eqb s 1
-  seen_rest p n =
-      let y = bit_and taken (taken - 1) in
-      let r = ones_rest taken S.fits n in
-      elim (ℕ_discrete y 0) [
-        | yes q ↦ eq-eqb y 0 q ∙ sym (eq-eqb s 1 (omega (arith, S.same p, no_ones y q)))
-        | no d ↦ ne_eqb y 0 d ∙ sym (ne_eqb s 1 (λ e. omega (arith, S.same p, ones_rest y (lt_of_le_of_lt (and_le_l taken (taken - 1)) S.fits) d)))
-      ]

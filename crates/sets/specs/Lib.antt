@@ -1,2 +1,3 @@
+pub mod Above
 pub mod Sets
 pub mod Losses

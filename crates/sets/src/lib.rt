@@ -13,27 +13,17 @@ ghost use Rattle.sets.specs.Sets.{Asked, WordOf, SetOf};
 
 use parity::Check;
 
-// The lesser of two numbers.
-pub fn lesser(a: usize, b: usize) -> usize
-    ensures { result ≡ min a b }
-{
-    if a < b {
-        return a;
-    }
-    b
-}
-
 // Word `i` of the set of the bits whose byte is `value`.
 fn word_of(bytes: &[u8], value: u8, i: usize) -> u64
     requires { i < 8 }
     ensures { WordOf bytes.now value i result }
 {
     let first = i * 64;
-    let end = lesser(bytes.len(), first + 64);
+    let end = bytes.len().min(first + 64);
     let mut x: u64 = 0;
     for b in first..end {
         if bytes[b] == value {
-            x = x | (1 << (b - first));
+            x |= 1 << (b - first);
         }
     }
     x
@@ -86,16 +76,10 @@ pub fn is_single(words: &[u64], used: usize, c: Check, set: &[u64]) -> bool
     let mut twice: u64 = 0;
     for i in 0..used {
         let x = words[d * 8 + i] & set[i];
-        twice = twice | (taken & x);
-        taken = taken | x;
+        twice |= taken & x;
+        taken |= x;
     }
-    if twice != 0 {
-        return false;
-    }
-    if taken == 0 {
-        return false;
-    }
-    taken & (taken - 1) == 0
+    twice == 0 && taken.is_power_of_two()
 }
 
 // How many of the bits below `bits` the set has.

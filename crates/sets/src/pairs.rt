@@ -3,8 +3,6 @@ ghost use Rattle.std.specs.Prelude.{◌≡◌, false, ◌+◌, ◌*◌, ◌<◌,
 ghost use Rattle.parity.specs.Calls.{byte_of, wrong_byte};
 ghost use Rattle.sets.specs.Sets.{WordOf, SetOf, Upto, Eight, four_bytes};
 
-use crate::lesser;
-
 // Bits of the set of the erased bits, and the same bits of the set of the ones.
 #[derive(Clone, Copy)]
 struct Pair {
@@ -52,8 +50,8 @@ fn eights(bytes: &[u8], i: usize, full: usize) -> Pair
     let mut ones: u64 = 0;
     for q in 0..full {
         let pair = eight(bytes, i * 64 + q * 8);
-        erased = erased | (pair.erased << (q * 8));
-        ones = ones | (pair.ones << (q * 8));
+        erased |= pair.erased << (q * 8);
+        ones |= pair.ones << (q * 8);
     }
     Pair { erased, ones }
 }
@@ -65,13 +63,13 @@ fn rest(bytes: &[u8], i: usize, from: usize, before: Pair) -> Pair
     ensures { WordOf bytes.now 2 i result.erased × WordOf bytes.now 1 i result.ones }
 {
     let first = i * 64;
-    let end = lesser(bytes.len(), first + 64);
+    let end = bytes.len().min(first + 64);
     let mut erased = before.erased;
     let mut ones = before.ones;
     for b in from..end {
         let x = byte(bytes, b);
-        erased = erased | ((x >> 1) << (b - first));
-        ones = ones | ((x & 1) << (b - first));
+        erased |= (x >> 1) << (b - first);
+        ones |= (x & 1) << (b - first);
     }
     Pair { erased, ones }
 }
@@ -85,7 +83,7 @@ fn pair_of(bytes: &[u8], i: usize) -> Pair
     if bytes.len() <= first {
         return Pair { erased: 0, ones: 0 };
     }
-    let full = (lesser(bytes.len(), first + 64) - first) / 8;
+    let full = (bytes.len().min(first + 64) - first) / 8;
     let before = eights(bytes, i, full);
     rest(bytes, i, first + full * 8, before)
 }

@@ -1,6 +1,6 @@
 // Comparison and negation of 32-bit floats, and of the Boolean that says whether a sign is turned.
 ghost use Rattle.std.specs.Prelude.{◌≡◌, cond, not};
-ghost use Rattle.parity.specs.Floats.{plus_zero, magnitude, turned, cut, infinite, too_large};
+ghost use Rattle.parity.specs.Floats.{plus_zero, magnitude, turned, cut, too_large};
 
 // Zero becomes plus zero.
 pub fn plus_zero(x: f32) -> f32
@@ -25,10 +25,7 @@ pub fn magnitude_of(x: f32) -> f32
 pub fn flipped(flip: bool, x: bool) -> bool
     ensures { result ≡ cond flip (not x) x }
 {
-    if flip {
-        return !x;
-    }
-    x
+    flip != x
 }
 
 // The sign turned, or not.
@@ -52,13 +49,6 @@ pub fn cut_off(x: f32) -> f32
         return -1048576.0;
     }
     x
-}
-
-// Above every finite float.
-pub fn infinity() -> f32
-    ensures { result ≡ infinite }
-{
-    f32::from_bits(0x7f80_0000)
 }
 
 // Whether a soft float is not finite or above 1,048,576 in magnitude.

@@ -24,12 +24,7 @@ pub fn tag(v: Channel) -> u8
     ensures { result ≡ byte_for v }
 {
     match v {
-        Channel::Sure(b) => {
-            if b {
-                return 1;
-            }
-            0
-        }
+        Channel::Sure(b) => b as u8,
         Channel::Soft(_) => 3,
         Channel::Erased => 2,
     }
@@ -40,9 +35,8 @@ pub fn value(v: Channel) -> f32
     ensures { result ≡ float_for v }
 {
     match v {
-        Channel::Sure(_) => 0.0,
         Channel::Soft(x) => x,
-        Channel::Erased => 0.0,
+        Channel::Sure(_) | Channel::Erased => 0.0,
     }
 }
 

@@ -1,6 +1,12 @@
 -- The messages of the round before: a copy in the places after the w messages, where the lent memory has room for both before the row. Assumes nothing.
-use Rattle.std.specs.Prelude.{ℕ, ◌+◌, ◌<◌, ◌≤◌, ◌≡◌, Bool, true, List, length, Float}
+use Rattle.std.specs.Prelude.{ℕ, ◌+◌, ◌<◌, ◌≤◌, ◌≡◌, Bool, true, ◌&&◌, eqb, List, length, Float}
+use Rattle.std.specs.Float.{binary32}
+use Rattle.std.specs.Float.Ieee.{eq, to_bits}
 use Rattle.parity.specs.Soft.{message_at}
+
+-- the same number with the same sign
+abbrev pub same_number : Float → Float → Bool
+same_number x y = eq x y && eqb (to_bits binary32 x) (to_bits binary32 y)
 
 -- with room, the first i of the w messages are those of the copy
 pub record Twice (w i : ℕ) (ts : List ℕ) (xs : List Float) : Type 0 where

@@ -1,20 +1,25 @@
 // Whether a round leaves the messages as they were. The `w` messages of the round before are kept in the places after the messages, if there is room before the row.
 #![tactic(auto)]
 
-ghost use Rattle.std.specs.Prelude.{◌≡◌, true};
+ghost use Rattle.std.specs.Prelude.{◌≡◌};
+ghost use Rattle.std.specs.List.{list_all, zip};
 ghost use Rattle.messages.specs.Memory.{Sized};
-ghost use Rattle.standing.specs.Standing.{Kept, Standing};
+ghost use Rattle.standing.specs.Standing.{same_number, Kept, Standing};
 
 use messages::copying::copy;
 
 // Whether two floats are the same number with the same sign.
 fn same_float(x: f32, y: f32) -> bool
-    ensures { result ≡ true → x ≡ y }
+    ensures { result ≡ same_number x y }
 {
-    if x == y {
-        return f32::to_bits(x) == f32::to_bits(y);
-    }
-    false
+    x == y && x.to_bits() == y.to_bits()
+}
+
+// Whether floats are the same numbers with the same signs.
+fn same_floats(xs: &[f32], ys: &[f32]) -> bool
+    ensures { result ≡ list_all (λ p. same_number p.0 p.1) (zip xs.now ys.now) }
+{
+    xs.iter().zip(ys).all(|p| same_float(*p.0, *p.1))
 }
 
 // Whether the messages are the kept ones.
@@ -25,15 +30,7 @@ fn same(tags: &[u8], values: &[f32], w: usize) -> bool
     if 32512 < w {
         return false;
     }
-    for i in 0..w {
-        if tags[i] != tags[w + i] {
-            return false;
-        }
-        if !same_float(values[i], values[w + i]) {
-            return false;
-        }
-    }
-    true
+    tags[..w] == tags[w..w + w] && same_floats(&values[..w], &values[w..w + w])
 }
 
 // The messages are kept.

@@ -10,7 +10,7 @@ ghost use Rattle.steps.specs.Steps.{Solved, Settled};
 
 use parity::{Bit, Check};
 use rows::{lower, raise, touches};
-use search::{Alone, list, next_in};
+use search::{list, next_in};
 use sets::is_odd;
 
 // Whether check `c` contains an odd number of the ones, which are in the first `used` words: so many, or a few more, are known beforehand.
@@ -36,10 +36,9 @@ fn solve(words: &[u64], used: usize, c: Check, b: Bit, erased: &mut [u64], ones:
     ensures { Solved (lent 8 words.now) 512 c.0 b.0 (lent 8 erased.old 0) (lent 8 ones.old 0) (lent 8 erased.new 0) (lent 8 ones.new 0) }
 {
     let odd = odd_in(words, used, c, ones);
-    let at = b.0;
-    lower(erased, 8, 0, at);
+    lower(erased, 8, 0, b.0);
     if odd {
-        raise(ones, 8, 0, at);
+        raise(ones, 8, 0, b.0);
     }
 }
 
@@ -60,18 +59,18 @@ fn solve_all(
     let mut from: usize = 0;
     let mut kept: usize = 0;
     loop {
-        let alone = next_in(words, used, checks, live, count, from, kept, erased);
-        match alone {
-            Alone::Found(c, b, at, k) => {
-                solve(words, used, c, b, erased, ones);
-                from = at + 1;
-                kept = k;
+        let next = next_in(words, used, checks, live, count, from, kept, erased);
+        match next.alone {
+            Some(alone) => {
+                solve(words, used, alone.check, alone.bit, erased, ones);
+                from = alone.place + 1;
+                kept = next.kept;
             }
-            Alone::Nothing(k) => {
+            None => {
                 if from == 0 {
                     break;
                 }
-                count = k;
+                count = next.kept;
                 from = 0;
                 kept = 0;
             }

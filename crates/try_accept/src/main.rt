@@ -3,55 +3,48 @@
 
 ghost use Rattle.std.specs.Prelude.{◌<◌};
 
-use matrix::Accepting;
-use samples::say::{end_line, field};
+use samples::say::Why;
 use std::io;
-
-// The number of the cause.
-fn number(a: Accepting) -> u64 {
-    match a {
-        Accepting::Accepted => 0,
-        Accepting::Refused(r) => refusals::number(r),
-    }
-}
 
 fn line(
     rt: &impl Print,
-    head: &[u8],
+    head: &str,
     words: &[u64],
     n: usize,
     m: usize,
     k: usize,
 ) -> io::Result<()> {
-    field(rt, head, number(matrix::accept(words, n, m, k)))?;
-    end_line(rt)
+    match matrix::accept(words, n, m, k) {
+        Ok(()) => println!(rt; "{head}0"),
+        Err(why) => println!(rt; "{head}{}", Why(why)),
+    }
 }
 
 fn lengths(rt: &impl Print) -> io::Result<()> {
     let none: [u64; 0] = [];
-    line(rt, b"no words: ", &none, 1, 0, 0)?;
+    line(rt, "no words: ", &none, 1, 0, 0)?;
     let short = [0u64; 4095];
-    line(rt, b"4,095 words: ", &short, 1, 0, 0)?;
+    line(rt, "4,095 words: ", &short, 1, 0, 0)?;
     let long = [0u64; 4097];
-    line(rt, b"4,097 words: ", &long, 1, 0, 0)
+    line(rt, "4,097 words: ", &long, 1, 0, 0)
 }
 
 fn ranges(rt: &impl Print, words: &[u64]) -> io::Result<()> {
-    line(rt, b"n = 0: ", words, 0, 0, 0)?;
-    line(rt, b"n = 121: ", words, 121, 0, 0)?;
-    line(rt, b"m = 121: ", words, 1, 121, 0)?;
-    line(rt, b"k = 393: ", words, 1, 0, 393)?;
-    line(rt, b"n huge: ", words, 0xffff_ffff_ffff_ffff, 0, 1)?;
-    line(rt, b"m huge: ", words, 1, 0xffff_ffff_ffff_ffff, 1)?;
-    line(rt, b"k huge: ", words, 1, 0, 0xffff_ffff_ffff_ffff)?;
-    line(rt, b"no check: ", words, 120, 0, 0)?;
-    line(rt, b"120 empty checks: ", words, 120, 120, 0)
+    line(rt, "n = 0: ", words, 0, 0, 0)?;
+    line(rt, "n = 121: ", words, 121, 0, 0)?;
+    line(rt, "m = 121: ", words, 1, 121, 0)?;
+    line(rt, "k = 393: ", words, 1, 0, 393)?;
+    line(rt, "n huge: ", words, 0xffff_ffff_ffff_ffff, 0, 1)?;
+    line(rt, "m huge: ", words, 1, 0xffff_ffff_ffff_ffff, 1)?;
+    line(rt, "k huge: ", words, 1, 0, 0xffff_ffff_ffff_ffff)?;
+    line(rt, "no check: ", words, 120, 0, 0)?;
+    line(rt, "120 empty checks: ", words, 120, 120, 0)
 }
 
 // One word of the matrix set.
 fn with_word(
     rt: &impl Print,
-    head: &[u8],
+    head: &str,
     i: usize,
     w: u64,
     n: usize,
@@ -66,20 +59,20 @@ fn with_word(
 }
 
 fn outside(rt: &impl Print) -> io::Result<()> {
-    with_word(rt, b"bit n - 1: ", 0, 0b1, 1, 1, 0)?;
-    with_word(rt, b"bit n: ", 0, 0b10, 1, 1, 0)?;
-    with_word(rt, b"bit 63 of 64: ", 0, 1 << 63, 64, 1, 0)?;
-    with_word(rt, b"bit 64 of 64: ", 1, 1, 64, 1, 0)?;
-    with_word(rt, b"bit 119 of 120: ", 1, 1 << 55, 120, 1, 0)?;
-    with_word(rt, b"bit 120 of 120: ", 1, 1 << 56, 120, 1, 0)?;
-    with_word(rt, b"check m: ", 8, 1, 1, 1, 0)?;
-    with_word(rt, b"the last word: ", 4095, 1 << 63, 120, 120, 0)
+    with_word(rt, "bit n - 1: ", 0, 0b1, 1, 1, 0)?;
+    with_word(rt, "bit n: ", 0, 0b10, 1, 1, 0)?;
+    with_word(rt, "bit 63 of 64: ", 0, 1 << 63, 64, 1, 0)?;
+    with_word(rt, "bit 64 of 64: ", 1, 1, 64, 1, 0)?;
+    with_word(rt, "bit 119 of 120: ", 1, 1 << 55, 120, 1, 0)?;
+    with_word(rt, "bit 120 of 120: ", 1, 1 << 56, 120, 1, 0)?;
+    with_word(rt, "check m: ", 8, 1, 1, 1, 0)?;
+    with_word(rt, "the last word: ", 4095, 1 << 63, 120, 120, 0)
 }
 
 // The first two checks of the matrix set.
 fn with_checks(
     rt: &impl Print,
-    head: &[u8],
+    head: &str,
     first: u64,
     second: u64,
     n: usize,
@@ -93,14 +86,14 @@ fn with_checks(
 }
 
 fn rule_a(rt: &impl Print) -> io::Result<()> {
-    with_checks(rt, b"{0,1,4}: ", 0b10011, 0, 4, 0, 1)?;
-    with_checks(rt, b"weight 2: ", 0b10001, 0, 4, 0, 1)?;
-    with_checks(rt, b"weight 4: ", 0b10111, 0, 4, 0, 1)?;
-    with_checks(rt, b"its own bit missing: ", 0b111, 0, 4, 0, 1)?;
-    with_checks(rt, b"a bit above its own: ", 0b110001, 0b101010, 4, 0, 2)?;
+    with_checks(rt, "{0,1,4}: ", 0b10011, 0, 4, 0, 1)?;
+    with_checks(rt, "weight 2: ", 0b10001, 0, 4, 0, 1)?;
+    with_checks(rt, "weight 4: ", 0b10111, 0, 4, 0, 1)?;
+    with_checks(rt, "its own bit missing: ", 0b111, 0, 4, 0, 1)?;
+    with_checks(rt, "a bit above its own: ", 0b110001, 0b101010, 4, 0, 2)?;
     with_checks(
         rt,
-        b"a pair shared with a given check: ",
+        "a pair shared with a given check: ",
         0b111,
         0b10011,
         4,
@@ -109,7 +102,7 @@ fn rule_a(rt: &impl Print) -> io::Result<()> {
     )?;
     with_checks(
         rt,
-        b"a bit shared with a given check: ",
+        "a bit shared with a given check: ",
         0b101,
         0b10011,
         4,
@@ -118,7 +111,7 @@ fn rule_a(rt: &impl Print) -> io::Result<()> {
     )?;
     with_checks(
         rt,
-        b"a pair shared with an added check: ",
+        "a pair shared with an added check: ",
         0b10011,
         0b100011,
         4,
@@ -127,21 +120,21 @@ fn rule_a(rt: &impl Print) -> io::Result<()> {
     )?;
     with_checks(
         rt,
-        b"its bit in the next added check: ",
+        "its bit in the next added check: ",
         0b10011,
         0b110100,
         4,
         0,
         2,
     )?;
-    with_checks(rt, b"{0,1,4,5} {2,3,5}: ", 0b110011, 0b101100, 4, 0, 2)
+    with_checks(rt, "{0,1,4,5} {2,3,5}: ", 0b110011, 0b101100, 4, 0, 2)
 }
 
 fn case_b(rt: &impl Print) -> io::Result<()> {
     let words = samples::cases::b();
-    line(rt, b"B, k = 1: ", &words, 7, 3, 1)?;
-    line(rt, b"B, k = 0: ", &words, 7, 3, 0)?;
-    line(rt, b"B, k = 2: ", &words, 7, 3, 2)
+    line(rt, "B, k = 1: ", &words, 7, 3, 1)?;
+    line(rt, "B, k = 0: ", &words, 7, 3, 0)?;
+    line(rt, "B, k = 2: ", &words, 7, 3, 2)
 }
 
 fn main(rt: HostRuntime) -> io::Result<()> {

@@ -4,75 +4,54 @@
 
 ghost use Rattle.std.specs.Prelude.{◌≤◌};
 
-use cycles::Counting;
-use house::Copying;
-use orthogonalise::Orthogonalising;
-use rank::Ranking;
-use samples::say::{end_line, field, refused};
+use house::Size;
+use orthogonalise::Orthogonalised;
+use parity::Refusal;
+use samples::say::Why;
 use samples::words::{are_ones, ones};
 use std::io;
 
-fn show_rank(rt: &impl Print, words: &[u64], n: usize, m: usize) -> io::Result<()> {
-    match rank::rank(words, n, m, 0) {
-        Ranking::Rank { rank } => field(rt, b", rank ", rank),
-        Ranking::Refused(r) => refused(rt, b", refused ", r),
-    }
-}
-
-fn show_count(rt: &impl Print, words: &[u64], n: usize, m: usize, k: usize) -> io::Result<()> {
-    match cycles::count(words, n, m, k) {
-        Counting::Cycles(count) => field(rt, b", count ", count),
-        Counting::Refused(r) => refused(rt, b", refused ", r),
+// What a call answers that counts something.
+fn show_number(rt: &impl Print, what: &str, answer: Result<u64, Refusal>) -> io::Result<()> {
+    match answer {
+        Ok(number) => print!(rt; ", {what} {number}"),
+        Err(r) => print!(rt; ", refused {}", Why(r)),
     }
 }
 
 // Orthogonalises, and answers k.
 fn show_orthogonalise(rt: &impl Print, words: &mut [u64], n: usize, m: usize) -> io::Result<usize> {
     match orthogonalise::orthogonalise(words, n, m, 0) {
-        Orthogonalising::Finished {
-            splits,
-            sum,
-            k,
-            held: _,
-        } => {
-            field(rt, b", splits ", splits)?;
-            field(rt, b", sum ", sum)?;
-            field(rt, b", k ", k as u64)?;
+        Ok(Orthogonalised { splits, sum, k, .. }) => {
+            print!(rt; ", splits {splits}, sum {sum}, k {k}")?;
             Ok(k)
         }
-        Orthogonalising::Refused(r) => {
-            refused(rt, b", refused ", r)?;
+        Err(r) => {
+            print!(rt; ", refused {}", Why(r))?;
             Ok(0)
         }
     }
 }
 
 fn show_matrix(rt: &impl Print, words: &mut [u64], n: usize, m: usize) -> io::Result<()> {
-    field(rt, b"n ", n as u64)?;
-    field(rt, b", m ", m as u64)?;
-    show_rank(rt, words, n, m)?;
-    show_count(rt, words, n, m, 0)?;
+    print!(rt; "n {n}, m {m}")?;
+    show_number(rt, "rank", rank::rank(words, n, m, 0))?;
+    show_number(rt, "count", cycles::count(words, n, m, 0))?;
     let k = show_orthogonalise(rt, words, n, m)?;
-    show_count(rt, words, n, m, k)
+    show_number(rt, "count", cycles::count(words, n, m, k))
 }
 
 // Copies the code of a name, and shows it or why it was refused.
-fn show_code(rt: &impl Print, name: usize, words: &mut [u64]) -> io::Result<()> {
-    field(rt, b"name ", name as u64)?;
-    field(rt, b", words ", words.len() as u64)?;
-    rt.write_all(b": ")?;
-    match house::copy(name, words) {
-        Copying::Copied { n, m } => show_matrix(rt, words, n, m),
-        Copying::Refused(r) => refused(rt, b"refused ", r),
-    }
-}
-
 fn show(rt: &impl Print, name: usize, words: &mut [u64]) -> io::Result<()> {
-    show_code(rt, name, words)?;
-    if are_ones(words) {
-        rt.write_all(b", words as they were")?;
+    print!(rt; "name {name}, words {}: ", words.len())?;
+    match house::copy(name, words) {
+        Ok(Size { n, m }) => show_matrix(rt, words, n, m)?,
+        Err(r) => print!(rt; "refused {}", Why(r))?,
     }
-    end_line(rt)
+    if are_ones(words) {
+        print!(rt; ", words as they were")?;
+    }
+    println!(rt)
 }
 
 // The name, with so many words that are all ones.
@@ -83,14 +62,6 @@ fn show_with(rt: &impl Print, name: usize, count: usize) -> io::Result<()>
     show(rt, name, &mut words[..count])
 }
 
-fn show_unknown(rt: &impl Print) -> io::Result<()> {
-    show_with(rt, 5, 4096)?;
-    show_with(rt, 255, 4096)?;
-    show_with(rt, 256, 4096)?;
-    show_with(rt, 4294967296, 4096)?;
-    show_with(rt, 18446744073709551615, 4096)
-}
-
 fn show_lengths(rt: &impl Print, name: usize) -> io::Result<()> {
     show_with(rt, name, 0)?;
     show_with(rt, name, 4095)?;
@@ -98,11 +69,11 @@ fn show_lengths(rt: &impl Print, name: usize) -> io::Result<()> {
 }
 
 fn main(rt: HostRuntime) -> io::Result<()> {
-    for name in 0..5 {
+    for name in [0, 1, 2, 3, 4, 5, 255, 256, 4294967296, 18446744073709551615] {
         show_with(&rt, name, 4096)?;
     }
-    show_unknown(&rt)?;
-    show_lengths(&rt, 0)?;
-    show_lengths(&rt, 4)?;
-    show_lengths(&rt, 5)
+    for name in [0, 4, 5] {
+        show_lengths(&rt, name)?;
+    }
+    Ok(())
 }

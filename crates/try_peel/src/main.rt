@@ -4,73 +4,63 @@
 
 ghost use Rattle.std.specs.Prelude.{◌<◌, ◌≤◌};
 
-use peel::Peeling;
-use samples::say::{end_line, field, recovered_and_left, refused, show_word};
+use parity::Refusal;
+use samples::say::{Counted, Symbols, Why};
 use std::io;
-use word::{Stopping, Verifying};
 
 fn peel_line(
     rt: &impl Print,
-    head: &[u8],
+    head: &str,
     words: &[u64],
     n: usize,
     m: usize,
     k: usize,
     word: &mut [u8],
 ) -> io::Result<()> {
-    rt.write_all(head)?;
-    let answer = peel::peel(words, n, m, k, word);
-    match answer {
-        Peeling::Made(l) => recovered_and_left(rt, l)?,
-        Peeling::Refused(r) => refused(rt, b"REFUSED ", r)?,
+    match peel::peel(words, n, m, k, word) {
+        Ok(losses) => println!(rt; "{head}{} {}", Counted(losses), Symbols(word)),
+        Err(why) => println!(rt; "{head}REFUSED {} {}", Why(why), Symbols(word)),
     }
-    show_word(rt, word)?;
-    end_line(rt)
+}
+
+// What verifying or testing a set answers.
+fn yes_line(rt: &impl Print, head: &str, answer: Result<bool, Refusal>) -> io::Result<()> {
+    match answer {
+        Ok(true) => println!(rt; "{head}yes"),
+        Ok(false) => println!(rt; "{head}no"),
+        Err(why) => println!(rt; "{head}REFUSED {}", Why(why)),
+    }
 }
 
 fn verify_line(
     rt: &impl Print,
-    head: &[u8],
+    head: &str,
     words: &[u64],
     n: usize,
     m: usize,
     k: usize,
     word: &[u8],
 ) -> io::Result<()> {
-    rt.write_all(head)?;
-    let answer = word::verify(words, n, m, k, word);
-    match answer {
-        Verifying::Yes => rt.write_all(b"yes")?,
-        Verifying::No => rt.write_all(b"no")?,
-        Verifying::Refused(r) => refused(rt, b"REFUSED ", r)?,
-    }
-    end_line(rt)
+    yes_line(rt, head, word::verify(words, n, m, k, word))
 }
 
 fn stopping_line(
     rt: &impl Print,
-    head: &[u8],
+    head: &str,
     words: &[u64],
     n: usize,
     m: usize,
     k: usize,
     set: &[u8],
 ) -> io::Result<()> {
-    rt.write_all(head)?;
-    let answer = word::is_stopping(words, n, m, k, set);
-    match answer {
-        Stopping::Yes => rt.write_all(b"yes")?,
-        Stopping::No => rt.write_all(b"no")?,
-        Stopping::Refused(r) => refused(rt, b"REFUSED ", r)?,
-    }
-    end_line(rt)
+    yes_line(rt, head, word::is_stopping(words, n, m, k, set))
 }
 
 // Peels a word, and verifies what was left.
 fn peel_and_verify(
     rt: &impl Print,
-    head: &[u8],
-    again: &[u8],
+    head: &str,
+    again: &str,
     words: &[u64],
     n: usize,
     m: usize,
@@ -83,32 +73,23 @@ fn peel_and_verify(
 
 fn c_words(rt: &impl Print, words: &[u64]) -> io::Result<()> {
     let mut w = [2, 2, 2, 1, 1, 1, 1];
-    peel_and_verify(rt, b"C: ", b"C, what is left: ", words, 7, 3, 0, &mut w)?;
+    peel_and_verify(rt, "C: ", "C, what is left: ", words, 7, 3, 0, &mut w)?;
     let mut one = [2, 0, 1, 1, 1, 1, 1];
-    peel_and_verify(
-        rt,
-        b"C, bit 0: ",
-        b"C, its word: ",
-        words,
-        7,
-        3,
-        0,
-        &mut one,
-    )?;
+    peel_and_verify(rt, "C, bit 0: ", "C, its word: ", words, 7, 3, 0, &mut one)?;
     let mut all = [2, 2, 2, 2, 2, 2, 2];
-    peel_line(rt, b"C, all erased: ", words, 7, 3, 0, &mut all)?;
+    peel_line(rt, "C, all erased: ", words, 7, 3, 0, &mut all)?;
     let mut none = [0, 0, 1, 1, 1, 1, 1];
-    peel_line(rt, b"C, none erased: ", words, 7, 3, 0, &mut none)?;
+    peel_line(rt, "C, none erased: ", words, 7, 3, 0, &mut none)?;
     let mut part = [2, 2, 2, 2, 1, 1, 2];
-    peel_line(rt, b"C, five erased: ", words, 7, 3, 0, &mut part)
+    peel_line(rt, "C, five erased: ", words, 7, 3, 0, &mut part)
 }
 
 fn c_contradictions(rt: &impl Print, words: &[u64]) -> io::Result<()> {
     let mut odd = [1, 0, 0, 0, 0, 0, 0];
     peel_and_verify(
         rt,
-        b"C, an odd check: ",
-        b"C, an odd word: ",
+        "C, an odd check: ",
+        "C, an odd word: ",
         words,
         7,
         3,
@@ -116,20 +97,20 @@ fn c_contradictions(rt: &impl Print, words: &[u64]) -> io::Result<()> {
         &mut odd,
     )?;
     let mut later = [2, 0, 0, 2, 0, 0, 1];
-    peel_line(rt, b"C, odd after bit 0: ", words, 7, 3, 0, &mut later)
+    peel_line(rt, "C, odd after bit 0: ", words, 7, 3, 0, &mut later)
 }
 
 fn c_sets(rt: &impl Print, words: &[u64]) -> io::Result<()> {
     let stops = [1, 1, 1, 0, 0, 0, 0];
-    stopping_line(rt, b"C, {0,1,2}: ", words, 7, 3, 0, &stops)?;
+    stopping_line(rt, "C, {0,1,2}: ", words, 7, 3, 0, &stops)?;
     let lone = [0, 0, 0, 0, 0, 0, 1];
-    stopping_line(rt, b"C, {6} in the last check: ", words, 7, 3, 0, &lone)?;
+    stopping_line(rt, "C, {6} in the last check: ", words, 7, 3, 0, &lone)?;
     let empty = [0, 0, 0, 0, 0, 0, 0];
-    stopping_line(rt, b"C, {}: ", words, 7, 3, 0, &empty)?;
-    verify_line(rt, b"C, the zero word: ", words, 7, 3, 0, &empty)?;
+    stopping_line(rt, "C, {}: ", words, 7, 3, 0, &empty)?;
+    verify_line(rt, "C, the zero word: ", words, 7, 3, 0, &empty)?;
     let two = [0, 0, 2, 0, 3, 0, 0];
-    stopping_line(rt, b"C, a set with 2 and 3: ", words, 7, 3, 0, &two)?;
-    verify_line(rt, b"C, bytes 2 and 3: ", words, 7, 3, 0, &two)
+    stopping_line(rt, "C, a set with 2 and 3: ", words, 7, 3, 0, &two)?;
+    verify_line(rt, "C, bytes 2 and 3: ", words, 7, 3, 0, &two)
 }
 
 fn case_c(rt: &impl Print) -> io::Result<()> {
@@ -142,31 +123,31 @@ fn case_c(rt: &impl Print) -> io::Result<()> {
 fn case_d(rt: &impl Print) -> io::Result<()> {
     let words = samples::cases::d();
     let mut w = [2, 2, 2, 1, 1, 1, 1, 2];
-    peel_and_verify(rt, b"D: ", b"D, its word: ", &words, 7, 3, 1, &mut w)?;
+    peel_and_verify(rt, "D: ", "D, its word: ", &words, 7, 3, 1, &mut w)?;
     d_bytes(rt, &words)
 }
 
 fn d_bytes(rt: &impl Print, words: &[u64]) -> io::Result<()> {
     let mut high = [2, 2, 2, 1, 1, 1, 1, 3];
-    peel_line(rt, b"D, a last byte 3: ", words, 7, 3, 1, &mut high)?;
+    peel_line(rt, "D, a last byte 3: ", words, 7, 3, 1, &mut high)?;
     let mut low = [255, 2, 2, 1, 1, 1, 1, 2];
-    peel_line(rt, b"D, a first byte 255: ", words, 7, 3, 1, &mut low)?;
+    peel_line(rt, "D, a first byte 255: ", words, 7, 3, 1, &mut low)?;
     let mut several = [2, 2, 2, 3, 255, 1, 1, 255];
-    peel_line(rt, b"D, three wrong bytes: ", words, 7, 3, 1, &mut several)?;
+    peel_line(rt, "D, three wrong bytes: ", words, 7, 3, 1, &mut several)?;
     let mut seven = [2, 2, 2, 1, 1, 1, 1];
-    peel_line(rt, b"D with k = 0: ", words, 7, 3, 0, &mut seven)?;
+    peel_line(rt, "D with k = 0: ", words, 7, 3, 0, &mut seven)?;
     let mut one = [2];
-    peel_line(rt, b"D with n = 0: ", words, 0, 3, 1, &mut one)
+    peel_line(rt, "D with n = 0: ", words, 0, 3, 1, &mut one)
 }
 
 fn e_lengths(rt: &impl Print, words: &[u64]) -> io::Result<()> {
     let mut none: [u8; 0] = [];
-    peel_line(rt, b"E, no bytes: ", words, 3, 2, 2, &mut none)?;
+    peel_line(rt, "E, no bytes: ", words, 3, 2, 2, &mut none)?;
     let mut sent = [2, 1, 3];
     peel_and_verify(
         rt,
-        b"E, n bytes: ",
-        b"E, verifying n bytes: ",
+        "E, n bytes: ",
+        "E, verifying n bytes: ",
         words,
         3,
         2,
@@ -174,14 +155,14 @@ fn e_lengths(rt: &impl Print, words: &[u64]) -> io::Result<()> {
         &mut sent,
     )?;
     let mut short = [2, 1, 0, 0];
-    peel_line(rt, b"E, n+k-1 bytes: ", words, 3, 2, 2, &mut short)?;
+    peel_line(rt, "E, n+k-1 bytes: ", words, 3, 2, 2, &mut short)?;
     let mut long = [2, 1, 0, 2, 2, 2];
-    peel_line(rt, b"E, n+k+1 bytes: ", words, 3, 2, 2, &mut long)?;
+    peel_line(rt, "E, n+k+1 bytes: ", words, 3, 2, 2, &mut long)?;
     let mut w = [2, 1, 1, 2, 2];
     peel_and_verify(
         rt,
-        b"E, n+k bytes: ",
-        b"E, its word: ",
+        "E, n+k bytes: ",
+        "E, its word: ",
         words,
         3,
         2,
@@ -199,26 +180,26 @@ fn case_e(rt: &impl Print) -> io::Result<()> {
     words[24] = 0b11100;
     e_lengths(rt, &words)?;
     let set = [0, 0, 1, 1, 0, 2];
-    stopping_line(rt, b"E, a set of n+k+1 bytes: ", &words, 3, 2, 2, &set)?;
+    stopping_line(rt, "E, a set of n+k+1 bytes: ", &words, 3, 2, 2, &set)?;
     let few = [0u64; 4095];
     let mut w = [2, 1, 3];
-    peel_line(rt, b"4,095 words: ", &few, 3, 2, 2, &mut w)
+    peel_line(rt, "4,095 words: ", &few, 3, 2, 2, &mut w)
 }
 
 fn case_f(rt: &impl Print) -> io::Result<()> {
     let words = [0u64; 4096];
     let mut f = [2, 2];
-    peel_and_verify(rt, b"F: ", b"F, what is left: ", &words, 2, 0, 0, &mut f)?;
+    peel_and_verify(rt, "F: ", "F, what is left: ", &words, 2, 0, 0, &mut f)?;
     let mut free = [2, 0, 1];
-    peel_line(rt, b"two checks without bits: ", &words, 3, 2, 0, &mut free)
+    peel_line(rt, "two checks without bits: ", &words, 3, 2, 0, &mut free)
 }
 
 fn case_i(rt: &impl Print) -> io::Result<()> {
     let words = samples::cases::i();
     let mut i = [2, 1];
-    peel_line(rt, b"I: ", &words, 2, 2, 0, &mut i)?;
+    peel_line(rt, "I: ", &words, 2, 2, 0, &mut i)?;
     let mut j = [2, 2];
-    peel_line(rt, b"I, both erased: ", &words, 2, 2, 0, &mut j)
+    peel_line(rt, "I, both erased: ", &words, 2, 2, 0, &mut j)
 }
 
 // Bits 1, 2 and 3 are bit 0, the added bit 9 is the sum of 1 and 2, and nothing determines 4 to 7: four different numbers.
@@ -231,7 +212,7 @@ fn four_numbers(rt: &impl Print) -> io::Result<()> {
     words[32] = 0b10000110000;
     words[40] = 0b100011000000;
     let mut w = [1, 2, 2, 2, 2, 2, 2, 2, 0, 2, 2, 2];
-    peel_line(rt, b"sent and added: ", &words, 9, 3, 3, &mut w)
+    peel_line(rt, "sent and added: ", &words, 9, 3, 3, &mut w)
 }
 
 // With n = 64 the first added bit is the first of the second word: {0,63,64}.
@@ -241,14 +222,14 @@ fn word_edge(rt: &impl Print) -> io::Result<()> {
     words[1] = 1;
     let mut sent = [0u8; 65];
     sent[63] = 2;
-    peel_line(rt, b"n = 64, bit 63: ", &words, 64, 0, 1, &mut sent)?;
+    peel_line(rt, "n = 64, bit 63: ", &words, 64, 0, 1, &mut sent)?;
     let mut added = [0u8; 65];
     added[64] = 2;
-    peel_line(rt, b"n = 64, bit 64: ", &words, 64, 0, 1, &mut added)?;
+    peel_line(rt, "n = 64, bit 64: ", &words, 64, 0, 1, &mut added)?;
     let mut both = [0u8; 65];
     both[63] = 2;
     both[64] = 2;
-    peel_line(rt, b"n = 64, both: ", &words, 64, 0, 1, &mut both)
+    peel_line(rt, "n = 64, both: ", &words, 64, 0, 1, &mut both)
 }
 
 // A codeword of L.
@@ -262,10 +243,9 @@ fn comes_back(words: &[u64], a: usize, b: usize) -> bool
     let mut w = CODEWORD;
     w[a] = 2;
     w[b] = 2;
-    let answer = peel::peel(words, 23, 23, 0, &mut w);
-    match answer {
-        Peeling::Made(l) => l.left_sent == 0 && w == CODEWORD,
-        Peeling::Refused(_) => false,
+    match peel::peel(words, 23, 23, 0, &mut w) {
+        Ok(l) => l.left_sent == 0 && w == CODEWORD,
+        Err(_) => false,
     }
 }
 
@@ -274,23 +254,18 @@ fn pairs_back(words: &[u64], a: usize) -> u64
     requires { a < 23 }
     ensures { result ≤ 23 }
 {
-    let mut count: u64 = 0;
-    for b in a..23 {
-        if comes_back(words, a, b) {
-            count += 1;
-        }
-    }
-    count
+    (a..23).filter(|b| comes_back(words, a, *b)).count() as u64
 }
 
 // With bit a alone, and with each bit above it, erased.
 fn l_line(rt: &impl Print, words: &[u64], a: usize) -> io::Result<()>
     requires { a < 23 }
 {
-    field(rt, b"L, bit ", a as u64)?;
-    field(rt, b" alone and with each above: ", pairs_back(words, a))?;
-    field(rt, b" of ", (23 - a) as u64)?;
-    end_line(rt)
+    println!(rt;
+        "L, bit {a} alone and with each above: {} of {}",
+        pairs_back(words, a),
+        23 - a
+    )
 }
 
 fn l_pairs(rt: &impl Print, words: &[u64]) -> io::Result<()> {
@@ -302,11 +277,11 @@ fn l_pairs(rt: &impl Print, words: &[u64]) -> io::Result<()> {
 
 fn case_l(rt: &impl Print) -> io::Result<()> {
     let words = samples::cases::l();
-    verify_line(rt, b"L, a codeword: ", &words, 23, 23, 0, &CODEWORD)?;
+    verify_line(rt, "L, a codeword: ", &words, 23, 23, 0, &CODEWORD)?;
     let mut w = CODEWORD;
     w[22] = 2;
     w[5] = 2;
-    peel_line(rt, b"L, bits 5 and 22: ", &words, 23, 23, 0, &mut w)?;
+    peel_line(rt, "L, bits 5 and 22: ", &words, 23, 23, 0, &mut w)?;
     l_pairs(rt, &words)
 }
 

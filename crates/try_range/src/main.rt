@@ -2,144 +2,135 @@
 // and high.
 #![tactic(auto)]
 
-use min_sum_range::Ranging;
-use samples::say::{end_line, refused, show_float};
-use soft::floats::infinity;
+use samples::say::{Digits, Why};
 use std::io;
 
-fn line(rt: &impl Print, head: &[u8], lows: &[f32], highs: &[f32]) -> io::Result<()> {
-    rt.write_all(head)?;
-    rt.write_all(b": ")?;
+fn line(rt: &impl Print, head: &str, lows: &[f32], highs: &[f32]) -> io::Result<()> {
     match min_sum_range::range(lows, highs) {
-        Ranging::SureZero => rt.write_all(b"sure 0")?,
-        Ranging::Within(e) => {
-            show_float(rt, e.low)?;
-            rt.write_all(b" to ")?;
-            show_float(rt, e.high)?;
-        }
-        Ranging::Refused(r) => refused(rt, b"REFUSED ", r)?,
+        Ok(None) => println!(rt; "{head}: sure 0"),
+        Ok(Some(ends)) => println!(rt; "{head}: {} to {}", Digits(ends.low), Digits(ends.high)),
+        Err(why) => println!(rt; "{head}: REFUSED {}", Why(why)),
     }
-    end_line(rt)
 }
 
 fn few_values(rt: &impl Print) -> io::Result<()> {
-    line(rt, b"no other bits", &[], &[])?;
-    line(rt, b"one value", &[-1.5], &[2.25])?;
-    line(rt, b"one value, known", &[-0.1], &[-0.1])?;
-    line(rt, b"two positive", &[1.0, 2.0], &[3.0, 2.5])?;
-    line(rt, b"one negative", &[1.0, -2.0], &[3.0, -0.5])
+    line(rt, "no other bits", &[], &[])?;
+    line(rt, "one value", &[-1.5], &[2.25])?;
+    line(rt, "one value, known", &[-0.1], &[-0.1])?;
+    line(rt, "two positive", &[1.0, 2.0], &[3.0, 2.5])?;
+    line(rt, "one negative", &[1.0, -2.0], &[3.0, -0.5])
 }
 
 fn two_signs(rt: &impl Print) -> io::Result<()> {
-    line(rt, b"both negative", &[-3.0, -2.0], &[-1.0, -0.5])?;
-    line(rt, b"one across zero", &[-1.0, 0.5], &[4.0, 2.0])?;
-    line(rt, b"both across zero", &[-1.0, -0.25], &[3.0, 0.75])
+    line(rt, "both negative", &[-3.0, -2.0], &[-1.0, -0.5])?;
+    line(rt, "one across zero", &[-1.0, 0.5], &[4.0, 2.0])?;
+    line(rt, "both across zero", &[-1.0, -0.25], &[3.0, 0.75])
 }
 
 fn five_values(rt: &impl Print) -> io::Result<()> {
     line(
         rt,
-        b"five values",
+        "five values",
         &[0.7, -3.0, -1.25, 2.0, -0.3],
         &[1.1, -2.0, 0.9, 6.0, 8.0],
     )?;
     line(
         rt,
-        b"five values, known",
+        "five values, known",
         &[0.7, -3.0, -1.25, 2.0, -0.3],
         &[0.7, -3.0, -1.25, 2.0, -0.3],
     )
 }
 
 fn zeros(rt: &impl Print) -> io::Result<()> {
-    line(rt, b"one value, minus zero", &[-0.0], &[-0.0])?;
-    line(rt, b"minus zero to plus zero", &[-0.0], &[0.0])?;
-    line(rt, b"plus zero to minus zero", &[0.0], &[-0.0])
+    line(rt, "one value, minus zero", &[-0.0], &[-0.0])?;
+    line(rt, "minus zero to plus zero", &[-0.0], &[0.0])?;
+    line(rt, "plus zero to minus zero", &[0.0], &[-0.0])
 }
 
 fn ends_zero(rt: &impl Print) -> io::Result<()> {
-    line(rt, b"low minus zero", &[-0.0, -5.0], &[2.0, -3.0])?;
-    line(rt, b"high minus zero", &[-2.0, 3.0], &[-0.0, 5.0])?;
+    line(rt, "low minus zero", &[-0.0, -5.0], &[2.0, -3.0])?;
+    line(rt, "high minus zero", &[-2.0, 3.0], &[-0.0, 5.0])?;
     line(
         rt,
-        b"a zero among others",
+        "a zero among others",
         &[-4.0, -0.0, 1.0],
         &[9.0, 0.0, 2.0],
     )?;
-    line(rt, b"the least floats", &[-1.4e-45, 1.0], &[1.4e-45, 2.0])
+    line(rt, "the least floats", &[-1.4e-45, 1.0], &[1.4e-45, 2.0])
 }
 
 fn no_number() -> f32 {
-    infinity() - infinity()
+    f32::INFINITY - f32::INFINITY
 }
 
 fn at_the_limit(rt: &impl Print) -> io::Result<()> {
     line(
         rt,
-        b"at the limit",
+        "at the limit",
         &[-1048576.0, 1048576.0],
         &[1048576.0, 1048576.0],
     )?;
     line(
         rt,
-        b"a low above the limit",
+        "a low above the limit",
         &[1.0, 1048576.125],
         &[2.0, 1048576.125],
     )?;
-    line(rt, b"a low below it", &[1.0, -1048576.125], &[2.0, 3.0])?;
+    line(rt, "a low below it", &[1.0, -1048576.125], &[2.0, 3.0])?;
     line(
         rt,
-        b"a high above the limit",
+        "a high above the limit",
         &[1.0, 2.0, 3.0],
         &[2.0, 3.0, 1048576.125],
     )
 }
 
 fn not_finite(rt: &impl Print) -> io::Result<()> {
-    line(rt, b"a low infinite", &[-infinity()], &[0.0])?;
+    line(rt, "a low infinite", &[-f32::INFINITY], &[0.0])?;
     line(
         rt,
-        b"a high that is no number",
+        "a high that is no number",
         &[1.0, 2.0],
-        &[no_number(), infinity()],
+        &[no_number(), f32::INFINITY],
     )?;
     line(
         rt,
-        b"lows before highs",
+        "lows before highs",
         &[1.0, 2.0, no_number()],
-        &[infinity(), 3.0, 4.0],
+        &[f32::INFINITY, 3.0, 4.0],
     )
 }
 
 fn crossed(rt: &impl Print) -> io::Result<()> {
     line(
         rt,
-        b"a low above its high",
+        "a low above its high",
         &[1.0, 2.0, 3.0],
         &[1.0, 1.5, 2.0],
     )?;
     line(
         rt,
-        b"floats before order",
+        "floats before order",
         &[1.0, 2.0, 3.0],
-        &[0.5, 1.5, infinity()],
+        &[0.5, 1.5, f32::INFINITY],
     )?;
-    line(rt, b"the next float above", &[1.0000001192092896], &[1.0])
+    line(rt, "the next float above", &[1.0000001192092896], &[1.0])
 }
 
 fn sizes(rt: &impl Print) -> io::Result<()> {
     let mut lows = [-0.5f32; 512];
     let mut highs = [3.0f32; 512];
-    line(rt, b"lengths that differ", &lows[..5], &highs[..4])?;
-    line(rt, b"511 values", &lows[..511], &highs[..511])?;
-    line(rt, b"512 values", &lows, &highs)?;
+    line(rt, "lengths that differ", &lows[..5], &highs[..4])?;
+    line(rt, "511 values", &lows[..511], &highs[..511])?;
+    line(rt, "512 values", &lows, &highs)?;
     lows[300] = 0.125;
     highs[300] = 0.25;
-    line(rt, b"511 values, one small", &lows[..511], &highs[..511])?;
+    line(rt, "511 values, one small", &lows[..511], &highs[..511])?;
     highs[510] = -0.75;
     line(
         rt,
-        b"511 values, the last crossed",
+        "511 values, the last crossed",
         &lows[..511],
         &highs[..511],
     )

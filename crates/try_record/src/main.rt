@@ -2,19 +2,15 @@
 #![tactic(auto)]
 
 mod build;
-mod same;
 mod say;
 
 ghost use Rattle.std.specs.Prelude.{◌≡◌, ◌<◌, ◌≤◌, length};
 
 use crate::build::full;
-use crate::same::begins;
-use crate::say::{loads, place, writes};
-use record::Loading;
-use samples::say::{end_line, field};
-use samples::words::{are_ones, same};
+use crate::say::{Loaded, Place, Written};
+use record::Sizes;
+use samples::words::are_ones;
 use std::io;
-use writing::Writing;
 
 // The records of cases A, C, E, F and I, each in its first form and in its second.
 const A: [u32; 17] = [
@@ -216,27 +212,25 @@ const WRONG: [u32; 31] = [
 ];
 
 // Loads a record into words that are all ones.
-fn load_case(rt: &impl Print, head: &[u8], source: &[u32]) -> io::Result<()> {
-    let mut words = [0xffff_ffff_ffff_ffff; 4096];
-    rt.write_all(head)?;
-    let r = record::load(source, &mut words);
-    loads(rt, r)?;
+fn load_case(rt: &impl Print, head: &str, source: &[u32]) -> io::Result<()> {
+    let mut words = [u64::MAX; 4096];
+    let loaded = Loaded(record::load(source, &mut words));
     if are_ones(&words) {
-        rt.write_all(b", words left")?;
+        println!(rt; "{head}{loaded}, words left")
+    } else {
+        println!(rt; "{head}{loaded}")
     }
-    end_line(rt)
 }
 
 // Loads a record of any form, writes its matrix and says whether that gives the record due.
-fn round_trip(rt: &impl Print, head: &[u8], source: &[u32], due: &[u32]) -> io::Result<()> {
-    let mut words = [0xffff_ffff_ffff_ffff; 4096];
-    rt.write_all(head)?;
-    let r = record::load(source, &mut words);
-    loads(rt, r)?;
-    if let Loading::Loaded { n, m, k } = r {
+fn round_trip(rt: &impl Print, head: &str, source: &[u32], due: &[u32]) -> io::Result<()> {
+    let mut words = [u64::MAX; 4096];
+    let loaded = record::load(source, &mut words);
+    print!(rt; "{head}{}", Loaded(loaded))?;
+    if let Ok(Sizes { n, m, k }) = loaded {
         write_back(rt, due, &words, n, m, k)?;
     }
-    end_line(rt)
+    println!(rt)
 }
 
 // Writes a matrix and compares the record with the one due.
@@ -248,16 +242,11 @@ fn write_back(
     m: usize,
     k: usize,
 ) -> io::Result<()> {
-    let mut target = [0xffff_ffffu32; 14523];
-    let w = record::write(words, n, m, k, &mut target);
-    rt.write_all(b", ")?;
-    writes(rt, w)?;
-    if let Writing::Written { used } = w {
-        if used == due.len() {
-            if begins(due, &target) {
-                rt.write_all(b", as due")?;
-            }
-        }
+    let mut target = [u32::MAX; 14523];
+    let written = record::write(words, n, m, k, &mut target);
+    print!(rt; ", {}", Written(written))?;
+    if written == Ok(due.len()) && target.starts_with(due) {
+        print!(rt; ", as due")?;
     }
     Ok(())
 }
@@ -265,75 +254,73 @@ fn write_back(
 // Writes a matrix, loads what was written and compares the words.
 fn write_case(
     rt: &impl Print,
-    head: &[u8],
+    head: &str,
     words: &[u64],
     n: usize,
     m: usize,
     k: usize,
 ) -> io::Result<()> {
-    let mut target = [0xffff_ffffu32; 14523];
-    rt.write_all(head)?;
-    let w = record::write(words, n, m, k, &mut target);
-    writes(rt, w)?;
-    if let Writing::Written { used } = w {
+    let mut target = [u32::MAX; 14523];
+    let written = record::write(words, n, m, k, &mut target);
+    print!(rt; "{head}{}", Written(written))?;
+    if let Ok(used) = written {
         load_back(rt, &target, used, words)?;
     }
-    if target[14522] == 0xffff_ffff {
-        rt.write_all(b", the last word left")?;
+    if target[14522] == u32::MAX {
+        print!(rt; ", the last word left")?;
     }
-    end_line(rt)
+    println!(rt)
 }
 
 // Loads the first `used` words of a record and compares the matrix's words with those that were written.
 fn load_back(rt: &impl Print, target: &[u32], used: usize, words: &[u64]) -> io::Result<()> {
-    let mut back = [0xffff_ffff_ffff_ffff; 4096];
+    let mut back = [u64::MAX; 4096];
     if target.len() < used {
         return Ok(());
     }
-    rt.write_all(b", ")?;
-    loads(rt, record::load(&target[..used], &mut back))?;
-    if same(words, &back) {
-        rt.write_all(b", the same words")?;
+    print!(rt; ", {}", Loaded(record::load(&target[..used], &mut back)))?;
+    if words == back.as_slice() {
+        print!(rt; ", the same words")?;
     }
     Ok(())
 }
 
 // The records of the bench's matrices with k = 0, of both forms, and an empty record.
 fn bench_a_and_c(rt: &impl Print) -> io::Result<()> {
-    round_trip(rt, b"A: ", &A, &A2)?;
-    round_trip(rt, b"A, second form: ", &A2, &A2)?;
-    round_trip(rt, b"C: ", &C, &C2)?;
-    round_trip(rt, b"C, second form: ", &C2, &C2)
+    round_trip(rt, "A: ", &A, &A2)?;
+    round_trip(rt, "A, second form: ", &A2, &A2)?;
+    round_trip(rt, "C: ", &C, &C2)?;
+    round_trip(rt, "C, second form: ", &C2, &C2)
 }
 
 fn bench_e_and_f(rt: &impl Print) -> io::Result<()> {
-    round_trip(rt, b"E: ", &E, &E2)?;
-    round_trip(rt, b"E, second form: ", &E2, &E2)?;
-    round_trip(rt, b"F: ", &F, &F2)?;
-    round_trip(rt, b"F, second form: ", &F2, &F2)
+    round_trip(rt, "E: ", &E, &E2)?;
+    round_trip(rt, "E, second form: ", &E2, &E2)?;
+    round_trip(rt, "F: ", &F, &F2)?;
+    round_trip(rt, "F, second form: ", &F2, &F2)
 }
 
 fn bench_i_and_k(rt: &impl Print) -> io::Result<()> {
-    round_trip(rt, b"I: ", &I, &I2)?;
-    round_trip(rt, b"I, second form: ", &I2, &I2)?;
+    round_trip(rt, "I: ", &I, &I2)?;
+    round_trip(rt, "I, second form: ", &I2, &I2)?;
     let none: [u32; 0] = [];
-    round_trip(rt, b"K: ", &none, &none)
+    round_trip(rt, "K: ", &none, &none)
 }
 
 // First words at the ends of their ranges, and other lengths.
 fn firsts(rt: &impl Print) -> io::Result<()> {
-    load_case(rt, b"n = 120: ", &[0x1000_0078, 0xf000_0000])?;
-    load_case(rt, b"n = 121: ", &[0x1000_0079, 0xf000_0000])?;
-    load_case(rt, b"n = 0: ", &[0x1000_0000, 0xf000_0000])?;
-    load_case(rt, b"m = 121: ", &[0x1000_7901, 0xf000_0000])?;
-    load_case(rt, b"only the first word: ", &[0x1000_0001])
+    load_case(rt, "n = 120: ", &[0x1000_0078, 0xf000_0000])?;
+    load_case(rt, "n = 121: ", &[0x1000_0079, 0xf000_0000])?;
+    load_case(rt, "n = 0: ", &[0x1000_0000, 0xf000_0000])?;
+    load_case(rt, "m = 121: ", &[0x1000_7901, 0xf000_0000])?;
+    load_case(rt, "only the first word: ", &[0x1000_0001])
 }
 
 // Checks and ends that are not as the first word has them.
 fn counts(rt: &impl Print) -> io::Result<()> {
     load_case(
         rt,
-        b"n = 3, count 3, first bit 2: ",
+        "n = 3, count 3, first bit 2: ",
         &[
             0x1000_0103,
             0x2000_0003,
@@ -344,7 +331,7 @@ fn counts(rt: &impl Print) -> io::Result<()> {
     )?;
     load_case(
         rt,
-        b"equal bits: ",
+        "equal bits: ",
         &[
             0x1000_0103,
             0x2000_0002,
@@ -355,17 +342,17 @@ fn counts(rt: &impl Print) -> io::Result<()> {
     )?;
     load_case(
         rt,
-        b"a check too many: ",
+        "a check too many: ",
         &[0x1000_0102, 0x2000_0000, 0x2000_0000, 0xf000_0000],
     )?;
     load_case(
         rt,
-        b"a check too few: ",
+        "a check too few: ",
         &[0x1000_0202, 0x2000_0000, 0xf000_0000],
     )?;
     load_case(
         rt,
-        b"a word after the end: ",
+        "a word after the end: ",
         &[0x1000_0002, 0xf000_0000, 0xf000_0000],
     )
 }
@@ -374,22 +361,22 @@ fn counts(rt: &impl Print) -> io::Result<()> {
 fn numbers(rt: &impl Print) -> io::Result<()> {
     load_case(
         rt,
-        b"first form, check 1 numbered: ",
+        "first form, check 1 numbered: ",
         &[0x1000_0203, 0x2000_0000, 0x2000_0100, 0xf000_0000],
     )?;
     load_case(
         rt,
-        b"second form, check 1 not numbered: ",
+        "second form, check 1 not numbered: ",
         &[0x4000_0203, 0x2000_0000, 0x2000_0000, 0xf000_0000],
     )?;
     load_case(
         rt,
-        b"second form, numbers from 1: ",
+        "second form, numbers from 1: ",
         &[0x4000_0203, 0x2000_0100, 0x2000_0200, 0xf000_0000],
     )?;
     load_case(
         rt,
-        b"second form, a number skipped: ",
+        "second form, a number skipped: ",
         &[0x4000_0203, 0x2000_0000, 0x2000_0200, 0xf000_0000],
     )
 }
@@ -398,26 +385,26 @@ fn numbers(rt: &impl Print) -> io::Result<()> {
 fn seconds(rt: &impl Print) -> io::Result<()> {
     load_case(
         rt,
-        b"second form, bit 16 of a kind 2 word: ",
+        "second form, bit 16 of a kind 2 word: ",
         &[0x4000_0103, 0x2001_0000, 0xf000_0000],
     )?;
     load_case(
         rt,
-        b"second form, a word after the end: ",
+        "second form, a word after the end: ",
         &[0x4000_0002, 0xf000_0000, 0xf000_0000],
     )?;
-    load_case(rt, b"second form, n = 120: ", &[0x4000_0078, 0xf000_0000])?;
-    load_case(rt, b"second form, n = 121: ", &[0x4000_0079, 0xf000_0000])?;
-    load_case(rt, b"second form, m = 121: ", &[0x4000_7901, 0xf000_0000])?;
+    load_case(rt, "second form, n = 120: ", &[0x4000_0078, 0xf000_0000])?;
+    load_case(rt, "second form, n = 121: ", &[0x4000_0079, 0xf000_0000])?;
+    load_case(rt, "second form, m = 121: ", &[0x4000_7901, 0xf000_0000])?;
     load_case(
         rt,
-        b"another kind of first word: ",
+        "another kind of first word: ",
         &[0x6000_0002, 0xf000_0000],
     )
 }
 
 // E with its splits, with one word replaced.
-fn third_case(rt: &impl Print, head: &[u8], at: usize, word: u32) -> io::Result<()>
+fn third_case(rt: &impl Print, head: &str, at: usize, word: u32) -> io::Result<()>
     requires { at < 12 }
 {
     let mut source = E3;
@@ -427,43 +414,43 @@ fn third_case(rt: &impl Print, head: &[u8], at: usize, word: u32) -> io::Result<
 
 // Splits: in the third form, in the others, before the checks are complete, after the end.
 fn splits(rt: &impl Print) -> io::Result<()> {
-    round_trip(rt, b"E with its splits: ", &E3, &E3)?;
-    round_trip(rt, b"C, third form without splits: ", &C3, &C2)?;
-    third_case(rt, b"in the second form: ", 0, 0x4000_0203)?;
-    third_case(rt, b"in the first form: ", 0, 0x1000_0203)?;
-    third_case(rt, b"before check 1: ", 5, 0x6000_0200)
+    round_trip(rt, "E with its splits: ", &E3, &E3)?;
+    round_trip(rt, "C, third form without splits: ", &C3, &C2)?;
+    third_case(rt, "in the second form: ", 0, 0x4000_0203)?;
+    third_case(rt, "in the first form: ", 0, 0x1000_0203)?;
+    third_case(rt, "before check 1: ", 5, 0x6000_0200)
 }
 
 // Each fault of the first split,
 fn first_splits(rt: &impl Print) -> io::Result<()> {
-    third_case(rt, b"first split, bits exchanged: ", 9, 0x6000_0001)?;
-    third_case(rt, b"first split, equal bits: ", 9, 0x6000_0201)?;
-    third_case(rt, b"first split, bit 3 is not there: ", 9, 0x6000_0600)?;
-    third_case(rt, b"first split, bit 18 set: ", 9, 0x6004_0200)?;
-    third_case(rt, b"first split, bit 27 set: ", 9, 0x6800_0200)?;
-    third_case(rt, b"first split, another pair: ", 9, 0x6000_0400)
+    third_case(rt, "first split, bits exchanged: ", 9, 0x6000_0001)?;
+    third_case(rt, "first split, equal bits: ", 9, 0x6000_0201)?;
+    third_case(rt, "first split, bit 3 is not there: ", 9, 0x6000_0600)?;
+    third_case(rt, "first split, bit 18 set: ", 9, 0x6004_0200)?;
+    third_case(rt, "first split, bit 27 set: ", 9, 0x6800_0200)?;
+    third_case(rt, "first split, another pair: ", 9, 0x6000_0400)
 }
 
 // and of the last.
 fn last_splits(rt: &impl Print) -> io::Result<()> {
-    third_case(rt, b"last split, bits exchanged: ", 10, 0x6000_0403)?;
-    third_case(rt, b"last split, bit 4 is not there: ", 10, 0x6000_0802)?;
-    third_case(rt, b"last split, share 1: ", 10, 0x6000_0200)?;
-    third_case(rt, b"last split, share 0: ", 10, 0x6000_0400)?;
-    third_case(rt, b"last split, bit 18 set: ", 10, 0x6004_0602)
+    third_case(rt, "last split, bits exchanged: ", 10, 0x6000_0403)?;
+    third_case(rt, "last split, bit 4 is not there: ", 10, 0x6000_0802)?;
+    third_case(rt, "last split, share 1: ", 10, 0x6000_0200)?;
+    third_case(rt, "last split, share 0: ", 10, 0x6000_0400)?;
+    third_case(rt, "last split, bit 18 set: ", 10, 0x6004_0602)
 }
 
 fn ends_of_splits(rt: &impl Print) -> io::Result<()> {
-    third_case(rt, b"no last split: ", 10, 0xf000_0000)?;
-    third_case(rt, b"a third split, and no end: ", 11, 0x6000_0803)?;
+    third_case(rt, "no last split: ", 10, 0xf000_0000)?;
+    third_case(rt, "a third split, and no end: ", 11, 0x6000_0803)?;
     load_case(
         rt,
-        b"a split after the end: ",
+        "a split after the end: ",
         &[0x5000_0002, 0xf000_0000, 0x6000_0200],
     )?;
     load_case(
         rt,
-        b"no checks, a split: ",
+        "no checks, a split: ",
         &[0x5000_0002, 0x6000_0200, 0xf000_0000],
     )
 }
@@ -472,74 +459,56 @@ fn ends_of_splits(rt: &impl Print) -> io::Result<()> {
 fn short_thirds(rt: &impl Print) -> io::Result<()> {
     let mut words = [0u64; 4096];
     let source = E3;
-    record::load(&source, &mut words);
+    let _ = record::load(&source, &mut words);
     let mut short = [7u32; 11];
-    rt.write_all(b"E with its splits, one word short: ")?;
-    writes(rt, record::write(&words, 3, 2, 2, &mut short))?;
+    let written = Written(record::write(&words, 3, 2, 2, &mut short));
+    println!(rt; "E with its splits, one word short: {written}")?;
     let mut none: [u32; 0] = [];
-    rt.write_all(b"\nno split made it, no room: ")?;
     let mut alone = [0u64; 4096];
     alone[0] = 7;
-    writes(rt, record::write(&alone, 2, 0, 1, &mut none))?;
-    end_line(rt)
+    let written = Written(record::write(&alone, 2, 0, 1, &mut none));
+    println!(rt; "no split made it, no room: {written}")
 }
 
 // The full record, with check 119 numbered otherwise, and with kind 1 in its first word.
 fn last_numbers(rt: &impl Print, words: &[u64]) -> io::Result<()> {
     let mut target = [0u32; 14522];
-    record::write(words, 120, 120, 0, &mut target);
+    let _ = record::write(words, 120, 120, 0, &mut target);
     if target[14400] == 0x2000_7778 {
-        rt.write_all(b"check 119 is opened at 14400\n")?;
+        println!(rt; "check 119 is opened at 14400")?;
     }
     target[14400] = 0x2000_7678;
-    load_case(rt, b"check 119 numbered 118: ", &target)?;
+    load_case(rt, "check 119 numbered 118: ", &target)?;
     target[14400] = 0x2000_7878;
-    load_case(rt, b"check 119 numbered 120: ", &target)?;
+    load_case(rt, "check 119 numbered 120: ", &target)?;
     target[14400] = 0x2000_7778;
     target[0] = 0x1000_7878;
-    load_case(rt, b"full, kind 1 first: ", &target)
+    load_case(rt, "full, kind 1 first: ", &target)
 }
 
-// The record of C, of one form,
-fn record_of_c(second: bool) -> [u32; 16] {
-    if second {
-        return C2;
-    }
-    C
-}
-
-// with one word replaced.
-fn replaced(rt: &impl Print, second: bool, at: usize, word: u32) -> io::Result<()>
+// A record with one word replaced.
+fn replaced(rt: &impl Print, record: &[u32; 16], at: usize, word: u32) -> io::Result<()>
     requires { at < 16 }
 {
     let mut words = [0u64; 4096];
-    let mut source = record_of_c(second);
+    let mut source = *record;
     source[at] = word;
-    place(rt, record::load(&source, &mut words))
+    print!(rt; "{}", Place(record::load(&source, &mut words)))
 }
 
-fn replaced_at(rt: &impl Print, second: bool, at: usize) -> io::Result<()>
+fn replaced_line(rt: &impl Print, record: &[u32; 16], at: usize) -> io::Result<()>
     requires { at < 16 }
 {
-    let wrong = WRONG;
-    for f in 0..31 {
-        replaced(rt, second, at, wrong[f])?;
+    print!(rt; "another word at {at}:")?;
+    for word in WRONG {
+        replaced(rt, record, at, word)?;
     }
-    Ok(())
+    println!(rt)
 }
 
-fn replaced_line(rt: &impl Print, second: bool, at: usize) -> io::Result<()>
-    requires { at < 16 }
-{
-    field(rt, b"another word at ", at as u64)?;
-    rt.write_all(b":")?;
-    replaced_at(rt, second, at)?;
-    end_line(rt)
-}
-
-fn all_replaced(rt: &impl Print, second: bool) -> io::Result<()> {
+fn all_replaced(rt: &impl Print, record: &[u32; 16]) -> io::Result<()> {
     for at in 0..16 {
-        replaced_line(rt, second, at)?;
+        replaced_line(rt, record, at)?;
     }
     Ok(())
 }
@@ -549,7 +518,7 @@ fn cut(rt: &impl Print, source: &[u32], len: usize) -> io::Result<()>
     requires { len ≤ length source.now }
 {
     let mut words = [0u64; 4096];
-    place(rt, record::load(&source[..len], &mut words))
+    print!(rt; "{}", Place(record::load(&source[..len], &mut words)))
 }
 
 fn all_cut(rt: &impl Print, source: &[u32]) -> io::Result<()>
@@ -564,36 +533,41 @@ fn all_cut(rt: &impl Print, source: &[u32]) -> io::Result<()>
 // 4,095 words of a matrix.
 fn lengths(rt: &impl Print) -> io::Result<()> {
     let mut words = [0u64; 4095];
-    rt.write_all(b"into 4,095 words: ")?;
-    loads(rt, record::load(&[0u32; 1], &mut words))?;
-    end_line(rt)?;
-    write_case(rt, b"of 4,095 words: ", &words, 1, 0, 0)
+    println!(rt;
+        "into 4,095 words: {}",
+        Loaded(record::load(&[0u32; 1], &mut words))
+    )?;
+    write_case(rt, "of 4,095 words: ", &words, 1, 0, 0)
 }
 
 // Lent records that are one word short and exact.
 fn rooms(rt: &impl Print, words: &[u64]) -> io::Result<()> {
     let mut short = [0u32; 14521];
-    rt.write_all(b"one word short: ")?;
-    writes(rt, record::write(words, 120, 120, 0, &mut short))?;
+    print!(rt;
+        "one word short: {}",
+        Written(record::write(words, 120, 120, 0, &mut short))
+    )?;
     if short[0] == 0 {
-        rt.write_all(b", the first word left")?;
+        print!(rt; ", the first word left")?;
     }
+    println!(rt)?;
     let mut exact = [0u32; 14522];
-    rt.write_all(b"\nexact: ")?;
-    writes(rt, record::write(words, 120, 120, 0, &mut exact))?;
-    end_line(rt)?;
-    load_case(rt, b"14,522 words: ", &exact)
+    println!(rt;
+        "exact: {}",
+        Written(record::write(words, 120, 120, 0, &mut exact))
+    )?;
+    load_case(rt, "14,522 words: ", &exact)
 }
 
 // The full record with one word more.
 fn too_long(rt: &impl Print, words: &[u64]) -> io::Result<()> {
-    let mut target = [0xffff_ffffu32; 14523];
-    record::write(words, 120, 120, 0, &mut target);
-    load_case(rt, b"14,523 words: ", &target)
+    let mut target = [u32::MAX; 14523];
+    let _ = record::write(words, 120, 120, 0, &mut target);
+    load_case(rt, "14,523 words: ", &target)
 }
 
 // One word of a matrix set.
-fn with_word(rt: &impl Print, head: &[u8], w: u64, n: usize, m: usize, k: usize) -> io::Result<()> {
+fn with_word(rt: &impl Print, head: &str, w: u64, n: usize, m: usize, k: usize) -> io::Result<()> {
     let mut words = [0u64; 4096];
     words[0] = w;
     write_case(rt, head, &words, n, m, k)
@@ -601,9 +575,9 @@ fn with_word(rt: &impl Print, head: &[u8], w: u64, n: usize, m: usize, k: usize)
 
 fn large(rt: &impl Print) -> io::Result<()> {
     let l = samples::cases::l();
-    write_case(rt, b"L: ", &l, 23, 23, 0)?;
+    write_case(rt, "L: ", &l, 23, 23, 0)?;
     let all = full();
-    write_case(rt, b"full: ", &all, 120, 120, 0)?;
+    write_case(rt, "full: ", &all, 120, 120, 0)?;
     rooms(rt, &all)?;
     too_long(rt, &all)?;
     last_numbers(rt, &all)
@@ -622,24 +596,24 @@ fn faults(rt: &impl Print) -> io::Result<()> {
 }
 
 fn replaced_and_cut(rt: &impl Print) -> io::Result<()> {
-    rt.write_all(b"C with\n")?;
-    all_replaced(rt, false)?;
-    rt.write_all(b"C, second form, with\n")?;
-    all_replaced(rt, true)?;
-    rt.write_all(b"C cut:")?;
+    println!(rt; "C with")?;
+    all_replaced(rt, &C)?;
+    println!(rt; "C, second form, with")?;
+    all_replaced(rt, &C2)?;
+    print!(rt; "C cut:")?;
     all_cut(rt, &C)?;
-    rt.write_all(b"\nC, second form, cut:")?;
+    print!(rt; "\nC, second form, cut:")?;
     all_cut(rt, &C2)?;
-    end_line(rt)
+    println!(rt)
 }
 
 fn written(rt: &impl Print) -> io::Result<()> {
     lengths(rt)?;
-    with_word(rt, b"n = 121 to write: ", 0, 121, 0, 0)?;
-    with_word(rt, b"a one outside: ", 2, 1, 1, 0)?;
-    with_word(rt, b"rule A broken: ", 1, 1, 0, 1)?;
-    with_word(rt, b"k = 1: ", 7, 2, 0, 1)?;
-    with_word(rt, b"n = 1, m = 1, empty: ", 0, 1, 1, 0)
+    with_word(rt, "n = 121 to write: ", 0, 121, 0, 0)?;
+    with_word(rt, "a one outside: ", 2, 1, 1, 0)?;
+    with_word(rt, "rule A broken: ", 1, 1, 0, 1)?;
+    with_word(rt, "k = 1: ", 7, 2, 0, 1)?;
+    with_word(rt, "n = 1, m = 1, empty: ", 0, 1, 1, 0)
 }
 
 fn main(rt: HostRuntime) -> io::Result<()> {

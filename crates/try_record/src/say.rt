@@ -1,37 +1,45 @@
-// Replies as lines.
+// Replies as text.
 use parity::Refusal;
-use record::Loading;
-use samples::say::{field, refused};
-use std::io;
-use writing::Writing;
+use record::Sizes;
+use samples::say::Why;
+use std::fmt;
 
-pub fn loads(rt: &impl Print, r: Loading) -> io::Result<()> {
-    match r {
-        Loading::Loaded { n, m, k } => {
-            field(rt, b"n = ", n as u64)?;
-            field(rt, b", m = ", m as u64)?;
-            field(rt, b", k = ", k as u64)
+// What loading a record answers.
+#[derive(Clone, Copy)]
+pub struct Loaded(pub Result<Sizes, Refusal>);
+
+impl fmt::Display for Loaded {
+    fn fmt<W: fmt::Write>(&self, f: &mut fmt::Formatter<W>) -> fmt::Result {
+        match self.0 {
+            Ok(Sizes { n, m, k }) => write!(f, "n = {n}, m = {m}, k = {k}"),
+            Err(why) => write!(f, "refused {}", Why(why)),
         }
-        Loading::Refused(why) => refused(rt, b"refused ", why),
     }
 }
 
-pub fn writes(rt: &impl Print, w: Writing) -> io::Result<()> {
-    match w {
-        Writing::Written { used } => field(rt, b"words ", used as u64),
-        Writing::Refused(why) => refused(rt, b"refused ", why),
+// What writing a record answers.
+#[derive(Clone, Copy)]
+pub struct Written(pub Result<usize, Refusal>);
+
+impl fmt::Display for Written {
+    fn fmt<W: fmt::Write>(&self, f: &mut fmt::Formatter<W>) -> fmt::Result {
+        match self.0 {
+            Ok(used) => write!(f, "words {used}"),
+            Err(why) => write!(f, "refused {}", Why(why)),
+        }
     }
 }
 
 // The place of the faulty word alone, and - where the record loads.
-pub fn place(rt: &impl Print, r: Loading) -> io::Result<()> {
-    match r {
-        Loading::Loaded { n: _, m: _, k: _ } => rt.write_all(b" -"),
-        Loading::Refused(why) => {
-            let Refusal::FaultyWord { place } = why else {
-                return Ok(());
-            };
-            field(rt, b" ", place as u64)
+#[derive(Clone, Copy)]
+pub struct Place(pub Result<Sizes, Refusal>);
+
+impl fmt::Display for Place {
+    fn fmt<W: fmt::Write>(&self, f: &mut fmt::Formatter<W>) -> fmt::Result {
+        match self.0 {
+            Ok(_) => write!(f, " -"),
+            Err(Refusal::FaultyWord { place }) => write!(f, " {place}"),
+            Err(_) => Ok(()),
         }
     }
 }

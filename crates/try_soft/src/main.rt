@@ -2,47 +2,34 @@
 // ? for erased, x for a byte above 3, and of a soft bit the eight hexadecimal digits of its float.
 #![tactic(auto)]
 
-use min_sum::Decoding;
-use samples::say::{end_line, field, refused, show_float};
-use soft::floats::infinity;
-use std::io;
+use samples::say::{Digits, Why};
+use std::{fmt, io};
 
-// One bit: its byte, and its float if it is soft.
-fn symbol(rt: &impl Print, byte: u8, float: f32) -> io::Result<()> {
-    match byte {
-        0 => rt.write_all(b" 0"),
-        1 => rt.write_all(b" 1"),
-        2 => rt.write_all(b" ?"),
-        3 => {
-            rt.write_all(b" ")?;
-            show_float(rt, float)
+// The bits of a word, with a space before each.
+#[derive(Clone, Copy)]
+struct Bits<'a> {
+    word: &'a [u8],
+    floats: &'a [f32],
+}
+
+impl<'a> fmt::Display for Bits<'a> {
+    fn fmt<W: fmt::Write>(&self, f: &mut fmt::Formatter<W>) -> fmt::Result {
+        for (byte, float) in self.word.iter().zip(self.floats) {
+            match *byte {
+                0 => write!(f, " 0")?,
+                1 => write!(f, " 1")?,
+                2 => write!(f, " ?")?,
+                3 => write!(f, " {}", Digits(*float))?,
+                _ => write!(f, " x")?,
+            }
         }
-        _ => rt.write_all(b" x"),
+        Ok(())
     }
-}
-
-fn show(rt: &impl Print, word: &[u8], floats: &[f32]) -> io::Result<()> {
-    let mut i: usize = 0;
-    while i < word.len() {
-        if i < floats.len() {
-            symbol(rt, word[i], floats[i])?;
-        }
-        i += 1;
-    }
-    Ok(())
-}
-
-fn no_bytes() -> [u8; 65536] {
-    [0; 65536]
-}
-
-fn no_floats() -> [f32; 65536] {
-    [0.0f32; 65536]
 }
 
 fn line(
     rt: &impl Print,
-    head: &[u8],
+    head: &str,
     words: &[u64],
     n: usize,
     m: usize,
@@ -51,11 +38,8 @@ fn line(
     word: &mut [u8],
     floats: &mut [f32],
 ) -> io::Result<()> {
-    rt.write_all(head)?;
-    field(rt, b", rounds ", rounds as u64)?;
-    rt.write_all(b": ")?;
-    let mut bytes = no_bytes();
-    let mut values = no_floats();
+    let mut bytes = [0u8; 65536];
+    let mut values = [0.0f32; 65536];
     let answer = min_sum::min_sum(
         words,
         n,
@@ -67,25 +51,25 @@ fn line(
         &mut bytes,
         &mut values,
     );
+    print!(rt; "{head}, rounds {rounds}: ")?;
     match answer {
-        Decoding::Made => rt.write_all(b"made")?,
-        Decoding::Refused(r) => refused(rt, b"REFUSED ", r)?,
+        Ok(()) => print!(rt; "made")?,
+        Err(why) => print!(rt; "REFUSED {}", Why(why))?,
     }
-    show(rt, word, floats)?;
-    end_line(rt)
+    println!(rt; "{}", Bits { word, floats })
 }
 
 fn a_words(rt: &impl Print, words: &[u64]) -> io::Result<()> {
     let mut soft = [3, 3, 3, 3, 3, 3, 3];
     let mut f = [1.5f32, -2.0, 3.25, 0.5, -0.25, 8.0, 4.0];
-    line(rt, b"A, soft", words, 7, 3, 0, 1, &mut soft, &mut f)?;
-    line(rt, b"A, what is left", words, 7, 3, 0, 3, &mut soft, &mut f)?;
+    line(rt, "A, soft", words, 7, 3, 0, 1, &mut soft, &mut f)?;
+    line(rt, "A, what is left", words, 7, 3, 0, 3, &mut soft, &mut f)?;
     let mut mixed = [2, 2, 0, 3, 1, 3, 3];
     let mut g = [7.0f32, 7.0, 7.0, -0.75, 7.0, 0.1, -0.3];
-    line(rt, b"A, mixed", words, 7, 3, 0, 1, &mut mixed, &mut g)?;
+    line(rt, "A, mixed", words, 7, 3, 0, 1, &mut mixed, &mut g)?;
     line(
         rt,
-        b"A, mixed, further",
+        "A, mixed, further",
         words,
         7,
         3,
@@ -99,7 +83,7 @@ fn a_words(rt: &impl Print, words: &[u64]) -> io::Result<()> {
 fn a_edges(rt: &impl Print, words: &[u64]) -> io::Result<()> {
     let mut zero = [3, 3, 3, 3, 3, 2, 3];
     let mut z = [-0.0f32, 0.0, -1.0, 0.0, -0.0, 9.0, -3.0];
-    line(rt, b"A, zeros", words, 7, 3, 0, 2, &mut zero, &mut z)?;
+    line(rt, "A, zeros", words, 7, 3, 0, 2, &mut zero, &mut z)?;
     let mut large = [3, 3, 3, 3, 3, 3, 3];
     let mut l = [
         1048576.0f32,
@@ -110,29 +94,19 @@ fn a_edges(rt: &impl Print, words: &[u64]) -> io::Result<()> {
         1048576.0,
         -0.5,
     ];
-    line(
-        rt,
-        b"A, at the limit",
-        words,
-        7,
-        3,
-        0,
-        9,
-        &mut large,
-        &mut l,
-    )
+    line(rt, "A, at the limit", words, 7, 3, 0, 9, &mut large, &mut l)
 }
 
 fn a_rounds(rt: &impl Print, words: &[u64]) -> io::Result<()> {
     let mut w = [3, 0, 2, 1, 3, 3, 0];
     let mut f = [1.0f32, 0.0, 0.0, 0.0, -1.0, 0.5, 0.0];
-    line(rt, b"A", words, 7, 3, 0, 0, &mut w, &mut f)?;
-    line(rt, b"A", words, 7, 3, 0, 513, &mut w, &mut f)?;
-    f[1] = infinity() - infinity();
-    f[2] = -infinity();
+    line(rt, "A", words, 7, 3, 0, 0, &mut w, &mut f)?;
+    line(rt, "A", words, 7, 3, 0, 513, &mut w, &mut f)?;
+    f[1] = f32::INFINITY - f32::INFINITY;
+    f[2] = -f32::INFINITY;
     line(
         rt,
-        b"A, floats that do not count",
+        "A, floats that do not count",
         words,
         7,
         3,
@@ -146,24 +120,14 @@ fn a_rounds(rt: &impl Print, words: &[u64]) -> io::Result<()> {
 fn a_wrong(rt: &impl Print, words: &[u64]) -> io::Result<()> {
     let mut v = [3, 0, 2, 1, 3, 3, 0];
     let mut f = [2.0f32, 0.0, 0.0, 0.0, -1048576.125, 0.0, 0.0];
-    f[5] = infinity();
-    line(
-        rt,
-        b"A, two wrong floats",
-        words,
-        7,
-        3,
-        0,
-        1,
-        &mut v,
-        &mut f,
-    )?;
+    f[5] = f32::INFINITY;
+    line(rt, "A, two wrong floats", words, 7, 3, 0, 1, &mut v, &mut f)?;
     v[5] = 4;
-    line(rt, b"A, a wrong byte", words, 7, 3, 0, 512, &mut v, &mut f)?;
+    line(rt, "A, a wrong byte", words, 7, 3, 0, 512, &mut v, &mut f)?;
     let mut short = [0.0f32; 6];
     line(
         rt,
-        b"A, n - 1 floats",
+        "A, n - 1 floats",
         words,
         7,
         3,
@@ -173,7 +137,7 @@ fn a_wrong(rt: &impl Print, words: &[u64]) -> io::Result<()> {
         &mut short,
     )?;
     let few = [0u64; 4095];
-    line(rt, b"4,095 words", &few, 7, 3, 0, 0, &mut v, &mut short)
+    line(rt, "4,095 words", &few, 7, 3, 0, 0, &mut v, &mut short)
 }
 
 fn case_a(rt: &impl Print) -> io::Result<()> {
@@ -191,7 +155,7 @@ fn case_d(rt: &impl Print) -> io::Result<()> {
     let mut f = [-1.0f32; 8];
     line(
         rt,
-        b"D, sure and erased",
+        "D, sure and erased",
         &words,
         7,
         3,
@@ -202,7 +166,7 @@ fn case_d(rt: &impl Print) -> io::Result<()> {
     )?;
     let mut v = [2, 2, 2, 3, 3, 1, 1, 2];
     let mut g = [0.0f32, 0.0, 0.0, -2.5, -1.25, 0.0, 0.0, 0.0];
-    line(rt, b"D, soft", &words, 7, 3, 1, 4, &mut v, &mut g)
+    line(rt, "D, soft", &words, 7, 3, 1, 4, &mut v, &mut g)
 }
 
 // {2} {0,2} and an empty check: bits 1 and 3 are in no check, and check 0 has one bit, to which it sends sure 0.
@@ -212,21 +176,11 @@ fn few_bits(rt: &impl Print) -> io::Result<()> {
     words[8] = 0b101;
     let mut w = [3, 3, 3, 2];
     let mut f = [-4.0f32, -0.0, 1.0, 0.0];
-    line(
-        rt,
-        b"a check of one bit",
-        &words,
-        4,
-        3,
-        0,
-        2,
-        &mut w,
-        &mut f,
-    )?;
+    line(rt, "a check of one bit", &words, 4, 3, 0, 2, &mut w, &mut f)?;
     let none = [0u64; 4096];
     let mut v = [3, 1];
     let mut g = [-0.0f32, 3.0];
-    line(rt, b"no checks", &none, 2, 0, 0, 512, &mut v, &mut g)
+    line(rt, "no checks", &none, 2, 0, 0, 512, &mut v, &mut g)
 }
 
 // Soft bits near the zero codeword of L, three of them false.
@@ -239,8 +193,8 @@ fn case_l(rt: &impl Print) -> io::Result<()> {
     f[11] = -1.0;
     f[12] = 2.5;
     f[20] = -0.0625;
-    line(rt, b"L", &words, 23, 23, 0, 1, &mut w, &mut f)?;
-    line(rt, b"L, further", &words, 23, 23, 0, 40, &mut w, &mut f)
+    line(rt, "L", &words, 23, 23, 0, 1, &mut w, &mut f)?;
+    line(rt, "L, further", &words, 23, 23, 0, 40, &mut w, &mut f)
 }
 
 fn main(rt: HostRuntime) -> io::Result<()> {

@@ -4,30 +4,30 @@
 
 ghost use Rattle.std.specs.Prelude.{◌≡◌, ◌≤◌, length};
 
-use cycles::{Counting, Sharing};
-use orthogonalise::Orthogonalising;
-use parity::{Bit, Check, Holders};
-use samples::say::{end_line, field, refused};
-use samples::words::same;
-use split::{Splitting, TakingBack};
-use std::io;
+use orthogonalise::Orthogonalised;
+use pairs::Shared;
+use parity::{Bit, Check, Holders, Refusal};
+use samples::say::Why;
+use split::{SplitMade, TakenBack};
+use std::{fmt, io};
+
+// The lowest and the highest check that hold a pair.
+#[derive(Clone, Copy)]
+struct Held(Option<Holders>);
+
+impl fmt::Display for Held {
+    fn fmt<W: fmt::Write>(&self, f: &mut fmt::Formatter<W>) -> fmt::Result {
+        match self.0 {
+            None => write!(f, ", held by none"),
+            Some(Holders { low, high }) => write!(f, ", held by {} to {}", low.0, high.0),
+        }
+    }
+}
 
 fn show_count(rt: &impl Print, words: &[u64], n: usize, m: usize, k: usize) -> io::Result<()> {
     match cycles::count(words, n, m, k) {
-        Counting::Cycles(c) => field(rt, b"count ", c)?,
-        Counting::Refused(r) => refused(rt, b"refused ", r)?,
-    }
-    end_line(rt)
-}
-
-// The lowest and the highest check that hold a pair.
-fn show_held(rt: &impl Print, held: Holders) -> io::Result<()> {
-    match held {
-        Holders::None => rt.write_all(b", held by none"),
-        Holders::Both(low, high) => {
-            field(rt, b", held by ", low.0 as u64)?;
-            field(rt, b" to ", high.0 as u64)
-        }
+        Ok(count) => println!(rt; "count {count}"),
+        Err(why) => println!(rt; "refused {}", Why(why)),
     }
 }
 
@@ -41,13 +41,9 @@ fn show_share(
     v: usize,
 ) -> io::Result<()> {
     match cycles::share(words, n, m, k, Bit(u), Bit(v)) {
-        Sharing::Share { share, held } => {
-            field(rt, b"share ", share)?;
-            show_held(rt, held)?;
-        }
-        Sharing::Refused(r) => refused(rt, b"refused ", r)?,
+        Ok(Shared { share, held }) => println!(rt; "share {share}{}", Held(held)),
+        Err(why) => println!(rt; "refused {}", Why(why)),
     }
-    end_line(rt)
 }
 
 fn show_split(
@@ -60,14 +56,12 @@ fn show_split(
     v: usize,
 ) -> io::Result<()> {
     match split::split(words, n, m, k, Bit(u), Bit(v)) {
-        Splitting::Made { share, k, held } => {
-            field(rt, b"split, share ", share)?;
-            field(rt, b", k ", k as u64)?;
-            show_held(rt, held)?;
-        }
-        Splitting::Refused(r) => refused(rt, b"refused ", r)?,
+        Ok(SplitMade { share, k, held }) => println!(rt;
+            "split, share {share}, k {k}{}",
+            Held(held)
+        ),
+        Err(why) => println!(rt; "refused {}", Why(why)),
     }
-    end_line(rt)
 }
 
 fn show_take_back(
@@ -78,21 +72,21 @@ fn show_take_back(
     k: usize,
 ) -> io::Result<()> {
     match split::take_back(words, n, m, k) {
-        TakingBack::Made { share, k } => {
-            field(rt, b"taken back, s ", share)?;
-            field(rt, b", k ", k as u64)?;
-        }
-        TakingBack::Refused(r) => refused(rt, b"refused ", r)?,
+        Ok(TakenBack { share, k }) => println!(rt; "taken back, s {share}, k {k}"),
+        Err(why) => println!(rt; "refused {}", Why(why)),
     }
-    end_line(rt)
 }
 
-fn show_result(rt: &impl Print, splits: u64, sum: u64, k: usize, held: Holders) -> io::Result<()> {
-    field(rt, b"splits ", splits)?;
-    field(rt, b", sum ", sum)?;
-    field(rt, b", k ", k as u64)?;
-    show_held(rt, held)?;
-    end_line(rt)
+// What orthogonalising came to, or had come to where it was refused 9, and its k.
+fn show_result(rt: &impl Print, came_to: Orthogonalised) -> io::Result<usize> {
+    let Orthogonalised {
+        splits,
+        sum,
+        k,
+        held,
+    } = came_to;
+    println!(rt; "splits {splits}, sum {sum}, k {k}{}", Held(held))?;
+    Ok(k)
 }
 
 // Orthogonalises, and answers the k that it came to.
@@ -104,53 +98,45 @@ fn show_orthogonalise(
     k: usize,
 ) -> io::Result<usize> {
     match orthogonalise::orthogonalise(words, n, m, k) {
-        Orthogonalising::Finished {
+        Ok(came_to) => show_result(rt, came_to),
+        Err(why) => {
+            println!(rt; "refused {}", Why(why))?;
+            show_where_full(rt, why)
+        }
+    }
+}
+
+// What a refusal 9 carries, and its k; 0 for another refusal.
+fn show_where_full(rt: &impl Print, refusal: Refusal) -> io::Result<usize> {
+    match refusal {
+        Refusal::NoRoomLeft {
             splits,
             sum,
             k,
             held,
-        } => {
-            show_result(rt, splits, sum, k, held)?;
-            Ok(k)
-        }
-        Orthogonalising::Refused(r) => {
-            refused(rt, b"refused ", r)?;
-            end_line(rt)?;
-            if let parity::Refusal::NoRoomLeft {
+        } => show_result(
+            rt,
+            Orthogonalised {
                 splits,
                 sum,
                 k,
                 held,
-            } = r
-            {
-                show_result(rt, splits, sum, k, held)?;
-                return Ok(k);
-            }
-            Ok(0)
-        }
+            },
+        ),
+        _ => Ok(0),
     }
 }
 
-// The first word of check `c`.
-fn show_check(rt: &impl Print, words: &[u64], c: usize) -> io::Result<()> {
-    let at = c % 512 * 8;
-    if at < words.len() {
-        field(rt, b" ", words[at])?;
-    }
-    Ok(())
-}
-
-fn show_checks(rt: &impl Print, words: &[u64]) -> io::Result<()> {
-    rt.write_all(b"checks")?;
-    show_check(rt, words, 0)?;
-    show_check(rt, words, 1)?;
-    show_check(rt, words, 2)?;
-    show_check(rt, words, 3)?;
-    end_line(rt)
+// The first words of checks 0 to 3.
+fn show_checks(rt: &impl Print, words: &[u64; 4096]) -> io::Result<()> {
+    println!(rt;
+        "checks {} {} {} {}",
+        words[0], words[8], words[16], words[24]
+    )
 }
 
 fn case_a(rt: &impl Print) -> io::Result<()> {
-    rt.write_all(b"A\n")?;
+    println!(rt; "A")?;
     let mut words = samples::cases::a();
     show_count(rt, &words, 7, 3, 0)?;
     show_share(rt, &words, 7, 3, 0, 6, 3)?;
@@ -160,7 +146,7 @@ fn case_a(rt: &impl Print) -> io::Result<()> {
 }
 
 fn case_c(rt: &impl Print) -> io::Result<()> {
-    rt.write_all(b"C\n")?;
+    println!(rt; "C")?;
     let mut words = samples::cases::c();
     show_count(rt, &words, 7, 3, 0)?;
     show_split(rt, &mut words, 7, 3, 0, 0, 3)?;
@@ -170,7 +156,7 @@ fn case_c(rt: &impl Print) -> io::Result<()> {
 }
 
 fn case_e(rt: &impl Print) -> io::Result<()> {
-    rt.write_all(b"E\n")?;
+    println!(rt; "E")?;
     let mut words = samples::cases::e();
     show_count(rt, &words, 3, 2, 0)?;
     let k = show_orthogonalise(rt, &mut words, 3, 2, 0)?;
@@ -180,7 +166,7 @@ fn case_e(rt: &impl Print) -> io::Result<()> {
 
 // E split by hand, 0 with 1 and then 2 with the new bit, looked at, and taken back to E.
 fn case_e_by_hand(rt: &impl Print) -> io::Result<()> {
-    rt.write_all(b"E by hand\n")?;
+    println!(rt; "E by hand")?;
     let mut words = samples::cases::e();
     show_split(rt, &mut words, 3, 2, 0, 0, 1)?;
     show_split(rt, &mut words, 3, 2, 1, 3, 2)?;
@@ -195,7 +181,7 @@ fn case_e_by_hand(rt: &impl Print) -> io::Result<()> {
 
 // Accepted matrices that no splits made: {1,4} {0,1,3} {0,2,4} with m = 1 would break rule A; {0,1,2} with m = 0 would not.
 fn case_not_split(rt: &impl Print) -> io::Result<()> {
-    rt.write_all(b"not split\n")?;
+    println!(rt; "not split")?;
     let mut words = [0u64; 4096];
     words[0] = 0b10010;
     words[8] = 0b1011;
@@ -228,10 +214,9 @@ fn take_all_back(rt: &impl Print, words: &mut [u64], k: usize) -> io::Result<()>
 }
 
 fn case_l(rt: &impl Print) -> io::Result<()> {
-    rt.write_all(b"L\n")?;
+    println!(rt; "L")?;
     let mut words = samples::cases::l();
-    field(rt, b"ones ", ones(&words, 23))?;
-    end_line(rt)?;
+    println!(rt; "ones {}", ones(&words, 23))?;
     show_count(rt, &words, 23, 23, 0)?;
     let before = words;
     let k = show_orthogonalise(rt, &mut words, 23, 23, 0)?;
@@ -262,7 +247,7 @@ fn dense(words: &mut [u64])
 }
 
 fn case_dense(rt: &impl Print) -> io::Result<()> {
-    rt.write_all(b"dense\n")?;
+    println!(rt; "dense")?;
     let mut words = [0u64; 4096];
     dense(&mut words);
     show_count(rt, &words, 120, 120, 0)?;
@@ -285,10 +270,10 @@ fn extended(words: &mut [u64])
 }
 
 fn show_whether_same(rt: &impl Print, words: &[u64; 4096], before: &[u64; 4096]) -> io::Result<()> {
-    if same(words, before) {
-        rt.write_all(b"words as they were\n")
+    if words == before {
+        println!(rt; "words as they were")
     } else {
-        rt.write_all(b"words changed\n")
+        println!(rt; "words changed")
     }
 }
 
@@ -308,7 +293,7 @@ fn show_split_and_words(
 
 // Pairs held by check 63, by 64, by both, by checks 0 and 119, and by none.
 fn case_edges(rt: &impl Print) -> io::Result<()> {
-    rt.write_all(b"edges of words\n")?;
+    println!(rt; "edges of words")?;
     let mut words = [0u64; 4096];
     words[0] = 0b11000000;
     words[504] = 0b1111;
@@ -344,7 +329,7 @@ fn show_refused_9(rt: &impl Print, words: &mut [u64; 4096], k: usize) -> io::Res
 
 // At k = 391 a split is made; at 392 it is refused. Orthogonalising is refused 9 after one split, and at once.
 fn case_most(rt: &impl Print) -> io::Result<()> {
-    rt.write_all(b"k to 392\n")?;
+    println!(rt; "k to 392")?;
     let mut words = [0u64; 4096];
     extended(&mut words);
     show_count(rt, &words, 120, 120, 391)?;

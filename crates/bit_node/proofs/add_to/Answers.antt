@@ -13,9 +13,6 @@ offset_bounds-floats-t c = let l = c.loop-t in omega (arith, l.invariant.1.size)
 pub bounds-floats-t : goal.bounds-floats-t
 bounds-floats-t c = let l = c.loop-t in omega (arith, l.invariant.1.size)
 
-pub offset_bounds-floats-t-in-loop-t : goal.offset_bounds-floats-t-in-loop-t
-offset_bounds-floats-t-in-loop-t c = let l = c.loop-t in omega (arith, l.invariant.1.size)
-
 pub bounds-floats-t-in-loop-t : goal.bounds-floats-t-in-loop-t
 bounds-floats-t-in-loop-t c = let l = c.loop-t in omega (arith, l.invariant.1.size)
 

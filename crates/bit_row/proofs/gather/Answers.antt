@@ -15,12 +15,6 @@ gather_word-d-requires c = let l = c.loop-i in
     let G = gathering_now _ 512 c.args.b _ _ _ _ _ _ _ l.invariant.1 c.requires.laid_across.0.room c.requires.at_bit.0 (omega (arith, l.invariant.0)) in
     record { laid = laid_same _ _ _ _ c.requires.laid_across.0 _ _ l.invariant.1.low.tags l.invariant.1.low.values; b_bound = (c.requires.at_bit.0, omega (arith, t, c.requires.laid_across.1.most), G) }
 
-pub overflow_add-i : goal.overflow_add-i
-overflow_add-i c = omega (arith, c.loop-i.invariant.0)
-
-pub loop-i-smaller : goal.loop-i-smaller
-loop-i-smaller c = omega (arith, c.loop-i-test.true, c.requires.laid_across.1.most)
-
 pub loop-i-preserved : goal.loop-i-preserved
 loop-i-preserved c = let l = c.loop-i in
     let k : l.i < 8 = omega (arith, c.loop-i-test.true, c.requires.laid_across.1.most) in

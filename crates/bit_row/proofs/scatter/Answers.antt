@@ -14,12 +14,6 @@ scatter_word-d-requires c = let l = c.loop-i in
     let t = c.loop-i-test.true in
     record { laid = laid_same _ _ _ _ c.requires.laid_across.0 _ _ l.invariant.2.tags l.invariant.2.values; b_bound = (c.requires.b_bound.0, omega (arith, t, c.requires.laid_across.1.most), c.requires.b_bound.1, l.invariant.1) }
 
-pub overflow_add-i : goal.overflow_add-i
-overflow_add-i c = omega (arith, c.loop-i.invariant.0)
-
-pub loop-i-smaller : goal.loop-i-smaller
-loop-i-smaller c = omega (arith, c.loop-i-test.true, c.requires.laid_across.1.most)
-
 pub loop-i-preserved : goal.loop-i-preserved
 loop-i-preserved c = let l = c.loop-i in
     let k : l.i < 8 = omega (arith, c.loop-i-test.true, c.requires.laid_across.1.most) in

@@ -1,16 +1,10 @@
 -- `make_pivot_in` meets its contract. Assumes nothing.
 use mathlib.Core.Path.{◌≡◌, sym, ap, ◌∙◌}
-use native.Mathlib.Omega.{arith}
 use Rattle.parity.specs.Matrix.{lent}
-use Rattle.parity.proofs.Matrix.Lent.{row_room}
 use Rattle.elimination.specs.Reduction.{lifted, around}
 use Rattle.elimination.proofs.Clearing.{lifted_one, lifted_two}
 use Rattle.elimination.proofs.make_pivot_in.Goals as goal
 use Rattle.elimination.proofs.make_pivot_in.Goals.{then-p-r, else-p-r}
-
-pub add_check-requires : goal.add_check-requires
-add_check-requires c = let W = c.args.width in
-    (omega (arith, row_room W c.args.p c.args.checks c.requires.5), omega (arith, row_room W c.args.r c.args.checks c.requires.4), c.if-p-r.true)
 
 pub returns : goal.returns
 returns c =

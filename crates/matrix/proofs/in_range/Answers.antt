@@ -1,23 +1,20 @@
 -- `in_range` meets its contract. Assumes nothing.
-use native.Mathlib.Omega.{arith}
-use borrow.Author.Tests.{le-leb, lt-leb}
+use Rattle.std.proofs.Common.{rules}
+use borrow.Author.Tests.{tests}
 use Rattle.parity.specs.Matrix.{in_range}
 use Rattle.matrix.proofs.in_range.Goals as goal
+use Rattle.matrix.proofs.in_range.Goals.{then-n-ge1, else-n-ge1, then-n-le120, else-n-le120}
 
-pub returns-then-n-lt1 : goal.returns-then-n-lt1
+pub returns-then-m-le120 : goal.returns-then-m-le120
 unfolding in_range
-returns-then-n-lt1 c = rw (lt-leb 1 c.args.n (omega arith))
+returns-then-m-le120 c = elim c.if-n-ge1.branch [
+  | then-n-ge1 u ↦ elim c.if-n-le120.branch [ then-n-le120 w ↦ search (rules, tests) | else-n-le120 w ↦ search (rules, tests) ]
+  | else-n-ge1 u ↦ elim c.if-n-le120.branch [ then-n-le120 w ↦ search (rules, tests) | else-n-le120 w ↦ search (rules, tests) ]
+]
 
-pub returns-then-n-gt120 : goal.returns-then-n-gt120
+pub returns-else-m-le120 : goal.returns-else-m-le120
 unfolding in_range
-returns-then-n-gt120 c = let a = c.args in rw (le-leb 1 a.n (omega arith), lt-leb a.n 120 (omega arith))
-
-pub returns-then-m-gt120 : goal.returns-then-m-gt120
-unfolding in_range
-returns-then-m-gt120 c = let a = c.args in
-    rw (le-leb 1 a.n (omega arith), le-leb a.n 120 (omega arith), lt-leb a.m 120 (omega arith))
-
-pub returns : goal.returns
-unfolding in_range
-returns c = let a = c.args in
-    rw (le-leb 1 a.n (omega arith), le-leb a.n 120 (omega arith), le-leb a.m 120 (omega arith))
+returns-else-m-le120 c = elim c.if-n-ge1.branch [
+  | then-n-ge1 u ↦ elim c.if-n-le120.branch [ then-n-le120 w ↦ search (rules, tests) | else-n-le120 w ↦ search (rules, tests) ]
+  | else-n-ge1 u ↦ elim c.if-n-le120.branch [ then-n-le120 w ↦ search (rules, tests) | else-n-le120 w ↦ search (rules, tests) ]
+]

@@ -13,14 +13,14 @@ returns-then-bits-checks c = let B = c.by_columns in
     let e : length c.args.word.now ≡ c.args.checks = c.if-bits-checks.true in
     record {
       held = rw (← e) B.ensures;
-      tags_zero = c.clear_bytes.ensures ∙ ap (λ n. replicate n 0) (B.auto.tags ∙ c.requires.0.laid.memory.tags);
-      values_zero = c.clear_floats.ensures ∙ ap (λ n. replicate n positive_zero) (B.auto.values ∙ c.requires.0.laid.memory.values);
+      tags_zero = c.fill-then-bits-checks.ensures.after (λ y p. p) ∙ ap (λ n. replicate n 0) (B.auto.tags ∙ c.requires.0.laid.memory.tags);
+      values_zero = c.fill.ensures.after (λ y p. p) ∙ ap (λ n. replicate n positive_zero) (B.auto.values ∙ c.requires.0.laid.memory.values);
     }
 
 pub returns : goal.returns
 returns c = let B = c.by_columns-2 in
     record {
       held = B.ensures;
-      tags_zero = c.clear_bytes-2.ensures ∙ ap (λ n. replicate n 0) (B.auto.tags ∙ c.requires.0.laid.memory.tags);
-      values_zero = c.clear_floats-2.ensures ∙ ap (λ n. replicate n positive_zero) (B.auto.values ∙ c.requires.0.laid.memory.values);
+      tags_zero = c.fill-2.ensures.after (λ y p. p) ∙ ap (λ n. replicate n 0) (B.auto.tags ∙ c.requires.0.laid.memory.tags);
+      values_zero = c.fill-3.ensures.after (λ y p. p) ∙ ap (λ n. replicate n positive_zero) (B.auto.values ∙ c.requires.0.laid.memory.values);
     }

@@ -1,17 +1,16 @@
 -- `orthogonalise` meets its contract. Assumes nothing.
-use mathlib.Core.Path.{refl, sym, ap, ◌∙◌}
+use Rattle.std.proofs.Common.{rules}
+use mathlib.Core.Path.{◌≡◌, refl}
+use Rattle.parity.specs.Causes.{refusal_of, result_reply}
 use Rattle.parity.proofs.Causes.Refused.{accepted_cause}
 use Rattle.parity.proofs.Splits.Splitting.{orthogonalise_refused}
-use Rattle.matrix.specs.Answers.{accepting_reply}
+use Rattle.orthogonalise.specs.Answers.{orthogonalised_values}
 use Rattle.orthogonalise.proofs.orthogonalise.Goals as goal
 
 pub orthogonalise_accepted-requires : goal.orthogonalise_accepted-requires
-orthogonalise_accepted-requires c = let s = c.args in
-    accepted_cause s.words.now s.n s.m s.k (sym (ap accepting_reply c.in-Accepted.is) ∙ c.accept.ensures)
+orthogonalise_accepted-requires c = accepted_cause c.args.words.now c.args.n c.args.m c.args.k c.in_ok-accept.ensures
 
-pub returns-in-Refused : goal.returns-in-Refused
-returns-in-Refused c = let s = c.args in
-    rw (orthogonalise_refused s.words.now s.n s.m s.k c.in-Refused.r (sym (ap accepting_reply c.in-Refused.is) ∙ c.accept.ensures)) record { result_value = refl; words_after = refl }
-
-pub returns-in-Accepted : goal.returns-in-Accepted
-returns-in-Accepted c = record { result_value = c.orthogonalise_accepted.ensures.result_value; words_after = c.orthogonalise_accepted.ensures.words_after }
+pub returns-in_err-accept : goal.returns-in_err-accept
+returns-in_err-accept c = let s = c.args in
+    let e : result_reply orthogonalised_values c.from_residual.result ≡ refusal_of c.in_err-accept.field-0.0 = search rules in
+    rw (orthogonalise_refused s.words.now s.n s.m s.k c.in_err-accept.field-0.0 c.in_err-accept.ensures) record { result_value = e; words_after = refl }

@@ -2,7 +2,6 @@
 use mathlib.Core.Path.{◌∙◌}
 use Rattle.parity.proofs.Matrix.Accept.{accepts}
 use Rattle.parity.proofs.Splits.Splitting.{orthogonalises, packed}
-use Rattle.orthogonalise.proofs.Turns.{ended_reply, ended_matrix}
 use Rattle.orthogonalise.proofs.orthogonalise_accepted.Goals as goal
 
 pub repeat-requires : goal.repeat-requires
@@ -15,4 +14,4 @@ returns c = let s = c.args in
     let A = (accepts s.words.now s.n s.m s.k).0 c.requires in
     let E = c.repeat in
     rw (orthogonalises s.words.now s.n s.m s.k A)
-    record { result_value = c.told.ensures ∙ ended_reply _ _ _ _ _ _ _ _ _ _ E.ensures; words_after = packed _ _ (E.auto.words ∙ A.words) (λ i. (c.type_inv.words i).fits) (ended_matrix _ _ _ _ _ _ _ _ _ _ E.ensures) }
+    record { result_value = E.ensures.told; words_after = packed _ _ (E.auto.words ∙ A.words) (λ i. (c.type_inv.words i).fits) E.ensures.matrix }

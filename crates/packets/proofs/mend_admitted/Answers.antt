@@ -22,10 +22,6 @@ pub set_of-gone-requires : goal.set_of-gone-requires
 set_of-gone-requires c = let A = (accepts c.args.words.now c.args.n c.args.m c.args.k).0 c.requires.0 in
     omega (arith, c.requires.1, A.sound.n120, A.sound.k392)
 
-pub overflow_add-n : goal.overflow_add-n
-overflow_add-n c = let A = (accepts c.args.words.now c.args.n c.args.m c.args.k).0 c.requires.0 in
-    omega (arith, A.sound.n120, A.sound.k392)
-
 pub overflow_add-m : goal.overflow_add-m
 overflow_add-m c = let A = (accepts c.args.words.now c.args.n c.args.m c.args.k).0 c.requires.0 in
     omega (arith, A.sound.m120, A.sound.k392)
@@ -35,26 +31,10 @@ mend_set-left-requires c = let A = (accepts c.args.words.now c.args.n c.args.m c
     let E = c.set_of-gone.ensures in
     (A.words, omega (arith, A.sound.n120, A.sound.k392), omega (arith, A.sound.m120, A.sound.k392), E.size, c.requires.2, rw c.requires.1 at (set_short 8 c.args.lost.now 1 _ E))
 
-pub write-requires : goal.write-requires
-write-requires c = let E = c.set_of-gone.ensures in
-    (omega arith, E.size, c.mend_set-left.ensures.0, refl, set_short 8 c.args.lost.now 1 _ E)
-
 pub losses_of-losses-requires : goal.losses_of-losses-requires
 losses_of-losses-requires c = let A = (accepts c.args.words.now c.args.n c.args.m c.args.k).0 c.requires.0 in
     let t = c.mend_set-left in
     (c.set_of-gone.ensures.size, t.ensures.0, omega (arith, A.sound.n120), fewer_packets c.args.words.now c.args.n c.args.m c.args.k c.args.lost.now c.args.packets.now c.args.odd.now _ _ _ _ A c.requires.1 c.requires.2 c.requires.4 c.requires.3 c.set_of-gone.ensures t.ensures.1)
-
-pub count_lanes-odd_lanes-requires : goal.count_lanes-odd_lanes-requires
-count_lanes-odd_lanes-requires c = omega (arith, c.requires.3, c.mend_set-left.auto.odd)
-
-pub shape_of-lost : goal.shape_of-lost
-shape_of-lost c = c.write.auto.word
-
-pub shape_of-packets : goal.shape_of-packets
-shape_of-packets c = c.mend_set-left.auto.packets
-
-pub shape_of-odd : goal.shape_of-odd
-shape_of-odd c = c.mend_set-left.auto.odd
 
 pub returns : goal.returns
 returns c = let A = (accepts c.args.words.now c.args.n c.args.m c.args.k).0 c.requires.0 in

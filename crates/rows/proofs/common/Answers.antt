@@ -11,9 +11,6 @@ pub loop-p-init : goal.loop-p-init
 unfolding sum
 loop-p-init c = search rules
 
-pub overflow_add-n : goal.overflow_add-n
-overflow_add-n c = omega (arith, c.ones_of-n.ensures)
-
 pub loop-p-preserved : goal.loop-p-preserved
 unfolding sum
 loop-p-preserved c = let l = c.loop-p in

@@ -11,9 +11,6 @@ pub loop-i-init : goal.loop-i-init
 unfolding sum
 loop-i-init c = search rules
 
-pub overflow_add-n : goal.overflow_add-n
-overflow_add-n c = omega (arith, c.ones_of-n.ensures)
-
 pub loop-i-preserved : goal.loop-i-preserved
 unfolding sum
 loop-i-preserved c = let l = c.loop-i in

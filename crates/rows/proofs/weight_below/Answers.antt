@@ -2,15 +2,11 @@
 use mathlib.Core.Bool.{◌&&◌, and_self}
 use Prim.Native.Nat.{◌*◌, ◌/◌, ◌%◌}
 use native.Mathlib.Omega.{arith}
-use lib.Pow.{pow_pos}
 use Rattle.parity.specs.Matrix.{lent}
 use Rattle.parity.proofs.Finite.Sums.{count_cong, count_bound}
 use Rattle.parity.proofs.Matrix.Digits.{one_shl}
 use Rattle.parity.proofs.Matrix.Lent.{weight_below}
 use Rattle.rows.proofs.weight_below.Goals as goal
-
-pub overflow_sub-last : goal.overflow_sub-last
-overflow_sub-last c = let s = c.args in rw (one_shl (s.bits % 64) (omega arith)) (pow_pos (s.bits % 64))
 
 pub overflow_add-result : goal.overflow_add-result
 overflow_add-result c = let b = c.args.bits in

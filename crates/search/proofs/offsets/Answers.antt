@@ -1,5 +1,4 @@
 -- `offsets` meets its contract. Assumes nothing.
-use mathlib.Core.Path.{◌≡◌}
 use native.Mathlib.Omega.{arith}
 use Rattle.search.proofs.Offset.{offsets_none, offsets_more}
 use Rattle.search.proofs.offsets.Goals as goal
@@ -10,8 +9,3 @@ loop-i-init c = (omega arith, offsets_none _ _ _ _)
 pub loop-i-preserved : goal.loop-i-preserved
 loop-i-preserved c = let l = c.loop-i in
     (omega arith, offsets_more _ _ _ _ _ _ (omega arith) (c.type_inv.words _).fits l.invariant.1)
-
-pub returns : goal.returns
-returns c = let l = c.loop-i in
-    let e : l.i ≡ c.args.used = omega arith in
-    rw e at l.invariant.1

@@ -1,25 +1,14 @@
 -- `none_single` meets its contract. Assumes nothing.
-use mathlib.Core.Path.{◌≡◌, refl, sym}
-use mathlib.Core.Bool.{true}
-use native.Mathlib.Omega.{arith}
-use Rattle.parity.specs.Finite.{all}
-use Rattle.parity.specs.Words.{stopping}
-use Rattle.parity.proofs.Finite.Sums.{all_more, all_false}
+use Rattle.std.proofs.Common.{rules}
+use mathlib.Core.Bool.{not}
+use Prim.Native.Nat.{◌*◌}
+use lib.Dec.{eqb}
+use Rattle.parity.specs.Matrix.{lent}
+use Rattle.parity.specs.Words.{inside, stopping}
+use Rattle.parity.proofs.Finite.Positions.{all_below}
 use Rattle.word.proofs.none_single.Goals as goal
 
-pub loop-d-init : goal.loop-d-init
-unfolding stopping all
-loop-d-init c = (omega arith, refl)
-
-pub returns-then-is_single : goal.returns-then-is_single
-unfolding stopping
-returns-then-is_single c = let l = c.loop-d in
-    sym (all_false c.args.checks _ l.d (omega arith) (rw (← c.is_single.ensures, c.if-is_single.true)))
-
-pub loop-d-preserved : goal.loop-d-preserved
-unfolding stopping
-loop-d-preserved c = let l = c.loop-d in
-    (omega arith, all_more l.d _ l.invariant.1 (rw (← c.is_single.ensures, c.if-is_single.false)))
-
 pub returns : goal.returns
-returns c = let e : c.loop-d.d ≡ c.args.checks = omega arith in sym (rw e at c.loop-d.invariant.1)
+unfolding stopping
+returns c = let a = c.args in
+    all_below (λ d. not (eqb (inside (lent 8 a.words.now) (a.used * 64) d (lent 8 a.set.now 0)) 1)) a.checks c.all.ensures.ran (λ x b q k. search rules)

@@ -3,7 +3,7 @@ use mathlib.Core.Path.{◌≡◌, refl, sym, ap, ◌∙◌}
 use mathlib.Core.Bool.{not}
 use Prim.Native.Nat.{ℕ}
 use native.Mathlib.Omega.{arith}
-use lib.ListN.{length, length-replicate}
+use lib.ListN.{length-replicate}
 use Rattle.parity.specs.Splits.{all_back}
 use Rattle.parity.specs.Causes.{Outcome}
 use Rattle.parity.proofs.Matrix.Accept.{accepts}
@@ -17,13 +17,9 @@ write_checks-requires c = let A = (accepts _ _ _ _).0 c.requires.0 in
     let z : c.args.k ≡ 0 = omega (arith, c.if-k-eq0.true) in
     record { width_in_bounds = (omega (arith, A.words, A.sound.m120), omega arith, omega arith); k_value = (c.requires.0, rw z (none_built _ _ _)); checks_value = (rw z (unfold all_back in refl), c.requires.1) }
 
-pub returns-then-k-eq0 : goal.returns-then-k-eq0
-returns-then-k-eq0 c = record { result_value = c.write_checks.ensures.result_value; record_after = c.write_checks.ensures.record_after }
-
 pub all_back-requires : goal.all_back-requires
 all_back-requires c = let A = (accepts _ _ _ _).0 c.requires.0 in
-    let e = c.no_rows-rows.ensures in
-    (A.words, rw e (length-replicate {A = ℕ} 256 0), empty 2 256 _ e, A.sound)
+    (A.words, length-replicate {A = ℕ} 256 0, empty 2 256 _ refl, A.sound)
 
 pub returns-then-not-all_back : goal.returns-then-not-all_back
 returns-then-not-all_back c = let E = c.all_back in
@@ -33,9 +29,5 @@ returns-then-not-all_back c = let E = c.all_back in
 pub write_checks-requires-2 : goal.write_checks-requires-2
 write_checks-requires-2 c = let A = (accepts _ _ _ _).0 c.requires.0 in
     let E = c.all_back in
-    let e = c.no_rows-rows.ensures in
     let r = c.if-not-all_back.false in
-    record { width_in_bounds = (omega (arith, E.auto.rows, ap length e, length-replicate {A = ℕ} 256 0, A.sound.m120), omega arith, omega arith); k_value = (c.requires.0, E.ensures.decides ∙ ap not r); checks_value = (E.ensures.matrix r, c.requires.1) }
-
-pub returns : goal.returns
-returns c = record { result_value = c.write_checks-2.ensures.result_value; record_after = c.write_checks-2.ensures.record_after }
+    record { width_in_bounds = (omega (arith, E.auto.rows, length-replicate {A = ℕ} 256 0, A.sound.m120), omega arith, omega arith); k_value = (c.requires.0, E.ensures.decides ∙ ap not r); checks_value = (E.ensures.matrix r, c.requires.1) }

@@ -14,7 +14,7 @@ use Rattle.writing.proofs.Emitting.{needed_words, plain_written, wrote_first}
 use Rattle.writing.proofs.write_checks.Goals as goal
 
 pub needed-requires : goal.needed-requires
-needed-requires c = (c.requires.width_in_bounds.0, c.requires.width_in_bounds.1, c.requires.width_in_bounds.2, ((accepts _ _ _ _).0 c.requires.k_value.0).sound.m120)
+needed-requires c = (c.requires.width_in_bounds.0, ((accepts _ _ _ _).0 c.requires.k_value.0).sound.m120)
 
 pub overflow_add-used : goal.overflow_add-used
 overflow_add-used c = let A = (accepts _ _ _ _).0 c.requires.k_value.0 in
@@ -28,7 +28,7 @@ returns-then-record-used c = let A = (accepts _ _ _ _).0 c.requires.k_value.0 in
 
 pub put_record-requires : goal.put_record-requires
 put_record-requires c = let A = (accepts _ _ _ _).0 c.requires.k_value.0 in
-    let u = needed_words _ _ _ _ _ _ A.sound c.requires.k_value.1 c.requires.checks_value.0 c.needed.ensures in record { width_in_bounds = (c.requires.width_in_bounds.0, c.requires.width_in_bounds.1, c.requires.width_in_bounds.2, A.words, A.sound); k_in_bounds = rw (c.requires.checks_value.1, plain_written (lent c.args.width c.args.checks.now) (lent 8 c.args.words.now) 128 c.args.n c.args.m c.args.k (omega (arith, A.sound.n120)) A.sound c.requires.k_value.1 c.requires.checks_value.0) (omega (arith, u, c.if-record-used.false)) }
+    let u = needed_words _ _ _ _ _ _ A.sound c.requires.k_value.1 c.requires.checks_value.0 c.needed.ensures in record { width_in_bounds = (c.requires.width_in_bounds.0, A.words, A.sound); k_in_bounds = rw (c.requires.checks_value.1, plain_written (lent c.args.width c.args.checks.now) (lent 8 c.args.words.now) 128 c.args.n c.args.m c.args.k (omega (arith, A.sound.n120)) A.sound c.requires.k_value.1 c.requires.checks_value.0) (omega (arith, u, c.if-record-used.false)) }
 
 pub returns : goal.returns
 returns c = let A = (accepts _ _ _ _).0 c.requires.k_value.0 in

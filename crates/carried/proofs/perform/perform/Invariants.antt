@@ -1,6 +1,5 @@
 -- What the loops of `perform` keep.
 use mathlib.Core.Path.{◌≡◌}
-use Prim.Native.Nat.{◌+◌, ◌-◌}
 use lib.ListN.{length}
 use Rattle.parity.specs.Matrix.{lent}
 use Rattle.carried.proofs.Performing.{Going}
@@ -8,6 +7,3 @@ use Rattle.carried.proofs.perform.perform.Given as goal
 
 abbrev pub invariant-loop-k : goal.invariant-loop-k
 invariant-loop-k l = (length l.words ≡ length l.initial.words) × (length l.cols ≡ 1024) × Going l.source l.n l.m l.p (lent 8 l.initial.words) (lent 8 l.words) (lent 2 l.cols) l.k
-
-abbrev pub decreases-loop-k : goal.decreases-loop-k
-decreases-loop-k l = length l.source - (l.p + l.k)

@@ -1,5 +1,5 @@
 -- `recover::each_back` meets its contract. Assumes nothing.
-use mathlib.Core.Path.{◌≡◌, refl, sym, ◌∙◌}
+use mathlib.Core.Path.{◌≡◌, refl, ◌∙◌}
 use Prim.Native.Nat.{suc, ◌+◌, ◌-◌}
 use native.Mathlib.Numerals.{add-one}
 use native.Mathlib.Omega.{arith}
@@ -10,14 +10,6 @@ use Rattle.carried.proofs.recover.each_back.Goals as goal
 pub loop-j-init : goal.loop-j-init
 loop-j-init c = let S = c.requires.sound.0 in
     rw (standing_start _ _ _ _ _ S.clean c.requires.sound.1) (c.requires.with_columns.1, taking_start _ _ _ _ S, c.requires.sound.1)
-
-pub back_one-requires : goal.back_one-requires
-back_one-requires c = let l = c.loop-j in
-    let e : l.j - 1 + 1 ≡ l.j = omega arith in
-    record { with_columns = (c.requires.with_columns.0, l.invariant.0); raw = rw e (l.invariant.1.raw, l.invariant.2) }
-
-pub shape_of-cols-then-not-back_one : goal.shape_of-cols-then-not-back_one
-shape_of-cols-then-not-back_one c = c.back_one.auto.cols ∙ c.loop-j.invariant.0 ∙ sym c.requires.with_columns.1
 
 pub returns-then-not-back_one : goal.returns-then-not-back_one
 returns-then-not-back_one c = let E = c.back_one in
@@ -33,11 +25,8 @@ loop-j-preserved c = let E = c.back_one in
     let f : suc (l.j - 1) ≡ l.j = omega arith in
     (E.auto.cols ∙ l.invariant.0, taking_next _ _ _ _ _ (l.j - 1) c.requires.sound.0 (rw f l.invariant.1) _ E.result (rw e at E.ensures.back_one) c.if-not-back_one.false, E.ensures.columns)
 
-pub shape_of-cols : goal.shape_of-cols
-shape_of-cols c = c.loop-j.invariant.0 ∙ sym c.requires.with_columns.1
-
 pub returns : goal.returns
 returns c = let l = c.loop-j in
-    let z : l.j ≡ 0 = c.loop-j-test.false in
+    let z : l.j ≡ 0 = omega arith in
     let T = rw z at l.invariant.1 in
     record { all_back = taking_ends _ _ _ _ _ _ refl c.requires.sound.0 T; columns = standing_same _ _ _ _ _ l.invariant.2 }

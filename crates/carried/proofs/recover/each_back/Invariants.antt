@@ -9,6 +9,3 @@ use Rattle.carried.proofs.recover.each_back.Given as goal
 
 abbrev pub invariant-loop-j : goal.invariant-loop-j
 invariant-loop-j l = (length l.cols ≡ 1024) × Taking (lent 8 l.words) (standing (lent 8 l.words) (lent 2 l.cols) l.m l.j) l.n l.m l.k l.j × Columns l.m (standing (lent 8 l.words) (lent 2 l.cols) l.m l.j) (lent 2 l.cols)
-
-abbrev pub decreases-loop-j : goal.decreases-loop-j
-decreases-loop-j l = l.j

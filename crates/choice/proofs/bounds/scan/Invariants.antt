@@ -1,12 +1,9 @@
 -- What the loops of `scan` keep.
-use Prim.Native.Nat.{◌+◌, ◌*◌, ◌-◌, ◌≤◌, ◌<◌, max}
+use Prim.Native.Nat.{◌+◌, ◌*◌, ◌<◌, max}
 use Rattle.columns.specs.Columns.{shares}
 use Rattle.columns.specs.Planes.{From}
 use Rattle.choice.proofs.RowBounds.{RowTo}
 use Rattle.choice.proofs.bounds.scan.Given as goal
 
 abbrev pub invariant-loop-i : goal.invariant-loop-i
-invariant-loop-i l = (l.i ≤ 8) × (l.u.0 + 1 < l.i * 64 + 64) × From l.mask l.i (l.u.0 + 1) × RowTo (shares l.cols) l.u.0 l.s (max (l.u.0 + 1) (l.i * 64)) l.most
-
-abbrev pub decreases-loop-i : goal.decreases-loop-i
-decreases-loop-i l = l.bits + 64 - l.i * 64
+invariant-loop-i l = (l.u.0 + 1 < l.i * 64 + 64) × From l.mask l.i (l.u.0 + 1) × RowTo (shares l.cols) l.u.0 l.s (max (l.u.0 + 1) (l.i * 64)) l.most

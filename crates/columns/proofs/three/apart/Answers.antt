@@ -1,12 +1,9 @@
 -- `three::apart` meets its contract. Assumes nothing.
 use mathlib.Core.Path.{◌≡◌}
 use native.Mathlib.Omega.{arith}
-use Rattle.rows.proofs.Zeros.{zeros_none, zeros_more}
+use Rattle.rows.proofs.Zeros.{zeros_more}
 use Rattle.columns.proofs.Apart.{apart_law}
 use Rattle.columns.proofs.three.apart.Goals as goal
-
-pub loop-i-init : goal.loop-i-init
-loop-i-init c = (omega arith, zeros_none _ _)
 
 pub loop-i-preserved : goal.loop-i-preserved
 loop-i-preserved c = (omega arith, zeros_more _ _ _ _ _ (omega arith) c.loop-i.invariant.1 c.two_in-acc.ensures)

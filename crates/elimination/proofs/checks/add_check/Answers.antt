@@ -4,11 +4,8 @@ use mathlib.Core.Bool.{xor}
 use native.Mathlib.Omega.{arith}
 use lib.Bits.{bit_xor}
 use Rattle.parity.proofs.Words.Sets.{bit_of_xor}
-use Rattle.rows.proofs.Writing.{apart, written_none, written_onto, combined_all}
+use Rattle.rows.proofs.Writing.{apart, written_onto, combined_all}
 use Rattle.elimination.proofs.checks.add_check.Goals as goal
-
-pub loop-i-init : goal.loop-i-init
-loop-i-init c = (omega arith, written_none _ _ _)
 
 pub loop-i-preserved : goal.loop-i-preserved
 loop-i-preserved c = let l = c.loop-i in

@@ -1,19 +1,14 @@
 -- `checks::clear_rows` meets its contract. Assumes nothing.
 use Rattle.elimination.proofs.Clearing.{cleared_none, cleared_more}
-use Rattle.parity.proofs.Matrix.Lent.{row_room}
 use Rattle.rows.specs.Whole.{plus}
 use Rattle.elimination.specs.Reduction.{when}
 use Rattle.parity.specs.Matrix.{Matrix, lent}
 use native.Mathlib.Omega.{arith}
-use mathlib.Core.Path.{◌≡◌, refl, ap, ◌∙◌}
+use mathlib.Core.Path.{refl, ap, ◌∙◌}
 use Rattle.elimination.proofs.checks.clear_rows.Goals as goal
 
 pub loop-c-init : goal.loop-c-init
 loop-c-init c = (omega arith, omega arith, refl, cleared_none _ _ _ _ _ (omega arith))
-
-pub clear_check-requires : goal.clear_check-requires
-clear_check-requires c = let l = c.loop-c in
-    (omega (arith, l.invariant.2, row_room c.args.width l.c c.args.end (omega arith)), c.requires.2, c.requires.3, c.requires.4)
 
 pub loop-c-preserved : goal.loop-c-preserved
 loop-c-preserved c = let l = c.loop-c in
@@ -24,8 +19,3 @@ loop-c-preserved c = let l = c.loop-c in
       E.auto.rows ∙ l.invariant.2,
       E.ensures ∙ ap (λ (g : Matrix). plus l.c (when (g l.c c.args.b) (lent W c.args.row.now 1)) g) l.invariant.3 ∙ cleared_more _ _ _ _ _ l.invariant.0,
     )
-
-pub returns : goal.returns
-returns c = let l = c.loop-c in
-    let e : l.c ≡ c.args.end = omega arith in
-    rw e at l.invariant.3

@@ -1,18 +1,19 @@
 -- `rule::contains` meets its contract. Assumes nothing.
-use mathlib.Core.Path.{sym, ◌∙◌}
+use mathlib.Core.Path.{sym, ap, ◌∙◌}
 use native.Mathlib.Omega.{arith}
-use Rattle.parity.proofs.House.Copied.{house_sizes}
-use Rattle.house.proofs.Generated.{hamming_entry, circulant_checks, circulant_entry}
+use Rattle.house.specs.Names.{number_of}
+use Rattle.house.proofs.Names.{sizes, other}
+use Rattle.house.proofs.Generated.{hamming_entry, circulant_entry}
 use Rattle.house.proofs.rule.contains.Goals as goal
 
 pub in_circulant-requires : goal.in_circulant-requires
-in_circulant-requires c = omega (arith, circulant_checks _ c.if-name-eq0.true)
+in_circulant-requires c = let s = sizes c.args.name in omega (arith, c.requires.0)
 
-pub returns-then-name-eq0 : goal.returns-then-name-eq0
-returns-then-name-eq0 c = c.in_circulant.ensures ∙ sym (circulant_entry _ _ _ c.if-name-eq0.true c.requires.1 c.requires.2)
+pub returns-in-Circulant : goal.returns-in-Circulant
+returns-in-Circulant c = c.in_circulant.ensures ∙ sym (circulant_entry (number_of c.args.name) _ _ (ap number_of c.in-Circulant.is) c.requires.0 c.requires.1)
 
 pub in_hamming-requires : goal.in_hamming-requires
-in_hamming-requires c = let s = house_sizes _ c.requires.0 in (omega arith, omega arith)
+in_hamming-requires c = let s = sizes c.args.name in (omega arith, omega arith)
 
-pub returns : goal.returns
-returns c = c.in_hamming.ensures ∙ sym (hamming_entry _ _ _ c.if-name-eq0.false c.requires.1 c.requires.2)
+pub returns-in_default : goal.returns-in_default
+returns-in_default c = c.in_hamming.ensures ∙ sym (hamming_entry (number_of c.args.name) _ _ (other c.args.name c.in_default.not-Circulant) c.requires.0 c.requires.1)

@@ -5,21 +5,21 @@ use Rattle.parity.specs.House.{at_offsets, circulant}
 use Rattle.house.proofs.Generated.{offset_small, offset_here, offset_on}
 use Rattle.house.proofs.rule.in_circulant.Goals as goal
 
-pub loop-i-init : goal.loop-i-init
-loop-i-init c = (omega arith, unfold circulant in refl)
+pub loop-e-init : goal.loop-e-init
+loop-e-init c = unfold circulant in refl
 
 pub overflow_add-c : goal.overflow_add-c
-overflow_add-c c = let k = offset_small c.loop-i.i (omega arith) in record { fits = omega arith }
+overflow_add-c c = let k = offset_small c.loop-e.e-index (omega arith) in record { fits = omega arith }
 
-pub returns-then-c-i : goal.returns-then-c-i
-returns-then-c-i c = let l = c.loop-i in
-    sym (l.invariant.1 ∙ offset_here l.i _ _ (omega arith) c.if-c-i.true)
+pub returns-then-c-e : goal.returns-then-c-e
+returns-then-c-e c = let l = c.loop-e in
+    sym (l.invariant ∙ offset_here l.e-index _ _ (omega arith) c.if-c-e.true)
 
-pub loop-i-preserved : goal.loop-i-preserved
-loop-i-preserved c = let l = c.loop-i in (omega arith, l.invariant.1 ∙ offset_on l.i _ _ (omega arith) c.if-c-i.false)
+pub loop-e-preserved : goal.loop-e-preserved
+loop-e-preserved c = let l = c.loop-e in l.invariant ∙ offset_on l.e-index _ _ (omega arith) c.if-c-e.false
 
 pub returns : goal.returns
 unfolding at_offsets
-returns c = let l = c.loop-i in
-    let e : l.i ≡ 8 = omega arith in
-    sym (l.invariant.1 ∙ rw e)
+returns c = let l = c.loop-e in
+    let e : l.e-index ≡ 8 = omega arith in
+    sym (l.invariant ∙ rw e)

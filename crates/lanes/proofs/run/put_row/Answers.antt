@@ -5,11 +5,8 @@ use native.Mathlib.Nat.{zero-mul, zero-add}
 use native.Mathlib.Omega.{arith}
 use lib.Bits.{bit_or}
 use Rattle.parity.proofs.Matrix.Digits.{bit_of_or}
-use Rattle.rows.proofs.Writing.{written_none, written_onto, combined_all}
+use Rattle.rows.proofs.Writing.{written_onto, combined_all}
 use Rattle.lanes.proofs.run.put_row.Goals as goal
-
-pub loop-i-init : goal.loop-i-init
-loop-i-init c = (omega arith, written_none _ _ _)
 
 pub loop-i-preserved : goal.loop-i-preserved
 loop-i-preserved c = (omega arith, written_onto bit_or _ _ _ _ _ _ c.loop-i.invariant.1 (omega arith) (rw (zero-mul c.args.width, zero-add c.loop-i.i)))

@@ -5,9 +5,6 @@ use Rattle.parity.proofs.Matrix.Lent.{row_room}
 use native.Mathlib.Omega.{arith}
 use Rattle.lanes.proofs.run.solve_lanes.Goals as goal
 
-pub sum_of-sum-requires : goal.sum_of-sum-requires
-sum_of-sum-requires c = c.requires.0
-
 pub put_row-requires : goal.put_row-requires
 put_row-requires c = (omega (arith, row_room c.args.lanes c.args.b (c.args.used * 64) c.requires.1, c.requires.0.tile), omega (arith, c.sum_of-sum.ensures.0, c.requires.0.most))
 

@@ -1,6 +1,5 @@
 -- `run::test_in` meets its contract. Assumes nothing.
-use mathlib.Core.Path.{◌≡◌, refl, sym, ◌∙◌}
-use Rattle.parity.proofs.Matrix.Lent.{row_room}
+use mathlib.Core.Path.{refl, sym, ◌∙◌}
 use Rattle.lanes.proofs.Running.{tested_none, tested_next, tested_skip}
 use native.Mathlib.Omega.{arith}
 use Rattle.lanes.proofs.run.test_in.Goals as goal
@@ -8,15 +7,6 @@ use Rattle.lanes.proofs.run.test_in.Goals.{then-not-contains, else-not-contains}
 
 pub loop-c-init : goal.loop-c-init
 loop-c-init c = (omega arith, omega arith, refl, tested_none _ _ _ _ _ _)
-
-pub contains-requires : goal.contains-requires
-contains-requires c = (omega arith, omega arith)
-
-pub test-requires : goal.test-requires
-test-requires c = let l = c.loop-c in (
-  record { row = omega (arith, row_room c.args.width l.c c.args.end (omega arith)); used = c.requires.1; width = c.requires.2; tile = c.requires.3; most = c.requires.4 },
-  omega (arith, c.requires.5, l.invariant.2),
-)
 
 pub loop-c-preserved : goal.loop-c-preserved
 loop-c-preserved c = let l = c.loop-c in
@@ -35,8 +25,3 @@ loop-c-preserved c = let l = c.loop-c in
         tested_skip _ _ _ _ _ _ _ _ l.invariant.3 (sym k.ensures ∙ w.if-not-contains.false),
       )
     ]
-
-pub returns : goal.returns
-returns c = let l = c.loop-c in
-    let e : l.c ≡ c.args.end = omega arith in
-    rw e at l.invariant.3

@@ -1,17 +1,16 @@
 -- `tiles::blank_row` meets its contract. Assumes nothing.
-use Rattle.rows.proofs.Writing.{written_none, written_more}
-use Rattle.lanes.proofs.Writing.{blanked_all}
-use mathlib.Core.Path.{◌≡◌, refl}
+use Rattle.std.proofs.Common.{rules}
+use mathlib.Core.Path.{◌≡◌}
+use Prim.Native.Nat.{◌+◌, ◌*◌, ◌-◌}
 use native.Mathlib.Omega.{arith}
+use lib.ListN.{replicate}
+use Rattle.std.proofs.lemmas.List.{get_or-replicate, length-replicate}
+use Rattle.rows.proofs.Writing.{written_part}
+use Rattle.lanes.proofs.Writing.{blanked_all}
 use Rattle.lanes.proofs.tiles.blank_row.Goals as goal
 
-pub loop-i-init : goal.loop-i-init
-loop-i-init c = (omega arith, written_none _ _ _)
-
-pub loop-i-preserved : goal.loop-i-preserved
-loop-i-preserved c = (omega arith, written_more _ _ _ _ _ _ c.loop-i.invariant.1 (omega arith) refl)
-
 pub returns : goal.returns
-returns c = let l = c.loop-i in
-    let e : l.i ≡ c.args.lanes = omega arith in
-    blanked_all _ _ _ _ (rw e at l.invariant.1)
+returns c = let s = c.args in
+    let e : s.b * s.lanes + s.lanes - s.b * s.lanes ≡ s.lanes = omega arith in
+    let z : c.fill.new.self ≡ replicate s.lanes 0 = search rules in
+    blanked_all s.b s.tile.now _ s.lanes (rw (e, z) (written_part s.tile.now (replicate s.lanes 0) (s.b * s.lanes) s.lanes (λ a. 0) c.requires (length-replicate s.lanes 0) (λ j k. get_or-replicate s.lanes j 0 0 k)))

@@ -1,13 +1,10 @@
 -- `tiles::return_row` meets its contract. Assumes nothing.
 use Rattle.lanes.proofs.Writing.{fits_more, merged_now}
-use Rattle.rows.proofs.Writing.{written_none, written_more}
+use Rattle.rows.proofs.Writing.{written_more}
 use Rattle.lanes.proofs.Writing.{returned_all}
 use mathlib.Core.Path.{◌≡◌}
 use native.Mathlib.Omega.{arith}
 use Rattle.lanes.proofs.tiles.return_row.Goals as goal
-
-pub loop-i-init : goal.loop-i-init
-loop-i-init c = (omega arith, written_none _ _ _, λ a k. absurd (omega arith))
 
 pub loop-i-preserved : goal.loop-i-preserved
 loop-i-preserved c = let l = c.loop-i in

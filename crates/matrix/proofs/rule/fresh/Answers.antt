@@ -9,22 +9,20 @@ use Rattle.parity.specs.Matrix.{lent}
 use Rattle.matrix.specs.Three.{paired}
 use Rattle.matrix.proofs.Passing.{none_before, own_before, pair_before, seen_next}
 use Rattle.matrix.proofs.rule.fresh.Goals as goal
+use Rattle.matrix.proofs.rule.fresh.Goals.{then-in_own-via-then-in_own, then-in_own-via-else-in_own+then-has_pair}
 
 pub returns-then-in_own : goal.returns-then-in_own
 returns-then-in_own c = let a = c.args in
-    let top : a.n + a.j < 64 * a.width = omega (arith, c.requires.words_len) in
-    let (le, e) = (and-eq-true_iff (leb a.n a.y) (lent 8 a.words.now (a.m + (a.y - a.n)) a.x)).0 (sym c.in_own.ensures ∙ c.if-in_own.true) in record {
-      yes_none = λ q. absurd (false≢true q);
-      yes_seen = λ q. absurd (false≢true q);
-      none_yes = λ N. absurd (own_before a.width (lent 8 a.words.now) a.n a.m a.j a.x a.y a.pairs.now c.requires.three.0 c.requires.three.1 top (leb-true a.n a.y le) e N);
-    }
-
-pub returns-then-has_pair : goal.returns-then-has_pair
-returns-then-has_pair c = let a = c.args in
     let top : a.n + a.j < 64 * a.width = omega (arith, c.requires.words_len) in record {
       yes_none = λ q. absurd (false≢true q);
       yes_seen = λ q. absurd (false≢true q);
-      none_yes = λ N. absurd (pair_before a.width (lent 8 a.words.now) a.n a.m a.j a.x a.y a.pairs.now c.requires.three.0 c.requires.three.1 top (sym c.has_pair.ensures ∙ c.if-has_pair.true) N);
+      none_yes = λ N. elim c.then-in_own.branch [
+        | then-in_own-via-then-in_own w ↦
+            let (le, e) = (and-eq-true_iff (leb a.n a.y) (lent 8 a.words.now (a.m + (a.y - a.n)) a.x)).0 (sym c.in_own.ensures ∙ w.if-in_own.true) in
+            absurd (own_before a.width (lent 8 a.words.now) a.n a.m a.j a.x a.y a.pairs.now c.requires.three.0 c.requires.three.1 top (leb-true a.n a.y le) e N)
+        | then-in_own-via-else-in_own+then-has_pair w ↦
+            absurd (pair_before a.width (lent 8 a.words.now) a.n a.m a.j a.x a.y a.pairs.now c.requires.three.0 c.requires.three.1 top (sym w.has_pair.ensures ∙ w.if-has_pair.true) N)
+      ];
     }
 
 pub returns : goal.returns

@@ -9,6 +9,6 @@ pub returns-then-b-width : goal.returns-then-b-width
 unfolding place_of
 returns-then-b-width c = (rw (lt-ltb c.args.b (32 * c.args.width) (omega arith)), omega arith)
 
-pub returns : goal.returns
+pub returns-else-b-width : goal.returns-else-b-width
 unfolding place_of
-returns c = (rw (le-ltb c.args.b (32 * c.args.width) (omega arith)), omega arith)
+returns-else-b-width c = (rw (le-ltb c.args.b (32 * c.args.width) (omega arith)), omega arith)

@@ -7,7 +7,6 @@ use Rattle.messages.proofs.Word.{Taken, left_all, left_none, left_taken, Left}
 use Rattle.messages.proofs.Places.{place_yes, place_small}
 use Rattle.messages.proofs.Fill.{place_gap, filling_gap, filling_one}
 use Rattle.messages.specs.Memory.{place, Filling, Laid}
-use Rattle.parity.proofs.Matrix.Rest.{rest_less}
 use Rattle.parity.specs.Matrix.{lent, Matrix}
 use native.Mathlib.Omega.{arith}
 use Prim.Native.Nat.{◌+◌, ◌*◌, ◌<◌, ℕ}
@@ -29,17 +28,8 @@ here ws h c i b rest a e m ts xs us ys R kc ki L n q p F =
       place_small h 512 c e R.room kc k T.one,
     )
 
-pub offset_bounds-words-c : goal.offset_bounds-words-c
-offset_bounds-words-c c = omega (arith, c.requires.laid.0.words)
-
-pub bounds-words-c : goal.bounds-words-c
-bounds-words-c c = omega (arith, c.requires.laid.0.words)
-
 pub loop-rest-init : goal.loop-rest-init
 loop-rest-init c = (c.args.i * 64, left_all 8 c.args.words.now c.args.c c.args.i c.requires.c_bound.1 (c.type_inv.words _).fits, c.requires.c_bound.2, c.requires.c_bound.3)
-
-pub lowest-requires : goal.lowest-requires
-lowest-requires c = c.requires.c_bound.1
 
 pub enter-requires : goal.enter-requires
 enter-requires c =
@@ -55,12 +45,6 @@ overflow_add-a c =
     let H = here _ (lent 8 c.args.words.now) _ _ _ _ _ _ _ _ _ _ _ c.requires.laid.0 c.requires.c_bound.0 c.requires.c_bound.1 l.invariant.1 c.loop-rest-test.true c.lowest.ensures l.invariant.2 l.invariant.3 in
     omega (arith, H.2, H.4)
 
-pub overflow_sub-rest : goal.overflow_sub-rest
-overflow_sub-rest c = omega (arith, c.loop-rest-test.true)
-
-pub loop-rest-smaller : goal.loop-rest-smaller
-loop-rest-smaller c = rest_less _ c.loop-rest-test.true
-
 pub loop-rest-preserved : goal.loop-rest-preserved
 loop-rest-preserved c =
     let l = c.loop-rest in
@@ -70,12 +54,6 @@ loop-rest-preserved c =
       rw H.2 (sym (place_yes _ 512 c.args.c c.lowest.result H.0.one)),
       filling_one _ 512 _ c.args.c c.lowest.result _ _ H.3 H.1 H.0.one _ _ (rw H.2 at c.enter.ensures),
     )
-
-pub shape_of-tags : goal.shape_of-tags
-shape_of-tags c = c.loop-rest.invariant.3.tags ∙ sym c.requires.c_bound.3.tags
-
-pub shape_of-values : goal.shape_of-values
-shape_of-values c = c.loop-rest.invariant.3.values ∙ sym c.requires.c_bound.3.values
 
 pub returns : goal.returns
 returns c = let l = c.loop-rest in

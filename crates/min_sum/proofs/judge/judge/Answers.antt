@@ -1,60 +1,44 @@
 -- `judge` meets its contract. Assumes nothing.
-use Rattle.parity.specs.Finite.{any}
-use Rattle.parity.specs.SoftCall.{wrong_float, soft_reply}
-use Rattle.sets.proofs.Above.{byte_wrong, byte_right}
-use Rattle.parity.proofs.Finite.Firsts.{least_in, least_out}
-use Rattle.parity.specs.Calls.{wrong_byte}
+use Rattle.parity.specs.SoftCall.{soft_reply}
+use Rattle.sets.proofs.Above.{wrong_some, wrong_none}
+use Rattle.parity.proofs.Finite.Positions.{first_some, first_none}
+use Rattle.min_sum.proofs.Judged.{fitting, searched}
 use borrow.Author.Tests.{le-leb, lt-leb, eq-eqb, ne_eqb}
-use native.Mathlib.Omega.{arith}
-use mathlib.Core.Bool.{true, false}
-use mathlib.Core.Path.{◌≡◌}
+use mathlib.Core.Path.{sym, ◌∙◌}
+use Rattle.min_sum.proofs.judge.judge.Goals.{then-rounds-lt1-via-then-rounds-lt1, then-rounds-lt1-via-else-rounds-lt1+then-rounds-gt512, then-word-bits-via-then-word-bits, then-word-bits-via-else-word-bits+then-floats-bits, then-word-bits-via-else-word-bits+else-floats-bits+then-tags-ne65536, then-word-bits-via-else-word-bits+else-floats-bits+else-tags-ne65536+then-values-ne65536}
 use Rattle.min_sum.proofs.judge.judge.Goals as goal
 
 pub returns-then-rounds-lt1 : goal.returns-then-rounds-lt1
 unfolding soft_reply
-returns-then-rounds-lt1 c = rw (lt-leb 1 _ c.if-rounds-lt1.true)
-
-pub returns-then-rounds-gt512 : goal.returns-then-rounds-gt512
-unfolding soft_reply
-returns-then-rounds-gt512 c = rw (le-leb 1 _ c.if-rounds-lt1.false, lt-leb _ 512 c.if-rounds-gt512.true)
+returns-then-rounds-lt1 c =
+    elim c.then-rounds-lt1.branch [
+      | then-rounds-lt1-via-then-rounds-lt1 w ↦ rw (lt-leb 1 _ w.if-rounds-lt1.true)
+      | then-rounds-lt1-via-else-rounds-lt1+then-rounds-gt512 w ↦ rw (le-leb 1 _ w.if-rounds-lt1.false, lt-leb _ 512 w.if-rounds-gt512.true)
+    ]
 
 pub returns-then-word-bits : goal.returns-then-word-bits
 unfolding soft_reply
-returns-then-word-bits c = rw (le-leb 1 _ c.if-rounds-lt1.false, le-leb _ 512 c.if-rounds-gt512.false, ne_eqb _ _ c.if-word-bits.true)
+returns-then-word-bits c = let rounds = c.args.rounds in
+    rw (le-leb 1 rounds c.if-rounds-lt1.false, le-leb rounds 512 c.if-rounds-gt512.false)
+    (elim c.then-word-bits.branch [
+      | then-word-bits-via-then-word-bits w ↦ rw (ne_eqb _ _ w.if-word-bits.true)
+      | then-word-bits-via-else-word-bits+then-floats-bits w ↦ rw (eq-eqb _ _ w.if-word-bits.false, ne_eqb _ _ w.if-floats-bits.true)
+      | then-word-bits-via-else-word-bits+else-floats-bits+then-tags-ne65536 w ↦ rw (eq-eqb _ _ w.if-word-bits.false, eq-eqb _ _ w.if-floats-bits.false, ne_eqb _ _ w.if-tags-ne65536.true)
+      | then-word-bits-via-else-word-bits+else-floats-bits+else-tags-ne65536+then-values-ne65536 w ↦ rw (eq-eqb _ _ w.if-word-bits.false, eq-eqb _ _ w.if-floats-bits.false, eq-eqb _ _ w.if-tags-ne65536.false, ne_eqb _ _ w.if-values-ne65536.true)
+    ])
 
-pub returns-then-floats-bits : goal.returns-then-floats-bits
-unfolding soft_reply
-returns-then-floats-bits c = rw (le-leb 1 _ c.if-rounds-lt1.false, le-leb _ 512 c.if-rounds-gt512.false, eq-eqb _ _ c.if-word-bits.false, ne_eqb _ _ c.if-floats-bits.true)
+pub returns-in-Some : goal.returns-in-Some
+returns-in-Some c = let (e, f) = wrong_some 3 c.args.word.now _ (sym c.in-Some.is ∙ c.first_above.ensures) in
+    sym (fitting _ _ _ _ _ _ c.if-rounds-lt1.false c.if-rounds-gt512.false c.if-word-bits.false c.if-floats-bits.false c.if-tags-ne65536.false c.if-values-ne65536.false ∙ rw (e, f))
 
-pub returns-then-tags-ne65536 : goal.returns-then-tags-ne65536
-unfolding soft_reply
-returns-then-tags-ne65536 c = rw (le-leb 1 _ c.if-rounds-lt1.false, le-leb _ 512 c.if-rounds-gt512.false, eq-eqb _ _ c.if-word-bits.false, eq-eqb _ _ c.if-floats-bits.false, ne_eqb _ _ c.if-tags-ne65536.true)
+pub returns-in-Some-first_float : goal.returns-in-Some-first_float
+returns-in-Some-first_float c =
+    let e = wrong_none 3 c.args.word.now (sym c.in_default.is ∙ c.first_above.ensures) in
+    let (f, p) = first_some _ _ _ (sym c.in-Some-first_float.is ∙ c.first_float.ensures ∙ searched c.args.bits _ _ c.if-word-bits.false c.if-floats-bits.false) in
+    sym (fitting _ _ _ _ _ _ c.if-rounds-lt1.false c.if-rounds-gt512.false c.if-word-bits.false c.if-floats-bits.false c.if-tags-ne65536.false c.if-values-ne65536.false ∙ rw (e, f, p))
 
-pub returns-then-values-ne65536 : goal.returns-then-values-ne65536
-unfolding soft_reply
-returns-then-values-ne65536 c = rw (le-leb 1 _ c.if-rounds-lt1.false, le-leb _ 512 c.if-rounds-gt512.false, eq-eqb _ _ c.if-word-bits.false, eq-eqb _ _ c.if-floats-bits.false, eq-eqb _ _ c.if-tags-ne65536.false, ne_eqb _ _ c.if-values-ne65536.true)
-
-pub returns-then-b-bits : goal.returns-then-b-bits
-unfolding soft_reply
-returns-then-b-bits c = let w = c.args.word.now in
-    let a : wrong_byte 3 w ≡ true = byte_wrong w 3 c.first_above-b.result c.first_above-b.ensures (omega (arith, c.if-b-bits.true, c.if-word-bits.false)) in
-    rw (le-leb 1 _ c.if-rounds-lt1.false, le-leb _ 512 c.if-rounds-gt512.false, eq-eqb _ _ c.if-word-bits.false, eq-eqb _ _ c.if-floats-bits.false, eq-eqb _ _ c.if-tags-ne65536.false, eq-eqb _ _ c.if-values-ne65536.false, a, c.first_above-b.ensures)
-
-pub returns-then-f-bits : goal.returns-then-f-bits
-unfolding soft_reply
-returns-then-f-bits c = let w = c.args.word.now in
-    let l = c.if-word-bits.false in
-    let a : wrong_byte 3 w ≡ false = byte_right w 3 _ c.first_above-b.ensures (λ z. omega (arith, c.if-b-bits.false, l, z)) in
-    let e = rw l at c.first_float-f.ensures in
-    let f = least_in _ _ (rw e at c.if-f-bits.true) in
-    rw (le-leb 1 _ c.if-rounds-lt1.false, le-leb _ 512 c.if-rounds-gt512.false, eq-eqb _ _ c.if-word-bits.false, eq-eqb _ _ c.if-floats-bits.false, eq-eqb _ _ c.if-tags-ne65536.false, eq-eqb _ _ c.if-values-ne65536.false, a, f, e)
-
-pub returns : goal.returns
-unfolding soft_reply
-returns c = let w = c.args.word.now in
-    let l = c.if-word-bits.false in
-    let a : wrong_byte 3 w ≡ false = byte_right w 3 _ c.first_above-b.ensures (λ z. omega (arith, c.if-b-bits.false, l, z)) in
-    let e = rw l at c.first_float-f.ensures in
-    let p = wrong_float c.args.word.now c.args.floats.now in
-    let f : any c.args.bits p ≡ false = least_out c.args.bits p (λ z. omega (arith, rw e at c.if-f-bits.false, z)) in
-    rw (le-leb 1 _ c.if-rounds-lt1.false, le-leb _ 512 c.if-rounds-gt512.false, eq-eqb _ _ c.if-word-bits.false, eq-eqb _ _ c.if-floats-bits.false, eq-eqb _ _ c.if-tags-ne65536.false, eq-eqb _ _ c.if-values-ne65536.false, a, f)
+pub returns-in-None : goal.returns-in-None
+returns-in-None c =
+    let e = wrong_none 3 c.args.word.now (sym c.in_default.is ∙ c.first_above.ensures) in
+    let f = first_none _ _ (sym c.in-None.is ∙ c.first_float.ensures ∙ searched c.args.bits _ _ c.if-word-bits.false c.if-floats-bits.false) in
+    sym (fitting _ _ _ _ _ _ c.if-rounds-lt1.false c.if-rounds-gt512.false c.if-word-bits.false c.if-floats-bits.false c.if-tags-ne65536.false c.if-values-ne65536.false ∙ rw (e, f))

@@ -12,10 +12,6 @@ widen-requires c = let told = c.part in
     let done = c.merge in
     record { words_len = (done.auto.words ∙ c.requires.words_len.0, told.auto.cols ∙ c.requires.words_len.1, c.requires.words_len.2, c.requires.words_len.6); given = rw done.ensures (given_parted _ _ _ _ _ _ _ c.requires.ready told.ensures) }
 
-pub holders-requires : goal.holders-requires
-holders-requires c = let told = c.part in
-    (omega (arith, c.requires.words_len.1, told.auto.cols, c.requires.words_len.6), omega (arith, c.requires.words_len.1, told.auto.cols, c.requires.words_len.6), omega arith, omega arith)
-
 pub returns : goal.returns
 returns c = let told = c.part in
     record {

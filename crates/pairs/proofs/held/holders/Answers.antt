@@ -2,8 +2,8 @@
 use Rattle.pairs.proofs.Words.{none_held, both_held}
 use Rattle.pairs.proofs.held.holders.Goals as goal
 
-pub returns-then-low-width : goal.returns-then-low-width
-returns-then-low-width c = none_held _ _ _ c.lowest-low.ensures c.if-low-width.true
+pub returns-in_err-lowest : goal.returns-in_err-lowest
+returns-in_err-lowest c = rw c.from_residual.ensures (none_held _ _ c.in_err-lowest.ensures)
 
 pub returns : goal.returns
-returns c = both_held _ _ _ _ c.lowest-low.ensures c.highest-high.ensures c.if-low-width.false
+returns c = both_held _ _ _ _ c.in_ok-lowest.ensures c.in_ok-highest.ensures

@@ -1,14 +1,8 @@
 -- `judge::all_bits` meets its contract. Assumes nothing.
 use native.Mathlib.Omega.{arith}
 use borrow.Author.Tests.{eqb-true}
-use Rattle.reading.proofs.AllBits.{not_all, all_bits}
+use Rattle.reading.proofs.AllBits.{all_bits}
 use Rattle.reading.proofs.judge.all_bits.Goals as goal
-
-pub returns-then-count-eq0 : goal.returns-then-count-eq0
-returns-then-count-eq0 c = not_all _ _ _ _
-
-pub returns-then-n-payload : goal.returns-then-n-payload
-returns-then-n-payload c = not_all _ _ _ _
 
 pub returns : goal.returns
 returns c = record {

@@ -1,5 +1,4 @@
 -- `judge::bits_singly` meets its contract. Assumes nothing.
-use mathlib.Core.Path.{◌≡◌}
 use native.Mathlib.Omega.{arith}
 use Rattle.parity.proofs.Record.Reading.{bit_yes, bit_kind, bit_low, bit_large}
 use Rattle.reading.proofs.Other.{other_bit}
@@ -34,8 +33,3 @@ pub loop-i-preserved : goal.loop-i-preserved
 loop-i-preserved c = let l = c.loop-i in
     let K = rw c.in-Bit.is at c.read.ensures in
     (omega arith, rw (← K.rest) (rising_next _ _ _ _ _ l.invariant.1 (omega arith) (bit_yes _ _ _ K.kind (rw K.rest c.if-b-low.false) (rw K.rest c.if-n-b.false))))
-
-pub returns : goal.returns
-returns c = let l = c.loop-i in
-    let e : l.i ≡ c.args.count = omega arith in
-    record { top = omega arith; low = l.low; rising = rw e at l.invariant.1; next = λ k. absurd (omega arith) }

@@ -1,11 +1,9 @@
 -- `judge::check` meets its contract. Assumes nothing.
-use Rattle.reading.proofs.judge.check.Goals.{then-count-left, else-count-left}
 use Rattle.reading.specs.Read.{Kind}
 use Rattle.parity.specs.declared.Form.{Form}
 use mathlib.Core.Path.{◌≡◌, sym, ap, ◌∙◌}
-use Prim.Native.Nat.{ℕ, ◌+◌, ◌/◌, ◌%◌, ◌≤◌, ◌<◌}
+use Prim.Native.Nat.{ℕ, ◌/◌, ◌%◌, ◌≤◌}
 use native.Mathlib.Omega.{arith}
-use lib.ListN.{length}
 use mathlib.Core.Bool.{true}
 use Rattle.parity.specs.Record.{payload, open_word, number_in}
 use Rattle.parity.proofs.Record.Reading.{open_yes, open_kind, open_number, open_large}
@@ -31,32 +29,18 @@ returns-then-number-due_number c = let K = rw c.in-Open.is at c.read.ensures in
     stop_open _ _ _ _ _ (omega arith)
     (open_number _ _ _ _ (λ q. c.if-number-due_number.true (ap (λ (y : ℕ). y / 256) (sym K.rest) ∙ q ∙ sym c.number_in-due_number.ensures)))
 
-pub returns-then-n-count : goal.returns-then-n-count
-returns-then-n-count c = let K = rw c.in-Open.is at c.read.ensures in
-    stop_open _ _ _ _ _ (omega arith) (open_large _ _ _ _ (rw K.rest c.if-n-count.true))
-
-pub bits-right-requires : goal.bits-right-requires
-bits-right-requires c = elim c.if-count-left.branch [ then-count-left w ↦ (omega arith, omega arith, omega arith) | else-count-left w ↦ (omega arith, omega arith, omega arith) ]
-
-pub overflow_add-result-then-right-count : goal.overflow_add-result-then-right-count
-overflow_add-result-then-right-count c = elim c.if-count-left.branch [ then-count-left w ↦ omega (arith, c.bits-right.ensures.top) | else-count-left w ↦ omega (arith, c.bits-right.ensures.top) ]
+pub returns-then-head-count : goal.returns-then-head-count
+returns-then-head-count c = let K = rw c.in-Open.is at c.read.ensures in
+    stop_open _ _ _ _ _ (omega arith) (open_large _ _ _ _ (rw K.rest c.if-head-count.true))
 
 pub returns-then-right-count : goal.returns-then-right-count
 returns-then-right-count c =
     let K = rw c.in-Open.is at c.read.ensures in
-    let due = c.if-count-left.due in
-    let inside : c.args.p + 1 + c.if-count-left.due ≤ length c.args.source.now = elim c.if-count-left.branch [ then-count-left w ↦ omega arith | else-count-left w ↦ omega arith ] in
-    let most : due < c.in-Open.x % 256 → c.args.p + 1 + due ≡ length c.args.source.now = elim c.if-count-left.branch [ then-count-left w ↦ λ k. omega arith | else-count-left w ↦ λ k. omega arith ] in
-    let O = opened _ _ _ _ _ _ K c.if-number-due_number.false c.number_in-due_number.ensures c.if-n-count.false in
-    check_stops _ _ _ _ _ (omega arith) _ _ _ O.0 O.1 c.bits-right.ensures inside most c.if-right-count.true
-
-pub overflow_add-result-3 : goal.overflow_add-result-3
-overflow_add-result-3 c = elim c.if-count-left.branch [ then-count-left w ↦ omega (arith, c.bits-right.ensures.top) | else-count-left w ↦ omega (arith, c.bits-right.ensures.top) ]
+    let O = opened _ _ _ _ _ _ K c.if-number-due_number.false c.number_in-due_number.ensures c.if-head-count.false in
+    check_stops _ _ _ _ _ (omega arith) _ _ _ O.0 O.1 c.bits-right.ensures (omega (arith, c.min-due.ensures)) (λ k. omega (arith, c.min-due.ensures)) c.if-right-count.true
 
 pub returns : goal.returns
 returns c =
     let K = rw c.in-Open.is at c.read.ensures in
-    let inside : c.args.p + 1 + c.if-count-left.due ≤ length c.args.source.now = elim c.if-count-left.branch [ then-count-left w ↦ omega arith | else-count-left w ↦ omega arith ] in
-    let few : c.if-count-left.due ≤ c.in-Open.x % 256 = elim c.if-count-left.branch [ then-count-left w ↦ omega arith | else-count-left w ↦ omega arith ] in
-    let O = opened _ _ _ _ _ _ K c.if-number-due_number.false c.number_in-due_number.ensures c.if-n-count.false in
-    check_complete _ _ _ _ _ (omega arith) _ _ _ O.0 O.1 c.bits-right.ensures inside few c.if-right-count.false
+    let O = opened _ _ _ _ _ _ K c.if-number-due_number.false c.number_in-due_number.ensures c.if-head-count.false in
+    check_complete _ _ _ _ _ (omega arith) _ _ _ O.0 O.1 c.bits-right.ensures (omega (arith, c.min-due.ensures)) (omega (arith, c.min-due.ensures)) c.if-right-count.false

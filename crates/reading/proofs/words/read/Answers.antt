@@ -50,7 +50,3 @@ returns-in-15 c = of-kind 15 _ _ c.in-15.is c.payload-x.ensures
 pub returns-in-7-to-14 : goal.returns-in-7-to-14
 returns-in-7-to-14 c =
     of_none _ (λ q. omega arith) (λ q. omega arith) (λ q. omega arith) (λ q. omega arith) (λ q. omega arith) (λ q. omega arith) (λ q. omega arith)
-
-pub returns-in-16-to-4294967295 : goal.returns-in-16-to-4294967295
-returns-in-16-to-4294967295 c =
-    of_none _ (λ q. omega arith) (λ q. omega arith) (λ q. omega arith) (λ q. omega arith) (λ q. omega arith) (λ q. omega arith) (λ q. omega arith)

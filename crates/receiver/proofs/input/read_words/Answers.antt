@@ -1,5 +1,5 @@
 -- `receiver::input::read_words` meets its contract: at each turn the first i words are read. Assumes nothing.
-use mathlib.Core.Path.{◌≡◌, ◌∙◌, refl}
+use mathlib.Core.Path.{◌∙◌, refl}
 use borrow.Author.Rules.{rules}
 use native.Mathlib.Omega.{arith}
 use native.Mathlib.Numerals.{add-one}
@@ -22,8 +22,3 @@ loop-i-preserved c = let l = c.loop-i in (
   simp length-set (search rules),
   rw (words_more, add-one) (take-suc-set l.out l.i c.number_at.result (omega arith) ∙ rw (l.invariant.4, c.number_at.ensures)),
 )
-
-pub returns : goal.returns
-returns c = let l = c.loop-i in
-    let e : l.i ≡ c.args.w = omega arith in
-    rw e at l.invariant.4

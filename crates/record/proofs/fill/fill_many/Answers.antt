@@ -1,32 +1,22 @@
 -- `fill::fill_many` meets its contract. Assumes nothing.
-use mathlib.Core.Path.{◌≡◌, ap, ◌∙◌}
-use Prim.Native.Nat.{ℕ, ◌+◌, ◌-◌}
+use Rattle.std.proofs.Common.{rules}
+use mathlib.Core.Path.{◌∙◌}
 use native.Mathlib.Omega.{arith}
+use lib.Dec.{ltb}
+use Rattle.std.proofs.lemmas.List.Sorted.{IsPartitionPoint-from_clause}
 use Rattle.parity.specs.Matrix.{lent}
-use Rattle.reading.specs.Read.{puts}
-use Rattle.record.proofs.Filling.{low_word, high_word, puts_more}
+use Rattle.parity.specs.Record.{payload}
+use Rattle.record.proofs.Filling.{parted, low_word, high_word, both_words}
 use Rattle.record.proofs.fill.fill_many.Goals as goal
 
 pub fill_word-requires : goal.fill_word-requires
-fill_word-requires c = (c.requires.2, omega arith, rw c.wide-low.ensures (low_word _ _ _ _ c.requires.0 c.below.ensures))
-
-pub overflow_add-from : goal.overflow_add-from
-overflow_add-from c = omega (arith, c.wide-low.ensures, c.below.ensures.top, c.requires.0.inside)
-
-pub overflow_sub-count : goal.overflow_sub-count
-overflow_sub-count c = omega (arith, c.wide-low.ensures, c.below.ensures.top)
+fill_word-requires c = let C = IsPartitionPoint-from_clause (λ w. ltb (payload w) 64) _ _ c.partition_point.ensures.partitioned (parted _ c.requires.0) (λ a r q k. search rules) in
+    (c.requires.1, omega arith, rw c.split_at.ensures.front (low_word _ c.requires.0 _ c.partition_point.ensures.bound C))
 
 pub fill_word-requires-2 : goal.fill_word-requires-2
-fill_word-requires-2 c = (omega (arith, c.fill_word.auto.words, c.requires.2), omega arith, rw c.wide-low.ensures (high_word _ _ _ _ c.requires.0 c.below.ensures))
-
-pub shape_of-words : goal.shape_of-words
-shape_of-words c = c.fill_word-2.auto.words ∙ c.fill_word.auto.words
+fill_word-requires-2 c = let C = IsPartitionPoint-from_clause (λ w. ltb (payload w) 64) _ _ c.partition_point.ensures.partitioned (parted _ c.requires.0) (λ a r q k. search rules) in
+    (omega (arith, c.fill_word.auto.words, c.requires.1), omega arith, rw c.split_at.ensures.back (high_word _ c.requires.0 _ c.partition_point.ensures.bound C))
 
 pub returns : goal.returns
-returns c = let low = c.wide-low.result in
-    let h = lent 8 c.args.words.now in
-    let e : low + (c.args.count - low) ≡ c.args.count = omega (arith, c.wide-low.ensures, c.below.ensures.top) in
-    c.fill_word-2.ensures
-    ∙ ap (puts c.args.source.now c.args.c (c.args.from + low) (c.args.count - low)) c.fill_word.ensures
-    ∙ puts_more c.args.source.now c.args.c c.args.from low (c.args.count - low) h
-    ∙ ap (λ (j : ℕ). puts c.args.source.now c.args.c c.args.from j h) e
+returns c = let C = IsPartitionPoint-from_clause (λ w. ltb (payload w) 64) _ _ c.partition_point.ensures.partitioned (parted _ c.requires.0) (λ a r q k. search rules) in
+    c.fill_word-2.ensures ∙ rw (c.fill_word.ensures, c.split_at.ensures.front, c.split_at.ensures.back) (both_words _ c.requires.0 _ c.partition_point.ensures.bound C c.args.c (lent 8 c.args.words.now))

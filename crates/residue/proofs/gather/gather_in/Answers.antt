@@ -1,26 +1,10 @@
 -- `gather::gather_in` meets its contract. Assumes nothing.
-use mathlib.Core.Path.{◌≡◌, refl, ◌∙◌}
+use mathlib.Core.Path.{◌∙◌}
 use native.Mathlib.Omega.{arith}
-use Rattle.parity.proofs.Matrix.Lent.{row_room}
 use Rattle.rows.proofs.Writing.{copied_row, row_others}
-use Rattle.residue.proofs.Gathering.{not_touched, gathered_none, gathered_past, gathered_more}
+use Rattle.residue.proofs.Gathering.{not_touched, gathered_past, gathered_more}
 use Rattle.residue.proofs.gather.gather_in.Goals as goal
 use Rattle.residue.proofs.gather.gather_in.Goals.{then-touches, else-touches}
-
-pub loop-c-init : goal.loop-c-init
-loop-c-init c = (omega arith, refl, gathered_none _ _ _ _)
-
-pub overflow_mul-count : goal.overflow_mul-count
-overflow_mul-count c = let l = c.loop-c in
-    omega (arith, l.invariant.1, l.invariant.2.few, row_room c.args.width l.count c.args.checks (omega (arith, l.invariant.2.few)))
-
-pub copy_words-requires : goal.copy_words-requires
-copy_words-requires c = let l = c.loop-c in
-    (omega arith, omega (arith, l.invariant.1, l.invariant.2.few, row_room c.args.width l.count c.args.checks (omega (arith, l.invariant.2.few))))
-
-pub overflow_add-count : goal.overflow_add-count
-overflow_add-count c = let l = c.loop-c in
-    omega (arith, l.invariant.2.few)
 
 pub loop-c-preserved : goal.loop-c-preserved
 loop-c-preserved c = let l = c.loop-c in
@@ -36,8 +20,3 @@ loop-c-preserved c = let l = c.loop-c in
         gathered_past _ _ _ _ _ _ l.invariant.2 (not_touched _ _ c.touches.ensures w.if-touches.false),
       )
     ])
-
-pub returns : goal.returns
-returns c = let l = c.loop-c in
-    let e : l.c ≡ c.args.checks = omega arith in
-    rw e at l.invariant.2

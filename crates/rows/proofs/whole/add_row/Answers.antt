@@ -4,11 +4,8 @@ use mathlib.Core.Path.{◌≡◌, refl}
 use mathlib.Core.Bool.{xor}
 use lib.Bits.{bit_xor}
 use Rattle.parity.proofs.Words.Sets.{bit_of_xor}
-use Rattle.rows.proofs.Writing.{written_none, written_onto, combined_all}
+use Rattle.rows.proofs.Writing.{written_onto, combined_all}
 use Rattle.rows.proofs.whole.add_row.Goals as goal
-
-pub loop-i-init : goal.loop-i-init
-loop-i-init c = (omega arith, written_none _ _ _)
 
 pub loop-i-preserved : goal.loop-i-preserved
 loop-i-preserved c = (omega arith, written_onto bit_xor _ _ _ _ _ _ c.loop-i.invariant.1 (omega arith) refl)

@@ -7,15 +7,15 @@ use Rattle.parity.specs.Finite.{any}
 use Rattle.parity.specs.Calls.{wrong_byte}
 use Rattle.sets.proofs.bytes.any_above.Goals as goal
 
-pub loop-i-init : goal.loop-i-init
+pub loop-b-init : goal.loop-b-init
 unfolding any
-loop-i-init c = (omega arith, refl, refl)
+loop-b-init c = (omega arith, refl)
 
-pub loop-i-preserved : goal.loop-i-preserved
+pub loop-b-preserved : goal.loop-b-preserved
 unfolding any
-loop-i-preserved c = let l = c.loop-i in
-    (omega arith, refl, rw (add-one l.i, l.invariant.2))
+loop-b-preserved c = let l = c.loop-b in
+    (omega arith, rw (add-one l.b-index, l.invariant.1))
 
 pub returns : goal.returns
 unfolding wrong_byte
-returns c = let e : c.loop-i.i ≡ length c.args.bytes.now = omega arith in rw e at c.loop-i.invariant.2
+returns c = let e : c.loop-b.b-index ≡ length c.args.bytes.now = omega arith in rw e at c.loop-b.invariant.1

@@ -7,5 +7,5 @@ use Rattle.parity.specs.Finite.{any}
 use Rattle.parity.specs.Calls.{byte_of}
 use Rattle.sets.proofs.bytes.any_above.Given as goal
 
-abbrev pub invariant-loop-i : goal.invariant-loop-i
-invariant-loop-i l = (l.i ≤ length l.bytes) × (l.i-end ≡ length l.bytes) × (l.over ≡ any l.i (λ b. ltb l.top (byte_of l.bytes b)))
+abbrev pub invariant-loop-b : goal.invariant-loop-b
+invariant-loop-b l = (l.b-index ≤ length l.bytes) × (l.over ≡ any l.b-index (λ b. ltb l.top (byte_of l.bytes b)))

@@ -1,9 +1,8 @@
 -- `bytes::erased_behind` meets its contract. Assumes nothing.
 use mathlib.Core.Path.{◌≡◌, ap, ◌∙◌}
-use mathlib.Core.List.{List, ◌++◌}
 use Prim.Native.Nat.{ℕ, ◌+◌, ◌-◌, ◌≤◌}
 use native.Mathlib.Omega.{arith}
-use lib.ListN.{length, drop, replicate, length-replicate, replicate-append-replicate}
+use lib.ListN.{length, drop, replicate, length-append, length-replicate, replicate-append-replicate}
 use lib.Seq.{drop_at}
 use Rattle.sets.proofs.bytes.erased_behind.Goals as goal
 
@@ -14,12 +13,8 @@ drop-erased n N l =
     ap (λ (j : ℕ). drop n (replicate {A = ℕ} j 2)) e
     ∙ rw (← replicate-append-replicate {A = ℕ} n (N - n) 2) (drop_at (replicate n 2) (replicate (N - n) 2) n (length-replicate {A = ℕ} n 2))
 
-pub copy_front-requires : goal.copy_front-requires
-copy_front-requires c = omega (arith, c.requires, ap length c.erased_word-word.ensures ∙ length-replicate {A = ℕ} 512 2)
-
 pub returns : goal.returns
 returns c = let w = c.args.bytes.now in
-    let all = c.erased_word-word.ensures in (
-      c.copy_front.auto.to ∙ ap length all ∙ length-replicate {A = ℕ} 512 2,
-      c.copy_front.ensures ∙ ap (λ (v : List ℕ). w ++ v) (ap (drop (length w)) all ∙ drop-erased (length w) 512 c.requires),
-    )
+    let e = drop-erased (length w) 512 c.requires in
+    let a = c.copy_from_slice.ensures.after in
+    (rw (a, e) (omega (arith, length-append w (replicate {A = ℕ} (512 - length w) 2), length-replicate {A = ℕ} (512 - length w) 2, c.requires)), rw (a, e))

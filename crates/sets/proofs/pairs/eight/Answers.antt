@@ -1,17 +1,10 @@
 -- `pairs::eight` meets its contract. Assumes nothing.
-use Prim.Native.Nat.{ℕ, ◌+◌, ◌*◌, ◌≤◌, ◌<◌}
+use Prim.Native.Nat.{ℕ, ◌+◌, ◌≤◌, ◌<◌}
 use native.Mathlib.Omega.{arith}
-use lib.Bits.{and_le_r}
 use Rattle.parity.specs.Calls.{byte_of}
 use Rattle.parity.proofs.Words.Bytes.{right_bytes}
 use Rattle.sets.proofs.Eights.{eight_ones, eight_twos}
 use Rattle.sets.proofs.pairs.eight.Goals as goal
-
-pub overflow_mul-erased : goal.overflow_mul-erased
-overflow_mul-erased c = record { fits = omega (arith, and_le_r (c.four.result + c.four-2.result * 16) 572662306) }
-
-pub overflow_mul-ones : goal.overflow_mul-ones
-overflow_mul-ones c = record { fits = omega (arith, and_le_r (c.four.result + c.four-2.result * 16) 286331153) }
 
 pub returns : goal.returns
 returns c = let w = c.args.bytes.now in

@@ -24,21 +24,18 @@ room f w n m k u v a b cs ws ts ms us r p q = (
   wrote_length _ _ _ _ _ q ∙ wrote_length _ _ _ _ _ p ∙ length-set ts 0 v,
 )
 
-pub head_word-requires : goal.head_word-requires
-head_word-requires c = let S = c.requires.width_in_bounds.4 in (S.n120, S.m120)
-
 pub bounds-target-0 : goal.bounds-target-0
-bounds-target-0 c = let k : 0 < length c.args.target.now = omega (arith, c.requires.k_in_bounds, plain_length c.args.form (lent c.args.width c.args.checks.now) (c.args.used * 64) (lent 8 c.args.words.now) c.args.n c.args.m c.args.k) in
+bounds-target-0 c = let k : 0 < length c.args.target.now = omega (arith, c.requires.k_in_bounds, plain_length c.args.form (lent c.args.checks.width c.args.checks.words.now) (c.args.checks.used * 64) (lent 8 c.args.words.now) c.args.n c.args.m c.args.k) in
     k
 
 pub put_checks-behind-requires : goal.put_checks-behind-requires
-put_checks-behind-requires c = record { width_in_bounds = (c.requires.width_in_bounds.0, c.requires.width_in_bounds.1, c.requires.width_in_bounds.2, c.requires.width_in_bounds.4.m120); m_in_bounds = omega (arith, c.requires.k_in_bounds, plain_length c.args.form (lent c.args.width c.args.checks.now) (c.args.used * 64) (lent 8 c.args.words.now) c.args.n c.args.m c.args.k, length-set c.args.target.now 0 c.head_word.result) }
+put_checks-behind-requires c = record { width_in_bounds = (c.requires.width_in_bounds.0, c.requires.width_in_bounds.2.m120); m_in_bounds = omega (arith, c.requires.k_in_bounds, plain_length c.args.form (lent c.args.checks.width c.args.checks.words.now) (c.args.checks.used * 64) (lent 8 c.args.words.now) c.args.n c.args.m c.args.k, length-set c.args.target.now 0 c.head_word.result) }
 
 pub put_splits-end-requires : goal.put_splits-end-requires
 put_splits-end-requires c = let o = c.put_checks-behind.ensures in (
-  c.requires.width_in_bounds.3,
-  c.requires.width_in_bounds.4,
-  omega (arith, c.requires.k_in_bounds, o.place, plain_length c.args.form (lent c.args.width c.args.checks.now) (c.args.used * 64) (lent 8 c.args.words.now) c.args.n c.args.m c.args.k, wrote_length _ _ _ _ _ o, length-set c.args.target.now 0 c.head_word.result),
+  c.requires.width_in_bounds.1,
+  c.requires.width_in_bounds.2,
+  omega (arith, c.requires.k_in_bounds, o.place, plain_length c.args.form (lent c.args.checks.width c.args.checks.words.now) (c.args.checks.used * 64) (lent 8 c.args.words.now) c.args.n c.args.m c.args.k, wrote_length _ _ _ _ _ o, length-set c.args.target.now 0 c.head_word.result),
 )
 
 pub offset_bounds-target-end : goal.offset_bounds-target-end
@@ -49,9 +46,6 @@ bounds-target-end c = omega (arith, (room _ _ _ _ _ _ _ _ _ _ _ _ _ _ c.requires
 
 pub overflow_add-result : goal.overflow_add-result
 overflow_add-result c = let k = (room _ _ _ _ _ _ _ _ _ _ _ _ _ _ c.requires.k_in_bounds c.put_checks-behind.ensures c.put_splits-end.ensures).0 in omega arith
-
-pub shape_of-target : goal.shape_of-target
-shape_of-target c = length-set c.put_splits-end.new.target c.put_splits-end.result 4026531840 ∙ (room _ _ _ _ _ _ _ _ _ _ _ _ _ _ c.requires.k_in_bounds c.put_checks-behind.ensures c.put_splits-end.ensures).1
 
 pub returns : goal.returns
 returns c = wrote_plain _ _ _ _ _ _ _ _ _ _ _ _ _ c.head_word.ensures c.put_checks-behind.ensures c.put_splits-end.ensures

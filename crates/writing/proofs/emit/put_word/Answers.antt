@@ -3,15 +3,11 @@ use Prim.Native.Nat.{◌+◌, ◌≤◌}
 use native.Mathlib.Omega.{arith}
 use lib.ListN.{length}
 use Rattle.parity.proofs.Matrix.Ones.{trailing_lowest}
-use Rattle.parity.proofs.Matrix.Rest.{rest_less}
 use Rattle.writing.proofs.Emitting.{wrote_length, emitting_none, emitting_end, emitting_room, emitting_next}
 use Rattle.writing.proofs.emit.put_word.Goals as goal
 
 pub loop-rest-init : goal.loop-rest-init
 loop-rest-init c = emitting_none _ _ _ _ c.ranges.x.fits
-
-pub overflow_add-target : goal.overflow_add-target
-overflow_add-target c = omega (arith, (trailing_lowest 64 _ c.loop-rest.invariant.fits c.loop-rest-test.true).short, c.requires.1)
 
 pub offset_bounds-target-at : goal.offset_bounds-target-at
 offset_bounds-target-at c = let k : c.loop-rest.at + 1 ≤ length c.args.target.now = omega (arith, emitting_room _ _ _ _ _ _ _ c.loop-rest.invariant _ (trailing_lowest 64 _ c.loop-rest.invariant.fits c.loop-rest-test.true), c.requires.0) in omega arith
@@ -23,14 +19,8 @@ bounds-target-at c = let k : c.loop-rest.at + 1 ≤ length c.args.target.now = o
 pub overflow_add-at : goal.overflow_add-at
 overflow_add-at c = let k : c.loop-rest.at + 1 ≤ length c.args.target.now = omega (arith, emitting_room _ _ _ _ _ _ _ c.loop-rest.invariant _ (trailing_lowest 64 _ c.loop-rest.invariant.fits c.loop-rest-test.true), c.requires.0) in omega arith
 
-pub loop-rest-smaller : goal.loop-rest-smaller
-loop-rest-smaller c = rest_less _ c.loop-rest-test.true
-
 pub loop-rest-preserved : goal.loop-rest-preserved
 loop-rest-preserved c = emitting_next _ _ _ _ _ _ _ c.loop-rest.invariant _ (trailing_lowest 64 _ c.loop-rest.invariant.fits c.loop-rest-test.true)
-
-pub shape_of-target : goal.shape_of-target
-shape_of-target c = wrote_length _ _ _ _ _ c.loop-rest.invariant.wrote
 
 pub returns : goal.returns
 returns c = emitting_end _ _ _ _ _ _ _ c.loop-rest.invariant c.loop-rest-test.false

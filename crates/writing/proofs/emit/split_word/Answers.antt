@@ -11,4 +11,4 @@ pub returns : goal.returns
 returns c = let F = c.next_one-lower.ensures in
     let a = lower_read _ _ _ _ _ c.requires.1 c.requires.2 _ F in
     let b = higher_read _ _ _ _ _ c.requires.1 c.requires.2 _ _ F c.next_one-higher.ensures in
-    word_read _ _ _ _ _ c.requires.1 c.requires.2 _ _ _ a b (omega (arith, c.narrow.ensures, c.narrow-2.ensures))
+    word_read _ _ _ _ _ c.requires.1 c.requires.2 _ _ _ a b (omega arith)

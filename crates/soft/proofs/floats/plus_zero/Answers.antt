@@ -1,8 +1,0 @@
--- `plus_zero` meets its contract. Assumes nothing.
-use Rattle.soft.proofs.floats.plus_zero.Goals as goal
-
-pub returns-then-x : goal.returns-then-x
-returns-then-x c = rw c.if-x.true
-
-pub returns : goal.returns
-returns c = rw c.if-x.false

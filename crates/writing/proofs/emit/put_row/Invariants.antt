@@ -1,9 +1,0 @@
--- What the loops of `put_row` keep.
-use Prim.Native.Nat.{◌*◌, ◌≤◌}
-use Rattle.parity.specs.Matrix.{lent}
-use Rattle.parity.specs.Record.{bit_words}
-use Rattle.writing.specs.Write.{Wrote}
-use Rattle.writing.proofs.emit.put_row.Given as goal
-
-abbrev pub invariant-loop-i : goal.invariant-loop-i
-invariant-loop-i l = (l.i ≤ l.used) × Wrote l.initial.target l.target l.p (bit_words (lent l.width l.rows l.c) (l.i * 64)) l.at

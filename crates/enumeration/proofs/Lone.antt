@@ -1,17 +1,16 @@
 -- The words of checks that contain exactly one, or some, of a few members. Assumes nothing.
 use mathlib.Core.Path.{◌≡◌, refl, sym, ap, ◌∙◌}
-use mathlib.Core.Bool.{Bool, true, false, not, xor, ◌&&◌, ◌||◌, true≢false, false≢true}
+use mathlib.Core.Bool.{Bool, true, false, not, xor, ◌&&◌, ◌||◌, false≢true}
 use mathlib.Core.List.{List}
-use Prim.Native.Nat.{ℕ, zero, suc, ◌+◌, ◌*◌, ◌-◌, ◌/◌, ◌%◌, ◌^◌, ◌≤◌, ◌<◌}
+use Prim.Native.Nat.{ℕ, ◌+◌, ◌*◌, ◌-◌, ◌/◌, ◌%◌, ◌^◌, ◌≤◌, ◌<◌}
 use native.Mathlib.Nat.{add-zero, zero-add, zero-mul}
 use native.Mathlib.Omega.{arith}
 use native.Mathlib.Decide.{dec_lt}
 use lib.Bits.{bit_and, bit_or, bit_xor, and_lt, or_lt, xor_lt}
-use lib.Dec.{eqb, lit<}
+use lib.Dec.{lit<}
 use lib.ListN.{get_or}
 use lib.Pow.{ones_sub-lt}
-use borrow.Author.Tests.{not-true, eq-eqb, eqb-true}
-use Rattle.std.specs.List.{list_all, range_with_len}
+use borrow.Author.Tests.{not-true, eqb-true}
 use Rattle.parity.specs.Finite.{all}
 use Rattle.parity.specs.Matrix.{Matrix, bit_of, lent}
 use Rattle.parity.specs.StoppingSets.{is_in}
@@ -120,17 +119,6 @@ module _ (W : ℕ) (cols x u : List ℕ) (d : ℕ) (ul : (i : ℕ) → get_or u 
           | is_true q ↦ absurd (z (same_bits 64 (lone_at W cols x u d i) 0 (lone_lt (get_or x i 0) (get_or u i 0) (get_or cols (d * W + i) 0) (xl i) (dl (d * W + i))) (lit< tt) (λ j m.
               lone_bit_lem i j (omega arith) m ∙ rw (not-true (is_lone W cols x u d (i * 64 + j)) (all_at (used * 64) _ q (i * 64 + j) (omega arith)), bit_zero j))))
         ]
-
-    -- the words from i on, one after the other, where those before have none
-    pub all_words : (i n : ℕ) → i + n ≤ W → no_lone W cols x u (i * 64) d ≡ true
-        → list_all (λ j. eqb (lone_at W cols x u d j) 0) (range_with_len i n) ≡ no_lone W cols x u ((i + n) * 64) d
-    all_words i zero k e = rw (add-zero i) (sym e)
-    all_words i (suc n) k e = elim (is (eqb (lone_at W cols x u d i) 0)) [
-      | is_true q ↦
-          let s : i + 1 + n ≡ i + suc n = omega arith in
-          rw q (rw s at (all_words (i + 1) n (omega arith) (none_more i (omega arith) (eqb-true _ 0 q) e)))
-      | is_false q ↦ rw q (sym (none_not i (i + suc n) (omega arith) k (λ z. true≢false (sym (eq-eqb _ 0 z) ∙ q))))
-    ]
 
     pub none_not_first : (used : ℕ) → 1 ≤ used → used ≤ W → (lone_word (get_or x 0 0) (get_or u 0 0) (get_or cols (d * W) 0) ≡ 0 → ⊥) → no_lone W cols x u (used * 64) d ≡ false
     none_not_first used k l z = none_not 0 used k l (λ e. z (rw (add-zero (d * W)) at e))

@@ -1,24 +1,31 @@
 -- Numbers stored one after another, if they are written at all. Assumes nothing.
 use mathlib.Core.Path.{◌≡◌, refl, sym, ap, ◌∙◌}
 use mathlib.Core.Bool.{Bool, true, false, cond}
-use mathlib.Core.List.{List, [], ◌∷◌, ◌++◌, append_assoc}
-use Prim.Native.Nat.{ℕ, zero, suc, ◌+◌, ◌≤◌, ◌<◌}
+use mathlib.Core.List.{List, [], ◌∷◌, ◌++◌}
+use Prim.Native.Nat.{ℕ, ◌+◌, ◌≤◌, ◌<◌}
 use native.Mathlib.Nat.{add-zero, zero-add}
 use native.Mathlib.Numerals.{add-one}
 use native.Mathlib.Omega.{arith}
-use native.Mathlib.Decide.{ℕ_discrete}
+use native.Mathlib.Decide.{ℕ_discrete, dec_lt}
+use lib.Dec.{ltb}
 use lib.ListN.{get_or, length, set, take, drop, length-set, length-append}
-use denote.Param.Members.{Mut}
-use Rattle.std.specs.Fn.{Called}
-use Rattle.std.specs.Array.{IsFromFnResult, IsFromFnResultFrom}
-use borrow.Rule.Slice.PartMut.{put_mid, same_len_mid}
-use lib.Seq.{drop-drop, sets, length-sets, sets-eq, length-take-le, take-take, take-append_seam, take-set-le, take-suc-set}
+use lib.Seq.{sets, length-sets, sets-eq, take-suc, length-take-le, take_all, get_or-set_same, get_or-set_other, get_or-take, ext_get_or, take-take, take-append_seam, take-set-le, take-suc-set}
+use borrow.Author.Tests.{lt-ltb, le-ltb}
 use Rattle.parity.proofs.Finite.Lists.{sets_append}
 use Rattle.enumeration.specs.Search.{Longer, Put}
 
--- a part that becomes s, as `l[p..p + k].copy_from_slice(..)` leaves it
-pub sets_part : (l s ys : List ℕ) (p k : ℕ) → p + length s ≤ length l → k ≡ length s → ys ≡ s → put_mid p k l ys ≡ sets l p s
-sets_part l s ys p k fit e f = rw (e, f, drop-drop (length s) p l) (sym (sets-eq s l p fit ∙ append_assoc (take p l) s (drop (p + length s) l)))
+-- one more of a list that is copied
+copy_next : (l : List ℕ) (p i : ℕ) (s : List ℕ) → i < length s → sets l p (take (i + 1) s) ≡ set (sets l p (take i s)) (p + i) (get_or s i 0)
+copy_next l p i s k =
+    rw (add-one i, take-suc s i 0 k) (sets_append l p (take i s) (get_or s i 0 ∷ []) ∙ rw (length-take-le i s (omega arith)))
+
+-- or none, where there is no more
+pub copy_if : (l : List ℕ) (p i : ℕ) (s : List ℕ) → sets l p (take (i + 1) s) ≡ cond (ltb i (length s)) (set (sets l p (take i s)) (p + i) (get_or s i 0)) (sets l p (take i s))
+copy_if l p i s =
+    elim (dec_lt i (length s)) [
+      | yes k ↦ rw (lt-ltb i (length s) k) (copy_next l p i s k)
+      | no k ↦ rw (le-ltb i (length s) (omega arith), take_all i s (omega arith), take_all (i + 1) s (omega arith))
+    ]
 
 -- and the number behind it
 pub copy_last : (l : List ℕ) (p : ℕ) (s : List ℕ) (d : ℕ) → set (sets l p s) (p + length s) d ≡ sets l p (s ++ (d ∷ []))
@@ -29,19 +36,30 @@ pub record Filled (n : ℕ) (f : ℕ → ℕ) (i : ℕ) (r : List ℕ) : Type 0 
   pub size : length r ≡ n
   pub at : (p : ℕ) → p < i → get_or r p 0 ≡ f p
 
--- the numbers that `array::from_fn` makes, of a closure that answers t
-module _ {F : Type 0} {g : Mut F (ℕ × Unit {0}) ℕ} (f : F) (t : ℕ → ℕ) (answers : (x y : ℕ) (q : F) → Called g f (x, tt) y q → (q ≡ f) × (y ≡ t x)) where
-  made_at : (ys : List ℕ) (i n : ℕ) → IsFromFnResultFrom g f ys i n → (j : ℕ) → i ≤ j → j < i + n → get_or ys j 0 ≡ t j
-  made_at ys i zero R j a b = absurd (omega arith)
-  made_at ys i (suc n) (q, y, is, k, R) j a b =
-      let (e, v) = answers i y q k in
-      elim (ℕ_discrete j i) [
-        | yes z ↦ rw z (is.1 0 ∙ v)
-        | no z ↦ made_at ys (i + 1) n (rw e at R) j (omega arith) (omega arith)
-      ]
+pub filled_none : (n : ℕ) (f : ℕ → ℕ) (r : List ℕ) → length r ≡ n → Filled n f 0 r
+filled_none n f r e = record { size = e; at = λ p k. absurd (omega arith) }
 
-  pub made : (ys : List ℕ) (n : ℕ) → IsFromFnResult g f ys n → Filled n t n ys
-  made ys n R = record { size = R.long; at = λ p l. made_at ys 0 n R.each p (omega arith) (omega arith) }
+pub filled_more : (n : ℕ) (f : ℕ → ℕ) (i : ℕ) (r : List ℕ) (x : ℕ) → i < n → Filled n f i r → x ≡ f i → Filled n f (i + 1) (set r i x)
+filled_more n f i r x k F e = record {
+  size = length-set r i x ∙ F.size;
+  at = λ p l. elim (ℕ_discrete p i) [
+    | yes q ↦ rw (q, get_or-set_same r i x 0 (omega (arith, F.size))) e
+    | no d ↦ rw (get_or-set_other r i p x 0 d) (F.at p (omega arith))
+  ];
+}
+
+-- the members and one more behind them
+abbrev pub member_at : List ℕ → ℕ → ℕ → ℕ
+member_at s d i = get_or (s ++ (d ∷ [])) i 0
+
+pub longer_law : (s : List ℕ) (d : ℕ) (r : List ℕ) → length s < 4 → Filled 4 (member_at s d) 4 r → Longer s d r
+longer_law s d r k F =
+    let e : length (s ++ (d ∷ [])) ≡ length s + 1 = length-append s (d ∷ []) in
+    let t : length (take (length s + 1) r) ≡ length s + 1 = length-take-le (length s + 1) r (omega (arith, F.size)) in
+    record {
+      size = F.size;
+      front = ext_get_or 0 (take (length s + 1) r) (s ++ (d ∷ [])) (t ∙ sym e) (λ i l. get_or-take (length s + 1) r i 0 (omega arith) ∙ F.at i (omega arith));
+    }
 
 -- the array r begins with the members, and one more may be put behind them
 pub record Begun (s r : List ℕ) : Type 0 where
@@ -61,17 +79,11 @@ module _ (s r : List ℕ) (d : ℕ) (B : Begun s r) where
   pub begun_more : (e : ℕ) → d ≡ e → length s < 4 → take (length s + 1) (set r (length s) d) ≡ s ++ (e ∷ [])
   begun_more e f k = rw (add-one (length s), ← f) (take-suc-set r (length s) d (omega (arith, B.size)) ∙ rw B.front)
 
-pub put_copied : (old new : List ℕ) (p : ℕ) (s : List ℕ) (d : ℕ) → new ≡ sets old p s → Put true old (set new (p + length s) d) p (s ++ (d ∷ [])) (p + length s + 1)
-put_copied old new p s d e = record {
-  stored = rw e (copy_last old p s d);
+pub put_copied : (old new : List ℕ) (p : ℕ) (s : List ℕ) (d i r : ℕ) → length s ≤ i → new ≡ sets old p (take i s) → r ≡ d
+    → Put true old (set new (p + length s) r) p (s ++ (d ∷ [])) (p + length s + 1)
+put_copied old new p s d i r k e f = record {
+  stored = rw (e, take_all i s k, f) (copy_last old p s d);
   place = rw (length-append s (d ∷ [])) (omega arith);
-}
-
--- the members, copied to the front of the array
-pub begun_copy : (s z ys : List ℕ) (k : ℕ) → length z ≡ 4 → length s < 4 → k ≡ length s → ys ≡ s → Begun s (put_mid 0 k z ys)
-begun_copy s z ys k l few e f = rw (e, f) record {
-  size = same_len_mid 0 (length s) z s (sym (length-take-le (length s) z (omega (arith, l)))) ∙ l;
-  front = take-append_seam s (drop (length s) z);
 }
 
 pub put_not : (write : Bool) (old : List ℕ) (p : ℕ) (s : List ℕ) (d : ℕ) → write ≡ false → Put write old old p (s ++ (d ∷ [])) (p + length s + 1)

@@ -2,8 +2,6 @@
 ghost use Rattle.std.specs.Prelude.{◌≡◌, true, ◌+◌, ◌*◌, ◌<◌, length, get_or};
 ghost use Rattle.enumeration.specs.Search.{Sized, lone_word, decided, Among, completing, OnceWith, SomeWith};
 
-use std::array::from_fn;
-
 // The checks of word `i` that contain exactly one of the members and bit `d`.
 fn lone_at(cols: &[u64], once: &[u64], some: &[u64], d: usize, i: usize) -> u64
     requires { (length cols.now ≡ 1024) × (length once.now ≡ 8) × (length some.now ≡ 8) × (d < 128) × (i < 8) }
@@ -19,7 +17,12 @@ fn completes_further(cols: &[u64], once: &[u64], some: &[u64], used: usize, d: u
     requires d_value { completing cols.now once.now some.now 64 d ≡ true }
     ensures { result ≡ completing cols.now once.now some.now (used * 64) d }
 {
-    (1..used).all(|i| lone_at(cols, once, some, d, i) == 0)
+    for i in 1..used {
+        if lone_at(cols, once, some, d, i) != 0 {
+            return false;
+        }
+    }
+    true
 }
 
 // Whether no check of the first `used` words contains exactly one of the members and bit `d`. Most bits fail in the first word, of which `x` has the checks
@@ -50,7 +53,11 @@ pub fn once_with(cols: &[u64], once: &[u64], some: &[u64], d: usize) -> [u64; 8]
     requires { (length cols.now ≡ 1024) × (length once.now ≡ 8) × (length some.now ≡ 8) × (d < 128) }
     ensures { OnceWith cols.now once.now some.now d result }
 {
-    from_fn(|i| lone_at(cols, once, some, d, i))
+    let mut all = [0u64; 8];
+    for i in 0..8 {
+        all[i] = lone_at(cols, once, some, d, i);
+    }
+    all
 }
 
 // The checks that contain one or more of the members and bit `d`.
@@ -58,5 +65,9 @@ pub fn some_with(cols: &[u64], some: &[u64], d: usize) -> [u64; 8]
     requires { (length cols.now ≡ 1024) × (length some.now ≡ 8) × (d < 128) }
     ensures { SomeWith cols.now some.now d result }
 {
-    from_fn(|i| some[i] | cols[d * 8 + i])
+    let mut all = [0u64; 8];
+    for i in 0..8 {
+        all[i] = some[i] | cols[d * 8 + i];
+    }
+    all
 }

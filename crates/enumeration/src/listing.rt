@@ -5,7 +5,7 @@ ghost use Rattle.enumeration.specs.Search.{Begun, Sized, across, decided, Seen, 
 
 use crate::Search;
 use crate::checks::{completes, once_with, some_with};
-use crate::members::{longer, take_in};
+use crate::members::{longer, member, take_in};
 
 // Lists the members and `d` if they are a stopping set, and answers the place behind.
 fn list_with(
@@ -85,7 +85,7 @@ fn list_pairs(
     for d in from..n {
         let x = once_with(cols, once, some, d);
         let u = some_with(cols, some, d);
-        more[len] = d as u16;
+        more[len] = member(d);
         let next = d + 1;
         place = list_last(cols, search, &x, &u, &more[..len + 1], next, sets, place);
     }
@@ -153,8 +153,8 @@ pub fn list_all(
     let len: usize = 0;
     let search = Search {
         bits: n,
-        used,
-        write,
+        used: used,
+        write: write,
     };
     if t == 1 {
         return list_last(cols, search, &none, &none, &members[..len], 0, sets, 0);

@@ -34,6 +34,10 @@ completes_further-requires c = let s = c.args in
       d_value = first_word s.cols.now s.once.now s.some.now s.d s.x s.w (λ i. omega (arith, c.type_inv.once i)) (λ i. omega (arith, c.type_inv.some i)) (λ i. omega (arith, c.type_inv.cols i)) P.2 P.3 P.4 c.if-cols-d-ne0.false;
     }
 
+pub returns-then-used-eq8 : goal.returns-then-used-eq8
+returns-then-used-eq8 c = let e : c.args.used ≡ 8 = c.if-used-eq8.true in
+    rw e c.completes_further.ensures
+
 pub completes_further-requires-2 : goal.completes_further-requires-2
 completes_further-requires-2 c = let s = c.args in
     let P = c.requires in

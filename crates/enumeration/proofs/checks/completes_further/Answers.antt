@@ -1,17 +1,26 @@
 -- `completes_further` meets its contract. Assumes nothing.
-use Rattle.std.proofs.Common.{rules}
-use Rattle.std.proofs.lemmas.Iterator.{YieldsList-from_range}
-use Rattle.std.proofs.lemmas.Iterator.Search.{all_from_yields_List}
-use lib.Dec.{eqb}
-use mathlib.Core.Path.{◌≡◌, refl, sym, ◌∙◌}
+use mathlib.Core.Path.{◌≡◌, sym, ◌∙◌}
+use Prim.Native.Nat.{◌*◌}
 use native.Mathlib.Omega.{arith}
-use Prim.Native.Nat.{◌+◌, ◌-◌}
-use Rattle.enumeration.proofs.Lone.{lone_at, all_words, completing_is}
+use Rattle.enumeration.proofs.Lone.{none_more, none_not, completing_is}
 use Rattle.enumeration.proofs.checks.completes_further.Goals as goal
 
+pub loop-i-init : goal.loop-i-init
+loop-i-init c = (omega arith, omega arith, sym (completing_is _ _ _ 64 c.args.d) ∙ c.requires.d_value)
+
+pub lone_at-requires : goal.lone_at-requires
+lone_at-requires c = let z = c.requires.sized.0 in
+    (z.columns, z.once, z.some, c.requires.sized.1, omega (arith, z.most))
+
+pub returns-then-lone_at-ne0 : goal.returns-then-lone_at-ne0
+returns-then-lone_at-ne0 c = let l = c.loop-i in
+    sym (completing_is _ _ _ (c.args.used * 64) c.args.d ∙ none_not 8 c.args.cols.now c.args.once.now c.args.some.now c.args.d (λ i. omega (arith, c.type_inv.some i)) (λ i. omega (arith, c.type_inv.cols i)) (λ i. omega (arith, c.type_inv.once i)) l.i c.args.used (omega arith) (omega arith) (λ e. c.if-lone_at-ne0.true (c.lone_at.ensures ∙ e)))
+
+pub loop-i-preserved : goal.loop-i-preserved
+loop-i-preserved c = let l = c.loop-i in
+    (omega arith, omega arith, none_more 8 c.args.cols.now c.args.once.now c.args.some.now c.args.d (λ i. omega (arith, c.type_inv.some i)) (λ i. omega (arith, c.type_inv.cols i)) l.i (omega arith) (sym c.lone_at.ensures ∙ c.if-lone_at-ne0.false) l.invariant.2)
+
 pub returns : goal.returns
-returns c = let a = c.args in
-    let s : 1 + (a.used - 1) ≡ a.used = omega (arith, c.requires.sized.0.least) in
-    all_from_yields_List (λ i. eqb (lone_at 8 a.cols.now a.once.now a.some.now a.d i) 0) _ _ c.all.result c.all.ensures.ran (YieldsList-from_range 1 a.used (a.used - 1) refl refl) (λ x b q k. search rules)
-    ∙ rw s at (all_words 8 a.cols.now a.once.now a.some.now a.d (λ i. omega (arith, c.type_inv.some i)) (λ i. omega (arith, c.type_inv.cols i)) (λ i. omega (arith, c.type_inv.once i)) 1 (a.used - 1) (omega (arith, c.requires.sized.0.most)) (sym (completing_is _ _ _ 64 a.d) ∙ c.requires.d_value))
-    ∙ sym (completing_is _ _ _ _ a.d)
+returns c = let l = c.loop-i in
+    let e : l.i ≡ c.args.used = omega arith in
+    sym (completing_is c.args.cols.now c.args.once.now c.args.some.now (c.args.used * 64) c.args.d ∙ rw e at l.invariant.2)

@@ -1,9 +1,18 @@
 -- `some_with` meets its contract. Assumes nothing.
-use Rattle.std.proofs.Common.{rules}
-use Rattle.enumeration.proofs.Storing.{made}
-use Rattle.enumeration.proofs.Lone.{some_at, some_law}
+use mathlib.Core.Path.{◌≡◌, refl}
+use native.Mathlib.Omega.{arith}
+use Rattle.enumeration.proofs.Storing.{filled_none, filled_more}
+use Rattle.enumeration.proofs.Lone.{some_law}
 use Rattle.enumeration.proofs.checks.some_with.Goals as goal
 
+pub loop-i-init : goal.loop-i-init
+loop-i-init c = (omega arith, filled_none _ _ _ refl)
+
+pub loop-i-preserved : goal.loop-i-preserved
+loop-i-preserved c = let l = c.loop-i in
+    (omega arith, filled_more _ _ _ _ _ (omega arith) l.invariant.1 refl)
+
 pub returns : goal.returns
-returns c = let a = c.args in
-    some_law a.cols.now a.some.now a.d _ (made _ (some_at 8 a.cols.now a.some.now a.d) (λ x y q k. search rules) _ 8 c.from_fn.ensures.items)
+returns c = let l = c.loop-i in
+    let e : l.i ≡ 8 = omega arith in
+    some_law c.args.cols.now c.args.some.now c.args.d _ (rw e at l.invariant.1)

@@ -4,6 +4,7 @@ use Prim.Native.Nat.{◌*◌}
 use native.Mathlib.Omega.{arith}
 use Rattle.enumeration.specs.Search.{across, decided, last_of}
 use Rattle.enumeration.proofs.Inside.{under_later}
+use Rattle.enumeration.proofs.Storing.{put_length}
 use Rattle.enumeration.proofs.Joining.{listed_one, searched_none, searched_next, searched_fits, searched_room, searched_all}
 use Rattle.enumeration.proofs.listing.list_last.Goals as goal
 
@@ -23,6 +24,9 @@ list_with-place-requires c = let l = c.loop-d in
 pub loop-d-preserved : goal.loop-d-preserved
 loop-d-preserved c = let l = c.loop-d in
     searched_next c.args.search.write c.args.sets.now l.sets c.args.at c.args.from l.d c.args.search.bits (last_of (across c.args.cols.now) (c.args.search.used * 64) c.args.first.now) l.place l.invariant _ _ (omega arith) c.list_with-place.ensures
+
+pub shape_of-sets : goal.shape_of-sets
+shape_of-sets c = put_length _ _ _ _ _ _ c.loop-d.invariant.put
 
 pub returns : goal.returns
 returns c = let l = c.loop-d in

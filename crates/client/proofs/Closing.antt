@@ -3,6 +3,7 @@ use mathlib.Core.Path.{◌≡◌, refl, sym, ap, ◌∙◌}
 use mathlib.Core.Bool.{Bool, true, false, true≢false}
 use mathlib.Core.List.{List, [], ◌∷◌, ◌++◌}
 use Prim.Native.Nat.{ℕ, ◌+◌, ◌-◌, ◌≤◌, ◌<◌}
+use native.Mathlib.Nat.{zero-add}
 use native.Mathlib.Omega.{arith}
 use lib.Dec.{eqb}
 use lib.ListN.{length, take, drop, replicate, length-replicate, length-append, replicate-append-replicate, get_or-append}
@@ -19,7 +20,13 @@ use Rattle.parity.proofs.Matrix.Accept.{accepts}
 use Rattle.parity.proofs.Causes.Refused.{refused_number}
 use Rattle.parity.proofs.Words.Promised.{peel_leaves_largest}
 use Rattle.parity.proofs.Lists.Demand3.{demand3}
+use Rattle.rows.specs.Whole.{Written, word_from}
 use Rattle.client.specs.Relied.{ReliesOn}
+
+-- all words are copied
+same_words : (n : ℕ) (ws before after : List ℕ) → length ws ≡ n → length before ≡ n → Written before after 0 (word_from ws 0) n → after ≡ ws
+same_words n ws before after l q A =
+    ext_get_or 0 after ws (A.long ∙ q ∙ sym l) (λ i k. rw (zero-add i) at (A.done i (omega (arith, A.long))))
 
 -- the word, and as many of the erased bits behind it as there are added ones
 front : (n k : ℕ) (w : List ℕ) → length w ≡ n → k ≤ 392 → take (n + k) (w ++ replicate 392 2) ≡ w ++ replicate k 2
@@ -117,10 +124,11 @@ module _ (ws : List ℕ) (n m : ℕ) (a : cause ws n m 0 ≡ 0) where
   after_one splits total k held e = (refl, rw (← e))
 
 -- the copy, orthogonalised
-pub copied_one : (ws : List ℕ) (n m : ℕ) → cause ws n m 0 ≡ 0 → (copy own : List ℕ) → copy ≡ ws
+pub copied_one : (ws : List ℕ) (n m : ℕ) → cause ws n m 0 ≡ 0 → (held copy own : List ℕ) → length held ≡ 4096 → Written held copy 0 (word_from ws 0) 4096
     → (splits total k : ℕ) (hs : List ℕ) → answer (splits ∷ total ∷ k ∷ hs) ≡ (orthogonalise_outcome copy n m 0).reply → own ≡ (orthogonalise_outcome copy n m 0).after
     → (own ≡ (runs n m (start ws) (orthogonalises ∷ [])).words) × (k ≡ (runs n m (start ws) (orthogonalises ∷ [])).k)
-copied_one ws n m a copy own c splits total k hs e o =
+copied_one ws n m a held copy own l W splits total k hs e o =
+    let c = same_words 4096 ws held copy ((accepts ws n m 0).0 a).words l W in
     let (x, y) = after_one ws n m a splits total k hs (rw c at e) in
     ((rw c at o) ∙ x, y)
 

@@ -10,6 +10,7 @@ ghost use Rattle.client.specs.Relied.{ReliesOn};
 
 use orthogonalise::orthogonalise;
 use peel::peel;
+use rows::whole::copy_words;
 
 // Peels the first n + k bytes, and says whether peeling answers.
 fn peel_front(words: &[u64], n: usize, m: usize, k: usize, bytes: &mut [u8]) -> bool
@@ -33,7 +34,7 @@ pub fn peel_both(
     requires { (cause words.now n m 0 ≡ 0) × (length own.old ≡ 4096) × (length given.old ≡ n) × (longer.old ≡ given.old ++ replicate 392 2) }
     ensures { ReliesOn words.now n m given.old result given.new longer.new }
 {
-    own.copy_from_slice(words);
+    copy_words(words, 0, own, 0, 4096);
     if !peel_front(words, n, m, 0, given) {
         return false;
     }

@@ -1,5 +1,5 @@
 // The sent bits, and then each added bit as the sum modulo 2 of the two lower bits of its added check.
-ghost use Rattle.std.specs.Prelude.{◌≡◌, ◌+◌, ◌<◌, length};
+ghost use Rattle.std.specs.Prelude.{◌≡◌, ◌+◌, ◌++◌, ◌<◌, ◌≤◌, length, drop};
 ghost use Rattle.parity.specs.Finite.{one};
 ghost use Rattle.parity.specs.Matrix.{lent, cause};
 ghost use Rattle.parity.specs.Words.{is_one, inside, odd};
@@ -30,11 +30,22 @@ fn add_bits(words: &[u64], n: usize, m: usize, k: usize, word: &mut [u8])
     }
 }
 
+// The sent bits are put in front. They are put one by one, since a copy of a slice into another that C lends takes `memmove`, which the archive needs nowhere
+// else.
+fn put_sent(sent: &[u8], word: &mut [u8])
+    requires { length sent.now ≤ length word.old }
+    ensures { word.new ≡ sent.now ++ drop (length sent.now) word.old }
+{
+    for (b, bit) in sent.iter().enumerate() {
+        word[b] = *bit;
+    }
+}
+
 // The sent bits and the added bits.
 pub fn write_word(words: &[u64], n: usize, m: usize, k: usize, sent: &[u8], word: &mut [u8])
     requires { (cause words.now n m k ≡ 0) × (length word.old ≡ n + k) × (length sent.now ≡ n) × Bits sent.now n }
     ensures { word.new ≡ extended_bytes (lent 8 words.now) n m k sent.now }
 {
-    word[..n].copy_from_slice(sent);
+    put_sent(sent, word);
     add_bits(words, n, m, k, word);
 }

@@ -18,10 +18,28 @@ use Rattle.parity.proofs.Finite.Sums.{sum_end, all_at}
 use Rattle.parity.proofs.House.Rules.{code_in, table_lt}
 
 -- the code of name 0, and those of the other names, which are one family
+pub hamming_bits : (name : ℕ) → (name ≡ 0 → ⊥) → (house_code name).n ≡ 2 ^ (name + 1) - 1
+unfolding house_code hamming_code code_of
+hamming_bits zero d = absurd (d refl)
+hamming_bits (suc i) d = let e : i + 2 ≡ suc i + 1 = omega arith in rw e
+
+pub hamming_checks : (name : ℕ) → (name ≡ 0 → ⊥) → (house_code name).m ≡ name + 1
+unfolding house_code hamming_code code_of
+hamming_checks zero d = absurd (d refl)
+hamming_checks (suc i) d = omega arith
+
 pub hamming_entry : (name c b : ℕ) → (name ≡ 0 → ⊥) → c < (house_code name).m → b < (house_code name).n → (house_code name).matrix c b ≡ hamming c b
 unfolding house_code hamming_code
 hamming_entry zero c b d k l = absurd (d refl)
 hamming_entry (suc i) c b d k l = code_in (2 ^ (i + 2) - 1) (i + 2) hamming c b (unfold code_of in k) (unfold code_of in l)
+
+pub circulant_bits : (name : ℕ) → name ≡ 0 → (house_code name).n ≡ 23
+unfolding house_code code_of
+circulant_bits name e = rw e
+
+pub circulant_checks : (name : ℕ) → name ≡ 0 → (house_code name).m ≡ 23
+unfolding house_code code_of
+circulant_checks name e = rw e
 
 pub circulant_entry : (name c b : ℕ) → name ≡ 0 → c < (house_code name).m → b < (house_code name).n → (house_code name).matrix c b ≡ circulant c b
 unfolding house_code

@@ -34,7 +34,7 @@ pub struct Size {
 }
 
 // The name of a number.
-fn named(number: usize) -> Result<Name, Refusal>
+pub fn named(number: usize) -> Result<Name, Refusal>
     ensures { Named number result }
 {
     match number {

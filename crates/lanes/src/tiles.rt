@@ -18,6 +18,7 @@ fn eight_of(words: &[u64], first: usize) -> [u64; 8]
 }
 
 // Words from place `a` on are copied to place `b`, by eight words. All eight are read before the first is written: the compiler, which does not know that the tile is none of the packets, then moves several at once.
+// The rest, if there is one, is copied by the C library, which takes longer than eight words.
 fn copy_eights(from: &[u64], a: usize, to: &mut [u64], b: usize, count: usize)
     requires { (a + count ≤ length from.now) × (b + count ≤ length to.old) }
     ensures { Written to.old to.new b (word_from from.now a) count }
@@ -28,7 +29,9 @@ fn copy_eights(from: &[u64], a: usize, to: &mut [u64], b: usize, count: usize)
         to[b + done..b + done + 8].copy_from_slice(&eight);
         done += 8;
     }
-    to[b + done..b + count].copy_from_slice(&from[a + done..a + count]);
+    if done < count {
+        to[b + done..b + count].copy_from_slice(&from[a + done..a + count]);
+    }
 }
 
 // The words of packet `b` become the first of row `b`.

@@ -1,12 +1,12 @@
 -- Values at the front of a list, and replies passed. Assumes nothing.
 use mathlib.Core.Path.{◌≡◌, refl, sym}
 use mathlib.Core.List.{List, [], ◌∷◌, ◌++◌}
-use Prim.Native.Nat.{ℕ, min}
+use Prim.Native.Nat.{ℕ, ◌≤◌, min}
 use native.Mathlib.Omega.{arith}
 use native.Mathlib.Decide.{dec_le}
 use lib.ListN.{length, take, drop}
 use lib.Seq.{take-length, drop-length}
-use Rattle.std.proofs.lemmas.List.{drop_all, take_all}
+use Rattle.std.proofs.lemmas.List.{append-nil, drop_all, take_all}
 use Rattle.parity.specs.Causes.{Reply, refusal}
 use Rattle.passing.specs.Passed.{filled, Passed}
 
@@ -14,6 +14,15 @@ pub fill_none : {A : Type 0} (old : List A) → old ≡ filled [] old
 unfolding filled
 fill_none [] = refl
 fill_none (x ∷ xs) = refl
+
+-- all values, where the list has room for them, and else as many as it reaches
+pub fill_all : {A : Type 0} (vs old : List A) → length vs ≤ length old → vs ++ drop (length vs) old ≡ filled vs old
+unfolding filled
+fill_all vs old l = rw (take_all (length old) vs l) refl
+
+pub fill_part : {A : Type 0} (vs old : List A) → length old ≤ length vs → take (length old) vs ≡ filled vs old
+unfolding filled
+fill_part vs old l = rw (drop_all (length vs) old l) (sym (append-nil _))
 
 -- as many values as there are, or as the list reaches
 pub fill_front : {A : Type 0} (vs old : List A) → take (min (length old) (length vs)) vs ++ drop (min (length old) (length vs)) old ≡ filled vs old

@@ -7,12 +7,15 @@ ghost use Rattle.passing.specs.Passed.{Passed, filled};
 
 use parity::Numbered;
 
-// Puts values at the front, as far as the slice reaches.
+// Puts values at the front, as far as the slice reaches. Where there is room for all, their number is known to the compiler, which writes them here.
 pub fn put_front<T: Copy>(values: &mut [T], front: &[T])
     ensures { values.new ≡ filled front.now values.old }
 {
-    let n = values.len().min(front.len());
-    values[..n].copy_from_slice(&front[..n]);
+    if front.len() <= values.len() {
+        values[..front.len()].copy_from_slice(front);
+    } else {
+        values.copy_from_slice(&front[..values.len()]);
+    }
 }
 
 // Passes a reply: returns its number, and puts its values at the front of the lent slice, as far as that reaches.

@@ -1,10 +1,9 @@
 // Whether a round leaves the messages as they were. The `w` messages of the round before are kept in the places after the messages, if there is room before the row.
 #![tactic(auto)]
 
-ghost use Rattle.std.specs.Prelude.{◌≡◌};
-ghost use Rattle.std.specs.List.{list_all, zip};
+ghost use Rattle.std.specs.Prelude.{◌≡◌, ◌<◌, length};
 ghost use Rattle.messages.specs.Memory.{Sized};
-ghost use Rattle.standing.specs.Standing.{same_number, Kept, Standing};
+ghost use Rattle.standing.specs.Standing.{same_number, same_message, Kept, Standing};
 
 use messages::copying::copy;
 
@@ -15,14 +14,16 @@ fn same_float(x: f32, y: f32) -> bool
     x == y && x.to_bits() == y.to_bits()
 }
 
-// Whether floats are the same numbers with the same signs.
-fn same_floats(xs: &[f32], ys: &[f32]) -> bool
-    ensures { result ≡ list_all (λ p. same_number p.0 p.1) (zip xs.now ys.now) }
+// Whether messages `i` and `j` are the same, byte and float.
+fn same_message(tags: &[u8], values: &[f32], i: usize, j: usize) -> bool
+    requires i_in_bounds { (i < length tags.now) × (i < length values.now) }
+    requires j_in_bounds { (j < length tags.now) × (j < length values.now) }
+    ensures { result ≡ same_message tags.now values.now i j }
 {
-    xs.iter().zip(ys).all(|p| same_float(*p.0, *p.1))
+    tags[i] == tags[j] && same_float(values[i], values[j])
 }
 
-// Whether the messages are the kept ones.
+// Whether the messages are the kept ones: they are compared up to the first that differs.
 fn same(tags: &[u8], values: &[f32], w: usize) -> bool
     requires { Sized tags.now values.now }
     ensures { Standing result w tags.now values.now }
@@ -30,7 +31,7 @@ fn same(tags: &[u8], values: &[f32], w: usize) -> bool
     if 32512 < w {
         return false;
     }
-    tags[..w] == tags[w..w + w] && same_floats(&values[..w], &values[w..w + w])
+    (0..w).all(|i| same_message(tags, values, i, w + i))
 }
 
 // The messages are kept.

@@ -55,24 +55,24 @@ fn mend_line(
 fn c_line(
     rt: &impl Print,
     head: &str,
+    c: &[u64],
     lost: &mut [u8],
     packets: &mut [u64],
     odd: &mut [u64],
 ) -> io::Result<()> {
-    let c = samples::cases::c();
-    mend_line(rt, head, &c, 7, 3, 0, lost, packets, odd)
+    mend_line(rt, head, c, 7, 3, 0, lost, packets, odd)
 }
 
 // Lanes 0 to 3 of C's packets are the codewords 0000000, 0011111, 1100111 and 1111000 without their first two bits, and lane 4 has a false bit.
-fn case_c(rt: &impl Print) -> io::Result<()> {
+fn case_c(rt: &impl Print, c: &[u64]) -> io::Result<()> {
     let mut two = [1, 1, 0, 0, 0, 0, 0];
     let mut packets = [99, 255, 10, 26, 6, 6, 6];
     let mut odd = [7];
-    c_line(rt, "C, two lost", &mut two, &mut packets, &mut odd)?;
+    c_line(rt, "C, two lost", c, &mut two, &mut packets, &mut odd)?;
     let mut four = [1, 1, 1, 1, 0, 0, 0];
-    c_line(rt, "C, four lost", &mut four, &mut packets, &mut odd)?;
+    c_line(rt, "C, four lost", c, &mut four, &mut packets, &mut odd)?;
     let mut plan = [1, 1, 1, 0, 0, 0, 0];
-    c_line(rt, "C, a plan", &mut plan, &mut [], &mut [])
+    c_line(rt, "C, a plan", c, &mut plan, &mut [], &mut [])
 }
 
 // Two words to a packet; the added bit is lost too.
@@ -83,31 +83,31 @@ fn case_d(rt: &impl Print) -> io::Result<()> {
     mend_line(rt, "D", &d, 7, 3, 1, &mut lost, &mut packets, &mut [1, 1])
 }
 
-fn wrong_lists(rt: &impl Print) -> io::Result<()> {
+fn wrong_lists(rt: &impl Print, c: &[u64]) -> io::Result<()> {
     let mut lost = [0, 0, 0, 0, 2, 0, 0];
     let mut packets = [1, 2, 3, 4, 5, 6, 7];
     let mut odd = [7];
-    c_line(rt, "C, a wrong byte", &mut lost, &mut packets, &mut odd)?;
+    c_line(rt, "C, a wrong byte", c, &mut lost, &mut packets, &mut odd)?;
     let mut two = [7, 8];
     c_line(
         rt,
         "C, packets too short",
+        c,
         &mut lost,
         &mut packets,
         &mut two,
     )
 }
 
-fn wrong_sizes(rt: &impl Print) -> io::Result<()> {
+fn wrong_sizes(rt: &impl Print, c: &[u64]) -> io::Result<()> {
     let mut short = [0, 0, 0, 0, 2, 0];
     let mut packets = [1, 2, 3, 4, 5, 6, 7];
     let mut odd = [7];
-    c_line(rt, "C, n - 1 bytes", &mut short, &mut packets, &mut odd)?;
-    let c = samples::cases::c();
+    c_line(rt, "C, n - 1 bytes", c, &mut short, &mut packets, &mut odd)?;
     mend_line(
         rt,
         "C, too many checks",
-        &c,
+        c,
         7,
         121,
         0,
@@ -118,8 +118,9 @@ fn wrong_sizes(rt: &impl Print) -> io::Result<()> {
 }
 
 fn main(rt: HostRuntime) -> io::Result<()> {
-    case_c(&rt)?;
+    let c = samples::cases::c();
+    case_c(&rt, &c)?;
     case_d(&rt)?;
-    wrong_lists(&rt)?;
-    wrong_sizes(&rt)
+    wrong_lists(&rt, &c)?;
+    wrong_sizes(&rt, &c)
 }

@@ -7,9 +7,9 @@ use Rattle.parity.proofs.Matrix.Accept.{accepts}
 use Rattle.client.proofs.Closing.{few, relies, refused, copied_one, after_none, room}
 use Rattle.client.proofs.peel_both.Goals as goal
 
-pub copy_from_slice-requires : goal.copy_from_slice-requires
-copy_from_slice-requires c = let A = (accepts c.args.words.now c.args.n c.args.m 0).0 c.requires.0 in
-    omega (arith, A.words, c.requires.1)
+pub copy_words-requires : goal.copy_words-requires
+copy_words-requires c = let A = (accepts c.args.words.now c.args.n c.args.m 0).0 c.requires.0 in
+    (omega (arith, A.words), omega (arith, c.requires.1))
 
 pub peel_front-requires : goal.peel_front-requires
 peel_front-requires c = let A = (accepts c.args.words.now c.args.n c.args.m 0).0 c.requires.0 in
@@ -26,7 +26,7 @@ peel_front-requires-in-Err c = let A = (accepts c.args.words.now c.args.n c.args
 pub peel_front-requires-in-Ok : goal.peel_front-requires-in-Ok
 peel_front-requires-in-Ok c = let ws = c.args.words.now in
     let O = c.in-Ok.ensures in
-    let (o, j) = copied_one ws c.args.n c.args.m c.requires.0 _ _ c.copy_from_slice.ensures.after _ _ _ _ O.result_value O.words_after in
+    let (o, j) = copied_one ws c.args.n c.args.m c.requires.0 c.args.own.now _ _ c.requires.1 c.copy_words.ensures _ _ _ _ O.result_value O.words_after in
     let F = few ws c.args.n c.args.m c.requires.0 (orthogonalises ∷ []) in
     (room c.args.n _ c.args.given.now c.args.longer.now c.requires.2 c.requires.3 (omega (arith, F.0)), omega (arith, F.1))
 
@@ -39,6 +39,6 @@ returns-in-Err c = let ws = c.args.words.now in
 pub returns-in-Ok : goal.returns-in-Ok
 returns-in-Ok c = let ws = c.args.words.now in
     let O = c.in-Ok.ensures in
-    let (o, j) = copied_one ws c.args.n c.args.m c.requires.0 _ _ c.copy_from_slice.ensures.after _ _ _ _ O.result_value O.words_after in
+    let (o, j) = copied_one ws c.args.n c.args.m c.requires.0 c.args.own.now _ _ c.requires.1 c.copy_words.ensures _ _ _ _ O.result_value O.words_after in
     let E = c.peel_front-in-Ok.ensures in
     relies ws c.args.n c.args.m c.requires.0 (orthogonalises ∷ []) c.args.given.now c.args.longer.now c.requires.2 c.requires.3 _ _ o j _ _ _ c.peel_front.ensures.bytes_after E.bytes_after E.value

@@ -18,8 +18,8 @@ loop-done-preserved c = let l = c.loop-done in
           (rw (e, c.copy_from_slice.ensures.after) (written_part l.to E.result (s.b + l.done) 8 (word_from E.result 0) (omega (arith, l.invariant.1.long)) E.ensures.size (λ j k. rw (zero-add j) refl))),
     )
 
-pub returns : goal.returns
-returns c = let l = c.loop-done in
+pub returns-then-done-count : goal.returns-then-done-count
+returns-then-done-count c = let l = c.loop-done in
     let s = c.args in
     written_rest s.from.now s.a _ _ _ _ _ _ l.invariant.0 l.invariant.1
-    (written_copy _ _ _ _ _ _ _ _ (omega (arith, l.invariant.1.long)) (omega arith) (omega arith) (omega arith) c.copy_from_slice-2.ensures.after)
+    (written_copy _ _ _ _ _ _ _ _ (omega (arith, l.invariant.1.long)) (omega arith) (omega arith) (omega arith) c.copy_from_slice-then-done-count.ensures.after)

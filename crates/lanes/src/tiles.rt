@@ -18,7 +18,7 @@ fn eight_of(words: &[u64], first: usize) -> [u64; 8]
 }
 
 // Words from place `a` on are copied to place `b`, by eight words. All eight are read before the first is written: the compiler, which does not know that the tile is none of the packets, then moves several at once.
-// The rest, if there is one, is copied by the C library, which takes longer than eight words.
+// The rest is copied only where there is one: a copy whose length the compiler does not know is a call of `memcpy`, for no words too.
 fn copy_eights(from: &[u64], a: usize, to: &mut [u64], b: usize, count: usize)
     requires { (a + count ≤ length from.now) × (b + count ≤ length to.old) }
     ensures { Written to.old to.new b (word_from from.now a) count }

@@ -15,7 +15,7 @@ unfolding filled
 fill_none [] = refl
 fill_none (x ∷ xs) = refl
 
--- all values, where the list has room for them, and else as many as it reaches
+-- all values, where they fit, and else as many as the list has places for
 pub fill_all : {A : Type 0} (vs old : List A) → length vs ≤ length old → vs ++ drop (length vs) old ≡ filled vs old
 unfolding filled
 fill_all vs old l = rw (take_all (length old) vs l) refl

@@ -7,7 +7,7 @@ ghost use Rattle.passing.specs.Passed.{Passed, filled};
 
 use parity::Numbered;
 
-// Puts values at the front, as far as the slice reaches. Where there is room for all, their number is known to the compiler, which writes them here.
+// Puts values at the front, as far as the slice reaches. Where all of them fit, the number copied is the length of `front`, which the compiler knows at each call: it needs no `memcpy`.
 pub fn put_front<T: Copy>(values: &mut [T], front: &[T])
     ensures { values.new ≡ filled front.now values.old }
 {
